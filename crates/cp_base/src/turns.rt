@@ -1,0 +1,32 @@
+// Whether two lists are one cyclic list.
+ghost use Rattle.std.specs.Prelude.{◌≡◌, ◌<◌, ◌↔◌, IsTrue, length};
+ghost use Rattle.cp_base.specs.Turns.{IsTurn, IsTurnBy};
+
+// Whether `ys` is `xs` with its first `i` items moved to the end.
+fn is_turn_by(xs: &[usize], ys: &[usize], i: usize) -> bool
+    requires place { i < length xs.now }
+    requires length { length xs.now ≡ length ys.now }
+    ensures { IsTrue result ↔ IsTurnBy xs.now ys.now i }
+{
+    let (front, back) = xs.split_at(i);
+    let (first, second) = ys.split_at(back.len());
+    first == back && second == front
+}
+
+/// Whether `ys` is a turn of `xs`.
+pub(crate) fn is_turn(xs: &[usize], ys: &[usize]) -> bool
+    ensures { IsTrue result ↔ IsTurn xs.now ys.now }
+{
+    if xs.len() != ys.len() {
+        return false;
+    }
+    if xs.is_empty() {
+        return true;
+    }
+    for i in 0..xs.len() {
+        if is_turn_by(xs, ys, i) {
+            return true;
+        }
+    }
+    false
+}
