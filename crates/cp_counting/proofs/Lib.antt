@@ -1,0 +1,15 @@
+pub mod Counting
+pub mod ExactLists
+pub mod ClassLabels
+pub mod OrbitLaws
+pub mod Exchanges
+pub mod DistinctLists
+pub mod CyclicLists
+pub mod Faces
+pub mod Merges
+pub mod Renaming
+pub mod Parts
+pub mod ListRotations
+pub mod Rewrites
+pub mod Insertions
+pub mod Rows
