@@ -1,0 +1,9 @@
+pub mod Bytes
+pub mod Lists
+pub mod Machine
+pub mod Moves
+pub mod Numbers
+pub mod Rows
+pub mod Scans
+pub mod Tokens
+pub mod Trees
