@@ -1,0 +1,16 @@
+pub mod DartChains
+pub mod Searching
+pub mod Classes
+pub mod Neighbours
+pub mod CutVertices
+pub mod Paths
+pub mod OneBlock
+pub mod Grouping
+pub mod BlocksAt
+pub mod BlockSteps
+pub mod BlockClasses
+pub mod BlockNumbers
+pub mod Forests
+pub mod TreeLinks
+pub mod Deepening
+pub mod LowPoints

@@ -1,0 +1,16 @@
+use Rattle.std.proofs.Common.{arith}
+use Rattle.cp_conn.proofs.Deepening.{rest_begins, forest_made}
+use Rattle.cp_conn.proofs.search_forest.search_forest.Goals as goal
+
+pub loop-vertex-init : goal.loop-vertex-init
+loop-vertex-init c = record {
+  size = c.in_ok-darts.ensures.entry_each;
+  rests = rest_begins c.args.ends.now c.args.vertices c.in_ok-vec.field-0.items c.in_ok-vec-2.field-0.items c.in_ok-vec-3.field-0.items c.new.result.items c.in_ok-darts.darts.entries.items c.in_ok-darts.darts.lower.items
+      c.requires c.in_ok-darts.ensures (c.in_ok-vec.ensures.items_if_clones_equal (λ y e. e)) (c.in_ok-vec-2.ensures.items_if_clones_equal (λ y e. e)) (c.in_ok-vec-3.ensures.items_if_clones_equal (λ y e. e)) c.new.ensures.items;
+  lower_met = λ x lt. absurd (omega arith);
+}
+
+pub returns-clause-forest : goal.returns-clause-forest
+returns-clause-forest c =
+    forest_made c.args.ends.now c.args.vertices c.loop-vertex.forest.number.items c.loop-vertex.forest.parent.items c.loop-vertex.forest.edge.items c.loop-vertex.forest.order.items c.loop-vertex.next.items
+    c.requires c.loop-vertex.invariant.rests (λ v lt. c.loop-vertex.invariant.lower_met v (omega arith))

@@ -1,0 +1,11 @@
+pub mod Numbering
+pub mod CutVertex
+pub mod Darts
+pub mod Search
+pub mod Blocks
+pub mod Grouping
+pub mod Links
+pub mod SearchForest
+pub mod LowPoints
+pub mod TreeLinks
+pub mod Deepening
