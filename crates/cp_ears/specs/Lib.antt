@@ -1,0 +1,2 @@
+pub mod Bipolar
+pub mod Ears
