@@ -1,0 +1,11 @@
+pub mod Systems
+pub mod Genus
+pub mod Rows
+pub mod FirstWrong
+pub mod Faults
+pub mod Tables
+pub mod Search
+pub mod Lists
+pub mod Rewrites
+pub mod RewriteTables
+pub mod Laws
