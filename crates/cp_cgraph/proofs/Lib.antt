@@ -1,0 +1,14 @@
+pub mod Ancestors
+pub mod Crossing
+pub mod Counted
+pub mod Reading
+pub mod Places
+pub mod Walk
+pub mod Firsts
+pub mod NameSteps
+pub mod RootParts
+pub mod ReadParts
+pub mod Tables
+pub mod Gathered
+pub mod Whole
+pub mod FaultLaw

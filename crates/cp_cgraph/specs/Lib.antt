@@ -1,0 +1,9 @@
+pub mod Clustered
+pub mod Crossings
+pub mod Rows
+pub mod Entries
+pub mod Nested
+pub mod GraphFaults
+pub mod GraphOf
+pub mod Passes
+pub mod Parts

@@ -1,0 +1,25 @@
+//! Clustered graphs and their layouts.
+#![tactic(auto)]
+
+mod clusters;
+mod edges;
+mod entries;
+mod fault;
+mod graph;
+mod ids;
+mod law;
+mod layout;
+mod names;
+mod nodes;
+mod reader;
+mod roots;
+mod spelled;
+#[cfg(test)]
+mod tests;
+mod walks;
+
+pub use fault::GraphFault;
+pub use graph::CGraph;
+pub use law::one_graph;
+pub use layout::{CycLists, Layout};
+pub use reader::build;
