@@ -1,0 +1,15 @@
+use Rattle.std.proofs.Common.{◌≡◌, ◌<◌, ◌^◌, slice_index, sym, subst, arith}
+use Rattle.cp_rot.specs.Systems.{darts, next}
+use Rattle.cp_border.specs.Borders.{borders}
+use Rattle.cp_border.specs.Views.{Drawn}
+use Rattle.cp_border.proofs.view.ViewRotationSystem.next.Goals as goal
+
+pub offset_bounds-self-inside-d : goal.offset_bounds-self-inside-d
+offset_bounds-self-inside-d c =
+    let few : darts (borders c.args.self.now.graph c.args.self.now.layout) < 2 ^ 60 = subst (λ (t : Drawn). darts (borders t.graph t.layout) < 2 ^ 60) c.self.view_is c.self.invariant.few_darts in
+    omega (arith, few, c.requires)
+
+pub returns : goal.returns
+returns c =
+    let within = subst (λ (t : Drawn). c.args.d < darts (borders t.graph t.layout)) (sym c.self.view_is) c.requires in
+    subst (λ (t : Drawn). slice_index c.self.inside.next.now c.args.d ≡ next (borders t.graph t.layout) c.args.d) c.self.view_is (c.self.invariant.next_told.told c.args.d within)
