@@ -1,0 +1,5 @@
+use Rattle.cp_report.proofs.LawLemmas.{same_reading, no_fault_in_report, one_fault}
+use Rattle.cp_report.proofs.laws.one_reading.Goals as goal
+
+pub returns : goal.returns
+returns c = record { reports = same_reading; apart = no_fault_in_report; faults = one_fault }

@@ -1,0 +1,5 @@
+use Rattle.cp_report.proofs.ReportLemmas.{heading_fault}
+use Rattle.cp_report.proofs.read.read_report.Goals as goal
+
+pub returns-in_default-clause-fault : goal.returns-in_default-clause-fault
+returns-in_default-clause-fault c = heading_fault c.args.bytes.now c.in_default.ensures
