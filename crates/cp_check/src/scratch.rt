@@ -1,0 +1,145 @@
+// The room in which layouts of a graph are checked.
+ghost use Rattle.std.specs.Prelude.{◌≡◌, ◌+◌, ◌*◌, ◌^◌, ◌<◌, ◌↔◌, IsTrue, IfOk, IfSome};
+ghost use Rattle.cp_cgraph.specs.Clustered.{nodes, edges};
+ghost use Rattle.cp_check.specs.Sizes.{AreSmall, Fits, border_vertices};
+
+use cp_base::Memory;
+use cp_cgraph::CGraph;
+use std::alloc::Global;
+use std::marker::Model;
+
+// No memory holds the room for as many vertices or edges of a border graph, and below it no sum of
+// sizes overflows.
+const MOST: usize = 1 << 59;
+
+// The number of border vertices, unless the border graph is too great.
+fn border_count(g: &CGraph) -> Option<usize>
+    ensures { IfSome result (λ n. (n ≡ border_vertices g.now) × (nodes g.now + n < 2 ^ 59) × (edges g.now + 2 * n < 2 ^ 59)) }
+{
+    let mut count = 0;
+    for e in 0..g.edges() {
+        let crossed = g.crossed(e);
+        if crossed >= MOST - count {
+            return None;
+        }
+        count += crossed;
+    }
+    if g.nodes() + count < MOST && g.edges() + 2 * count < MOST {
+        Some(count)
+    } else {
+        None
+    }
+}
+
+// Whether the edges have exactly so many border vertices. No sum is formed.
+fn has_borders(g: &CGraph, count: usize) -> bool
+    ensures { IsTrue result ↔ (count ≡ border_vertices g.now) }
+{
+    let mut left = count;
+    for e in 0..g.edges() {
+        let crossed = g.crossed(e);
+        if crossed > left {
+            return false;
+        }
+        left -= crossed;
+    }
+    left == 0
+}
+
+/// All the memory that the check of a layout needs: the tables of the border graph, and counts and
+/// marks. It serves each graph with the same numbers of nodes, edges, clusters and border vertices,
+/// for any number of checks.
+#[derive(Drop)]
+pub struct Scratch {
+    pub(crate) nodes: usize,
+    pub(crate) edges: usize,
+    pub(crate) clusters: usize,
+    pub(crate) borders: usize,
+    pub(crate) first: Vec<usize>,
+    pub(crate) at: Vec<usize>,
+    pub(crate) next: Vec<usize>,
+    pub(crate) begins: Vec<usize>,
+    pub(crate) node_counts: Vec<usize>,
+    pub(crate) cluster_counts: Vec<usize>,
+    pub(crate) dart_marks: Vec<bool>,
+    pub(crate) marks: Vec<bool>,
+    pub(crate) stack: Vec<usize>,
+}
+
+impl Model for Scratch {
+    ghost use Rattle.std.specs.Prelude.{vec_len};
+    ghost use Rattle.cp_check.specs.Sizes.{Sizes, HasRoom};
+
+    ghost Value = { Sizes };
+
+    ghost view = { λ t. record { nodes = t.nodes; edges = t.edges; clusters = t.clusters; borders = t.borders } };
+
+    ghost invariant = { λ t. HasRoom record { nodes = t.nodes; edges = t.edges; clusters = t.clusters; borders = t.borders } (vec_len t.first) (vec_len t.at) (vec_len t.next) (vec_len t.begins) (vec_len t.node_counts) (vec_len t.cluster_counts) (vec_len t.dart_marks) (vec_len t.marks) (vec_len t.stack) };
+}
+
+impl Scratch {
+    // The room for these numbers.
+    fn with_sizes(
+        alloc: Global,
+        nodes: usize,
+        edges: usize,
+        clusters: usize,
+        borders: usize,
+    ) -> Result<Scratch, Memory>
+        requires { AreSmall record { nodes = nodes; edges = edges; clusters = clusters; borders = borders } }
+        ensures { IfOk result (λ s. s ≡ record { nodes = nodes; edges = edges; clusters = clusters; borders = borders }) }
+    {
+        let vertices = nodes + borders;
+        let darts = 2 * (edges + 2 * borders);
+        let first = vec![in alloc; 0; edges + 1]?;
+        let at = vec![in alloc; 0; darts]?;
+        let next = vec![in alloc; 0; darts]?;
+        let begins = vec![in alloc; 0; borders]?;
+        let node_counts = vec![in alloc; 0; nodes]?;
+        let cluster_counts = vec![in alloc; 0; clusters]?;
+        let dart_marks = vec![in alloc; false; darts]?;
+        let marks = vec![in alloc; false; vertices]?;
+        let stack = vec![in alloc; 0; vertices]?;
+        Ok(Scratch {
+            nodes,
+            edges,
+            clusters,
+            borders,
+            first,
+            at,
+            next,
+            begins,
+            node_counts,
+            cluster_counts,
+            dart_marks,
+            marks,
+            stack,
+        })
+    }
+
+    /// The memory for checks of layouts of the graph. `Memory` where an allocation fails, or where
+    /// the border graph has more vertices or edges than any memory holds. Linear in the numbers of
+    /// nodes, clusters, edges and border vertices.
+    pub fn for_graph(alloc: Global, g: &CGraph) -> Result<Scratch, Memory>
+        ensures { IfOk result (λ s. Fits s g.now) }
+    {
+        match border_count(g) {
+            None => Err(Memory),
+            Some(borders) => {
+                Scratch::with_sizes(alloc, g.nodes(), g.edges(), g.clusters(), borders)
+            }
+        }
+    }
+
+    /// Whether layouts of the graph can be checked here: it has the same numbers of nodes, edges,
+    /// clusters and border vertices. Linear in the numbers of edges and border vertices, times at
+    /// most the depth of the clusters.
+    pub fn fits(&self, g: &CGraph) -> bool
+        ensures { IsTrue result ↔ Fits self.now g.now }
+    {
+        self.nodes == g.nodes()
+            && self.edges == g.edges()
+            && self.clusters == g.clusters()
+            && has_borders(g, self.borders)
+    }
+}
