@@ -1,0 +1,107 @@
+-- Words and bytes have at most one end and text.
+use Rattle.std.proofs.Common.{◌≡◌, ℕ, List, length, drop, refl, sym, ap, ap₂, subst, ◌∙◌, arith}
+use Rattle.cp_cgraph.specs.Clustered.{Clustered}
+use Rattle.cp_cgraph.specs.GraphFaults as graphs
+use Rattle.cp_cgraph.specs.GraphOf.{graph_of}
+use Rattle.cp_cgraph.proofs.FaultLaw.{no_fault_in_graph, one_graph_fault}
+use Rattle.cp_gml.specs.Trees.{tree}
+use Rattle.cp_gml.specs.Lists as lists
+use Rattle.cp_gml.specs.declared.tree.Entry.{Entry}
+use Rattle.cp_gml.proofs.Same.{same_entries}
+use Rattle.cp_gml.proofs.Unique.{one_list, list_or_fault, one_fault}
+use Rattle.cp_report.specs.declared.report.Report.{Report}
+use Rattle.cp_report.specs.Texts.{report_text, BeginsWith}
+use Rattle.cp_report.proofs.LawLemmas as laws
+use Rattle.cp_app.specs.Input.{IsGraphText, IsGraphFault}
+use Rattle.cp_check.specs.Judging.{IsReason, IsGoodReport}
+use Rattle.cp_check.proofs.Verdicts.{good_no_reason, one_reason}
+use Rattle.cp_app.specs.Answer.{Answer, Checked, Judged}
+use Rattle.cp_app.specs.Answer.Answer.{usage, too_long, checked}
+use Rattle.cp_app.specs.Answer.Checked.{bad_report, read}
+use Rattle.cp_app.specs.Answer.Judged.{grammar, graph, accepted, rejected}
+use Rattle.cp_app.specs.Texts.{bad_report_line, grammar_name, graph_name, refused_line, rejected_line}
+use Rattle.cp_check.specs.declared.verdict.Reject.{Reject}
+use Rattle.cp_app.specs.declared.end.End.{End}
+use Rattle.cp_app.specs.declared.end.End.TheVariants as ends
+
+-- a text is one list of entries
+one_entries : (text : List ℕ) (es fs : List Entry) → lists.IsListOf text (tree es) → lists.IsListOf text (tree fs) → es ≡ fs
+one_entries text es fs a b = same_entries es fs (one_list text (tree es) (tree fs) a b)
+
+-- and says one graph
+one_graph_text : (text : List ℕ) (g h : Clustered) → IsGraphText text g → IsGraphText text h → g ≡ h
+one_graph_text text g h a b = a.graph.says ∙ ap graph_of (one_entries text a.entries b.entries a.list b.list) ∙ sym b.graph.says
+
+-- a text that says a graph has no fault
+graph_no_fault : (text : List ℕ) (g : Clustered) (kind at : ℕ) → IsGraphText text g → IsGraphFault text kind at → ⊥
+graph_no_fault text g kind at a b =
+    let same = one_entries text b.entries a.entries b.list a.list in
+    no_fault_in_graph (length text) a.entries g kind at a.graph (subst (λ es. graphs.IsFaultOf (length text) es kind at) same b.fault)
+
+-- the first fault as a graph is one
+one_text_fault : (text : List ℕ) (k a l b : ℕ) → IsGraphFault text k a → IsGraphFault text l b → (k ≡ l) × (a ≡ b)
+one_text_fault text k a l b x y =
+    let same = one_entries text x.entries y.entries x.list y.list in
+    one_graph_fault (length text) y.entries k a l b (subst (λ es. graphs.IsFaultOf (length text) es k a) same x.fault) y.fault
+
+-- one kind and one offset give one end and one line
+same_refusal : (name : ℕ → List ℕ) (k a l b : ℕ) → (k ≡ l) × (a ≡ b) → (ends.Refused k a ≡ ends.Refused l b) × (refused_line (name k) k a ≡ refused_line (name l) l b)
+same_refusal name k a l b is = (ap₂ (λ x y. ends.Refused x y) is.0 is.1, ap₂ (λ x y. refused_line (name x) x y) is.0 is.1)
+
+-- one reason gives one end and one line
+same_rejection : (r : Report) (text : List ℕ) (g h : Clustered) → IsGraphText text g → IsGraphText text h → (a b : Reject) → IsReason g r a → IsReason h r b → (ends.Rejected a ≡ ends.Rejected b) × (rejected_line a ≡ rejected_line b)
+same_rejection r text g h x y a b is other =
+    let one = one_reason h r a b (subst (λ z. IsReason z r a) (one_graph_text text g h x y) is) other in
+    (ap ends.Rejected one, ap rejected_line one)
+
+-- what is accepted is not rejected
+accepted_not_rejected : (r : Report) (text : List ℕ) (g h : Clustered) → IsGraphText text g → IsGraphText text h → (reason : Reject) → IsGoodReport g r → IsReason h r reason → ⊥
+accepted_not_rejected r text g h x y reason good is = good_no_reason h r reason (subst (λ z. IsGoodReport z r) (one_graph_text text g h x y) good) is
+
+-- a report and a text have one answer
+one_judgement : (r : Report) (text : List ℕ) {e f : End} {s t : List ℕ} → Judged r text e s → Judged r text f t → (e ≡ f) × (s ≡ t)
+one_judgement r text (grammar k1 a1 is1) (grammar k2 a2 is2) = same_refusal grammar_name k1 a1 k2 a2 (one_fault text k1 a1 k2 a2 is1 is2)
+one_judgement r text (grammar k1 a1 is1) (graph k2 a2 is2) = absurd (list_or_fault text (tree is2.entries) k1 a1 is2.list is1)
+one_judgement r text (grammar k1 a1 is1) (accepted g2 is2 good2) = absurd (list_or_fault text (tree is2.entries) k1 a1 is2.list is1)
+one_judgement r text (grammar k1 a1 is1) (rejected g2 is2 reason2 why2) = absurd (list_or_fault text (tree is2.entries) k1 a1 is2.list is1)
+one_judgement r text (graph k1 a1 is1) (grammar k2 a2 is2) = absurd (list_or_fault text (tree is1.entries) k2 a2 is1.list is2)
+one_judgement r text (graph k1 a1 is1) (graph k2 a2 is2) = same_refusal graph_name k1 a1 k2 a2 (one_text_fault text k1 a1 k2 a2 is1 is2)
+one_judgement r text (graph k1 a1 is1) (accepted g2 is2 good2) = absurd (graph_no_fault text g2 k1 a1 is2 is1)
+one_judgement r text (graph k1 a1 is1) (rejected g2 is2 reason2 why2) = absurd (graph_no_fault text g2 k1 a1 is2 is1)
+one_judgement r text (accepted g1 is1 good1) (grammar k2 a2 is2) = absurd (list_or_fault text (tree is1.entries) k2 a2 is1.list is2)
+one_judgement r text (accepted g1 is1 good1) (graph k2 a2 is2) = absurd (graph_no_fault text g1 k2 a2 is1 is2)
+one_judgement r text (accepted g1 is1 good1) (accepted g2 is2 good2) = (refl, refl)
+one_judgement r text (accepted g1 is1 good1) (rejected g2 is2 reason2 why2) = absurd (accepted_not_rejected r text g1 g2 is1 is2 reason2 good1 why2)
+one_judgement r text (rejected g1 is1 reason1 why1) (grammar k2 a2 is2) = absurd (list_or_fault text (tree is1.entries) k2 a2 is1.list is2)
+one_judgement r text (rejected g1 is1 reason1 why1) (graph k2 a2 is2) = absurd (graph_no_fault text g1 k2 a2 is1 is2)
+one_judgement r text (rejected g1 is1 reason1 why1) (accepted g2 is2 good2) = absurd (accepted_not_rejected r text g2 g1 is2 is1 reason1 good2 why1)
+one_judgement r text (rejected g1 is1 reason1 why1) (rejected g2 is2 reason2 why2) = same_rejection r text g1 g2 is1 is2 reason1 reason2 why1 why2
+
+-- bytes begin with one report of one length
+one_report : (bytes : List ℕ) (r s : Report) (n m : ℕ) → BeginsWith bytes r n → BeginsWith bytes s m → (r ≡ s) × (n ≡ m)
+one_report bytes r s n m a b =
+    let same = (laws.same_reading r s (drop n bytes) (drop m bytes) a.within b.within (sym a.front ∙ b.front)).0 in
+    (same, a.whole ∙ ap (λ x. length (report_text x)) same ∙ sym b.whole)
+
+-- and have one answer
+one_check : (bytes : List ℕ) {e f : End} {s t : List ℕ} → Checked bytes e s → Checked bytes f t → (e ≡ f) × (s ≡ t)
+one_check bytes (bad_report k a is) (bad_report l b other) =
+    let same = laws.one_fault bytes k a l b is other in
+    (ap₂ (λ x y. ends.BadReport x y) same.0 same.1, ap₂ (λ x y. bad_report_line x y) same.0 same.1)
+one_check bytes (bad_report k a is) (read r n begins other) = absurd (laws.no_fault_in_report r (drop n bytes) bytes k a begins.within begins.front is)
+one_check bytes (read r n begins is) (bad_report k a other) = absurd (laws.no_fault_in_report r (drop n bytes) bytes k a begins.within begins.front other)
+one_check bytes (read {end = e} {text = line} r n begins is) (read r2 m begins2 other) =
+    let same = one_report bytes r r2 n m begins begins2 in
+    one_judgement r2 (drop m bytes) (subst (λ k. Judged r2 (drop k bytes) e line) same.1 (subst (λ x. Judged x (drop n bytes) e line) same.0 is)) other
+
+-- words and bytes allow one end and one text
+pub one_end : (words : List (List ℕ)) (bytes : List ℕ) {e f : End} {s t : List ℕ} → Answer words bytes e s → Answer words bytes f t → (e ≡ f) × (s ≡ t)
+one_end words bytes (usage n1) (usage n2) = (refl, refl)
+one_end words bytes (usage n1) (too_long w2 m2) = absurd (n1 w2)
+one_end words bytes (usage n1) (checked w2 k2 is2) = absurd (n1 w2)
+one_end words bytes (too_long w1 m1) (usage n2) = absurd (n2 w1)
+one_end words bytes (too_long w1 m1) (too_long w2 m2) = (refl, refl)
+one_end words bytes (too_long w1 m1) (checked w2 k2 is2) = absurd (omega (arith, m1, k2))
+one_end words bytes (checked w1 k1 is1) (usage n2) = absurd (n2 w1)
+one_end words bytes (checked w1 k1 is1) (too_long w2 m2) = absurd (omega (arith, m2, k1))
+one_end words bytes (checked w1 k1 is1) (checked w2 k2 is2) = one_check bytes is1 is2

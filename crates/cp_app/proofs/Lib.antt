@@ -1,0 +1,4 @@
+pub mod AnswerLemmas
+pub mod JudgeLemmas
+pub mod WordLemmas
+pub mod WrittenLemmas

@@ -1,0 +1,39 @@
+-- What a run may end with, and the text that it then writes.
+use Rattle.std.specs.Prelude.{◌≡◌, ℕ, ◌<◌, ◌≤◌, List, [], ◌∷◌, length, drop, codes}
+use Rattle.cp_cgraph.specs.Clustered.{Clustered}
+use Rattle.cp_gml.specs.Lists as lists
+use Rattle.cp_report.specs.declared.report.Report.{Report}
+use Rattle.cp_report.specs.Texts.{BeginsWith}
+use Rattle.cp_report.specs.Faults as reports
+use Rattle.cp_app.specs.Input.{IsGraphText, IsGraphFault}
+use Rattle.cp_check.specs.Judging.{IsReason, IsGoodReport}
+use Rattle.cp_app.specs.Texts.{usage_line, too_long_line, bad_report_line, grammar_name, graph_name, refused_line, accepted_line, rejected_line}
+use Rattle.cp_check.specs.declared.verdict.Reject.{Reject}
+use Rattle.cp_app.specs.declared.end.End.{End}
+use Rattle.cp_app.specs.declared.end.End.TheVariants as ends
+
+-- the most bytes that an input may have: 64 MiB
+abbrev pub most_bytes : ℕ
+most_bytes = 67108864
+
+-- the words are the one command `check`
+abbrev pub IsCheck : List (List ℕ) → Type 0
+IsCheck words = words ≡ codes "check" ∷ []
+
+-- what `check` answers to a report and the text behind it, by the first row that applies
+pub data Judged (r : Report) (text : List ℕ) : End → List ℕ → Type 0 where
+  grammar : (kind at : ℕ) → lists.IsFaultOf text kind at → Judged r text (ends.Refused kind at) (refused_line (grammar_name kind) kind at)
+  graph : (kind at : ℕ) → IsGraphFault text kind at → Judged r text (ends.Refused kind at) (refused_line (graph_name kind) kind at)
+  accepted : (g : Clustered) → IsGraphText text g → IsGoodReport g r → Judged r text ends.Accepted accepted_line
+  rejected : (g : Clustered) → IsGraphText text g → (reason : Reject) → IsReason g r reason → Judged r text (ends.Rejected reason) (rejected_line reason)
+
+-- what `check` answers to bytes: they begin with a report, or they have a fault as one
+pub data Checked (bytes : List ℕ) : End → List ℕ → Type 0 where
+  bad_report : (kind number : ℕ) → reports.IsFaultOf bytes kind number → Checked bytes (ends.BadReport kind number) (bad_report_line kind number)
+  read : {end : End} {text : List ℕ} → (r : Report) (n : ℕ) → BeginsWith bytes r n → Judged r (drop n bytes) end text → Checked bytes end text
+
+-- for these words and bytes the run may end so and write this text
+pub data Answer (words : List (List ℕ)) (bytes : List ℕ) : End → List ℕ → Type 0 where
+  usage : ¬ IsCheck words → Answer words bytes ends.Usage usage_line
+  too_long : IsCheck words → most_bytes < length bytes → Answer words bytes ends.TooLong too_long_line
+  checked : {end : End} {text : List ℕ} → IsCheck words → length bytes ≤ most_bytes → Checked bytes end text → Answer words bytes end text

@@ -1,0 +1,17 @@
+//! The one call that the program makes: words of the command line in, bytes in, an end and a text out.
+#![tactic(auto)]
+
+mod decide;
+mod end;
+mod graph;
+mod judge;
+mod laws;
+mod running;
+mod texts;
+
+pub use end::End;
+pub use laws::one_answer;
+pub use running::run;
+
+#[cfg(test)]
+mod tests;
