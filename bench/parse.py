@@ -1,0 +1,111 @@
+#!/usr/bin/env python3
+"""Measures reading: `cplan check` on a report that says no, followed by a GML text, which is parsed and
+made a clustered graph before the report is rejected. Prints seconds and peak memory for each shape and
+size, beside those of networkx on the same text where it can read it, and of `sha256sum`, in one run.
+Nothing here is part of the gate.
+
+Usage: bench/parse.py [PROGRAM] [LARGEST_NUMBER_OF_MEBIBYTES]
+
+PROGRAM is the built `cplan`; without it the script builds it.
+"""
+import os
+import sys
+import tempfile
+import time
+
+from check import apart, measure, program_path
+
+REPORT = "cplan-report 1\nno\nend\n"
+
+
+def flat(size):
+    """Nodes and edges in a row."""
+    nodes = max(2, size // 64)
+    yield "graph [\n"
+    for i in range(nodes):
+        yield "node [ id %d ]\n" % i
+    for i in range(nodes):
+        yield "edge [ source %d target %d ]\n" % (i, (i * 7 + 1) % nodes)
+    yield "]\n"
+
+
+def strings(size):
+    """Nodes with labels, positions and comments."""
+    yield "graph [\n"
+    for i in range(max(1, size // 140)):
+        yield '# node\nnode [ id %d label "the label of node %d" graphics [ x %d.5 y -3.0E+1 fill "#FFFFFF" ] ]\n' % (i, i, i)
+    yield "]\n"
+
+
+def deep(size):
+    """Lists nested 500 deep, one behind the other."""
+    yield "graph [ ]\n"
+    for _ in range(max(1, size // 4500)):
+        yield "list [ " * 500 + "] " * 500 + "\n"
+
+
+def clusters(size):
+    """Clusters of ten nodes, nested in chains of 100."""
+    nodes = max(10, size // 40)
+    yield "graph [\n"
+    for i in range(nodes):
+        yield "node [ id %d ]\n" % i
+    yield "]\nrootcluster [\n"
+    depth = 0
+    for i in range(0, nodes, 10):
+        yield "cluster [ " + "".join("vertex %d " % x for x in range(i, min(i + 10, nodes))) + "\n"
+        depth += 1
+        if depth == 100:
+            yield "]" * depth + "\n"
+            depth = 0
+    yield "]" * depth + "]\n"
+
+
+def write(path, parts):
+    with open(path, "w", encoding="ascii") as out:
+        out.write(REPORT)
+        for part in parts:
+            out.write(part)
+    return b"done"
+
+
+def networkx_seconds(path):
+    """Seconds of networkx on the GML text alone, or a dash where it cannot read it."""
+    try:
+        import networkx
+    except ImportError:
+        return b"-"
+    with open(path, encoding="ascii") as source:
+        text = source.read()[len(REPORT):]
+    start = time.perf_counter()
+    try:
+        networkx.parse_gml(text, label="id")
+    except Exception:
+        return b"-"
+    return b"%.2f" % (time.perf_counter() - start)
+
+
+def main():
+    program = program_path(sys.argv[1:])
+    numbers = [int(word) for word in sys.argv[1:] if word.isdigit()]
+    largest = numbers[0] if numbers else 64
+    print("| shape | MB | check s | check MB | MB per MB | networkx s | sha256sum s | ratio |")
+    print("| --- | --- | --- | --- | --- | --- | --- | --- |")
+    with tempfile.TemporaryDirectory() as folder:
+        path = os.path.join(folder, "input")
+        for shape in (flat, strings, deep, clusters):
+            size = 2**20
+            while size <= largest * 2**20:
+                apart(lambda: write(path, shape(int(size * 0.97))))
+                length = os.path.getsize(path) / 2**20
+                seconds, memory, status, text = measure([program, "check"], path)
+                if status != 1 or text != b"rejected no layout\n":
+                    sys.exit("%s of %.1f MB: status %d, %r" % (shape.__name__, length, status, text))
+                base, _, _, _ = measure(["sha256sum"], path)
+                shown = apart(lambda: networkx_seconds(path)).decode() if length < 9 else "-"
+                print("| %s | %.1f | %.3f | %.0f | %.1f | %s | %.3f | %.1f |" % (shape.__name__, length, seconds, memory, memory / length, shown, base, seconds / base))
+                size *= 8
+
+
+if __name__ == "__main__":
+    main()
