@@ -16,3 +16,10 @@ pub mod Inserted
 pub mod ExpandedVertices
 pub mod InsertCode
 pub mod LawCounts
+pub mod FilteredLists
+pub mod RestrictedSystems
+pub mod SplitVertices
+pub mod BareVertices
+pub mod SplitParts
+pub mod RestrictionLaws
+pub mod SplitRuns

@@ -8,9 +8,9 @@ use Rattle.cp_counting.proofs.Counting.{count-le}
 use Rattle.cp_counting.proofs.ExactLists.{place_of}
 use Rattle.cp_counting.proofs.ClassLabels.{Connected-sym, Connected-trans}
 use Rattle.cp_rot.specs.Systems.{System, darts, twin, vertex_of, list_of, IsRotation}
-use Rattle.cp_rot.specs.Genus.{end_pairs}
+use Rattle.cp_rot.specs.Genus.{end_pairs, Joined}
 use Rattle.cp_rot.specs.Tables.{IsMarked, IsUnmarked}
-use Rattle.cp_rot.specs.Search.{Joined, neighbour_at, unmarked, IsClosed, IsStacked, IsPushed, Searching}
+use Rattle.cp_rot.specs.Search.{neighbour_at, unmarked, IsClosed, IsStacked, IsPushed, Searching}
 use Rattle.cp_rot.proofs.Rotations.{twin_even, twin_odd, twin-below, in_list, item_stands}
 use Rattle.cp_rot.proofs.Found.{Relates, FoundUpto, marked_class}
 use Rattle.cp_rot.proofs.Walks.{stays_marked, was_marked, unmarked_below-set}

@@ -1,7 +1,7 @@
 -- Faces, components, and Euler genus zero, which is Euler's formula counted over all components.
 use Rattle.std.specs.Prelude.{◌≡◌, ℕ, ◌+◌, ◌*◌, List, [], ◌∷◌}
 use Rattle.cp_counting.specs.Count.{IsCount}
-use Rattle.cp_counting.specs.Connected.{IsLeastConnected}
+use Rattle.cp_counting.specs.Connected.{Connected, IsLeastConnected}
 use Rattle.cp_counting.specs.Orbits.{Reaches, IsLeastOfOrbit}
 use Rattle.cp_rot.specs.Systems.{System, darts, edges, twin, next, list_of}
 
@@ -30,6 +30,10 @@ abbrev pub end_pairs : List ℕ → List (ℕ × ℕ)
 end_pairs [] = []
 end_pairs (s ∷ []) = []
 end_pairs (s ∷ t ∷ at) = (s, t) ∷ end_pairs at
+
+-- a walk along edges leads from vertex v to vertex w
+abbrev pub Joined : System → ℕ → ℕ → Type 0
+Joined r v w = Connected (end_pairs r.at) v w
 
 -- c is the number of components: the vertices that are the least of their component
 abbrev pub ComponentCount : System → ℕ → Type 0

@@ -1,14 +1,9 @@
 -- What a search for a component has found while it goes on.
 use Rattle.std.specs.Prelude.{◌≡◌, ℕ, ◌+◌, ◌<◌, ◌≤◌, ◌⊎◌, Bool, false, not, List, length, slice_index, slice_index_or}
 use Rattle.cp_counting.specs.Count.{count}
-use Rattle.cp_counting.specs.Connected.{Connected}
 use Rattle.cp_rot.specs.Systems.{System, darts, twin, vertex_of, list_of}
-use Rattle.cp_rot.specs.Genus.{end_pairs}
+use Rattle.cp_rot.specs.Genus.{Joined}
 use Rattle.cp_rot.specs.Tables.{IsMarked}
-
--- a walk along edges leads from vertex v to vertex w
-abbrev pub Joined : System → ℕ → ℕ → Type 0
-Joined r v w = Connected (end_pairs r.at) v w
 
 -- the vertex at the other end of the dart at place i of the list of v
 abbrev pub neighbour_at : System → ℕ → ℕ → ℕ

@@ -3,9 +3,9 @@ ghost use Rattle.std.specs.Prelude.{◌≡◌, ℕ, ◌<◌, ◌≤◌, ◌↔�
 ghost use Rattle.cp_counting.specs.Count.{IsCount, count};
 ghost use Rattle.cp_counting.specs.Connected.{Connected, IsLeastConnected};
 ghost use Rattle.cp_rot.specs.Systems.{System, IsRotation, darts, list_of};
-ghost use Rattle.cp_rot.specs.Genus.{end_pairs};
+ghost use Rattle.cp_rot.specs.Genus.{end_pairs, Joined};
 ghost use Rattle.cp_rot.specs.Tables.{IsMarked, IsUnmarked};
-ghost use Rattle.cp_rot.specs.Search.{Joined, IsPushed, IsClosed, neighbour_at, unmarked};
+ghost use Rattle.cp_rot.specs.Search.{IsPushed, IsClosed, neighbour_at, unmarked};
 
 use crate::faces::clear;
 use crate::system::{RotationSystem, other_dart};

@@ -1,8 +1,7 @@
 // Rotation systems that are stored, with a table of the next dart.
 ghost use Rattle.std.specs.Prelude.{◌≡◌, ◌≢◌, ◌⊎◌, ℕ, ◌+◌, ◌*◌, ◌/◌, ◌^◌, ◌<◌, ◌≤◌, ◌↔◌, IsTrue, IfOk, IfErr, List, length, slice_index};
 ghost use Rattle.cp_rot.specs.Systems.{System, IsRotation, darts, edges, vertex_of, list_of, next};
-ghost use Rattle.cp_rot.specs.Genus.{FaceCount, ComponentCount, HasGenusZero, InOneFace};
-ghost use Rattle.cp_rot.specs.Search.{Joined};
+ghost use Rattle.cp_rot.specs.Genus.{FaceCount, ComponentCount, HasGenusZero, InOneFace, Joined};
 ghost use Rattle.cp_rot.specs.Rewrites.{deleted, contraction, merged, with_edge, expanded};
 ghost use Rattle.cp_rot.specs.Faults.{IsFaultOf};
 ghost use Rattle.cp_rot.specs.Tables.{system_of};

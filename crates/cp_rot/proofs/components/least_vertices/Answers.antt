@@ -1,5 +1,5 @@
 use Rattle.std.proofs.Common.{arith, ◌<◌, ◌+◌}
-use Rattle.cp_rot.specs.Search.{Joined}
+use Rattle.cp_rot.specs.Genus.{Joined}
 use Rattle.cp_rot.proofs.Found.{FoundUpto-none, FoundUpto-new, FoundUpto-old, found_at}
 use Rattle.cp_rot.proofs.Searches.{FoundUpto-closed, Joined-Relates}
 use Rattle.cp_rot.proofs.components.least_vertices.Goals as goal

@@ -1,4 +1,4 @@
-use Rattle.cp_rot.specs.Search.{Joined}
+use Rattle.cp_rot.specs.Genus.{Joined}
 use Rattle.cp_rot.proofs.Found.{FoundUpto}
 use Rattle.cp_rot.proofs.components.least_vertices.Given as goal
 
