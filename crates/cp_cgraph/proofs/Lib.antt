@@ -6,6 +6,7 @@ pub mod Places
 pub mod Walk
 pub mod Firsts
 pub mod NameSteps
+pub mod NodeSteps
 pub mod RootParts
 pub mod ReadParts
 pub mod Tables

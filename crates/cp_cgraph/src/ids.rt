@@ -4,28 +4,30 @@ ghost use Rattle.std.specs.List.{position};
 ghost use Rattle.std.specs.Ordering.{int_eq};
 
 use cp_base::Memory;
+use indexmap::IndexMap;
 use std::alloc::Global;
-use std::collections::BTreeMap;
+use std::hash::{BuildHasherDefault, DefaultHasher};
 use std::marker::Model;
 
-// A row of ids, which contracts see as the list of them, and for each id its first place.
+// A row of ids, which contracts see as the list of them, and a table of the first place of each id, in the
+// order of the first places.
 #[derive(Debug, Drop)]
 pub(crate) struct Ids {
     ids: Vec<i32>,
-    places: BTreeMap<i32, usize>,
+    places: IndexMap<i32, usize, BuildHasherDefault<DefaultHasher>>,
 }
 
 impl Model for Ids {
     ghost use Rattle.std.specs.Prelude.{List, ℤ, ◌≡◌};
     ghost use Rattle.std.specs.List.{position};
-    ghost use Rattle.std.specs.BTreeMap.{get};
-    ghost use Rattle.std.specs.Ordering.{int_cmp, int_eq};
+    ghost use Rattle.indexmap.specs.IndexMap.{get};
+    ghost use Rattle.std.specs.Ordering.{int_eq};
 
     ghost Value = { List ℤ };
 
     ghost view = { λ t. t.ids.items };
 
-    ghost invariant = { λ t. (n : ℤ) → get int_cmp t.places n ≡ position (int_eq n) t.ids.items };
+    ghost invariant = { λ t. (n : ℤ) → get int_eq t.places n ≡ position (int_eq n) t.ids.items };
 }
 
 impl Ids {
@@ -34,7 +36,7 @@ impl Ids {
     {
         Ids {
             ids: Vec::new(alloc),
-            places: BTreeMap::new(alloc),
+            places: IndexMap::with_hasher(alloc, BuildHasherDefault::new()),
         }
     }
 

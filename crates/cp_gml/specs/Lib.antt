@@ -1,4 +1,5 @@
 pub mod Bytes
+pub mod Equal
 pub mod Lists
 pub mod Machine
 pub mod Moves

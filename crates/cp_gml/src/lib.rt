@@ -3,6 +3,7 @@
 #![tactic(auto)]
 
 mod bytes;
+mod equal;
 mod fault;
 mod law;
 mod number;

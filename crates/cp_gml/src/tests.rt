@@ -51,12 +51,13 @@ fn is_value(want: Want, count: usize, value: &GmlValue) -> bool {
     }
 }
 
-// Lists that hold one another so deep, closed again, and an entry behind them.
-fn nested(alloc: Global, levels: usize) -> Result<Vec<u8>, AllocError> {
+// Lists that hold one another so deep, the innermost with these entries, and an entry behind them.
+fn nested(alloc: Global, levels: usize, inner: &[u8]) -> Result<Vec<u8>, AllocError> {
     let mut text = Vec::new(alloc);
     for _ in 0..levels {
         text.extend_from_slice(b"a[")?;
     }
+    text.extend_from_slice(inner)?;
     for _ in 0..levels {
         text.push(b']')?;
     }
@@ -149,13 +150,13 @@ fn texts_have_the_lists_and_faults_of_the_table(rt: HostRuntime) -> Result<(), F
     check(
         &rt,
         alloc,
-        nested(alloc, 512)?.as_slice(),
+        nested(alloc, 512, b"")?.as_slice(),
         Want::List(2, 1, 1535),
     );
     check(
         &rt,
         alloc,
-        nested(alloc, 513)?.as_slice(),
+        nested(alloc, 513, b"")?.as_slice(),
         Want::Fault(8, 1025),
     );
     let list = parse(alloc, b"\xEF\xBB\xBF# c\r\nkey [ inner -7 ]\r\n")?;
@@ -165,5 +166,51 @@ fn texts_have_the_lists_and_faults_of_the_table(rt: HostRuntime) -> Result<(), F
     assert_eq!(rt; (list.end, entry.key_at, entry.value_at), (26, 8, 12));
     assert_eq!(rt; entry.key.bytes(), b"key".as_slice());
     one_answer();
+    Ok(())
+}
+
+// Whether the lists of two texts, or their entries, are equal.
+fn are_equal(alloc: Global, text: &[u8], other: &[u8]) -> Result<(bool, bool), GmlFault> {
+    let list = parse(alloc, text)?;
+    let other = parse(alloc, other)?;
+    Ok((list == other, list.entries.items() == other.entries.items()))
+}
+
+#[test]
+fn lists_are_equal_as_in_the_table(rt: HostRuntime) -> Result<(), Fail> {
+    let alloc = rt.alloc();
+    let rows: [(&[u8], &[u8], bool, bool); 14] = [
+        (b"", b"# c", false, true),
+        (b"a 1", b"a 1", true, true),
+        (b"a 1 # c", b"a 1 # d", true, true),
+        (b"a 1", b"a 2", false, false),
+        (b"a 1", b"b 1", false, false),
+        (b"a  1", b"a 1", false, false),
+        (b" a 1", b"a  1", false, false),
+        (b"a 1", b"a 1 b 2", false, false),
+        (b"a 1", b"a \"\"", false, false),
+        (b"a 1.5", b"a 2.5", true, true),
+        (b"a \"x\"", b"a \"y\"", false, false),
+        (b"a[b 1 c 2]", b"a[b 1 c 2]", true, true),
+        (b"a[b 1 c 2]", b"a[b 1 c 3]", false, false),
+        (b"a[ ]b 1", b"a[] b 1", false, false),
+    ];
+    for (text, other, lists, entries) in rows {
+        assert_eq!(rt;
+            are_equal(alloc, text, other)?,
+            (lists, entries),
+            "{text:?} {other:?}"
+        );
+    }
+    let deep = nested(alloc, 512, b"b 1")?;
+    let changed = nested(alloc, 512, b"b 2")?;
+    assert_eq!(rt;
+        are_equal(alloc, deep.as_slice(), deep.as_slice())?,
+        (true, true)
+    );
+    assert_eq!(rt;
+        are_equal(alloc, deep.as_slice(), changed.as_slice())?,
+        (false, false)
+    );
     Ok(())
 }

@@ -68,7 +68,8 @@ pub struct Entry {
     pub value_at: usize,
 }
 
-/// A row of entries: what stands between two brackets, or the whole text.
+/// A row of entries: what stands between two brackets, or the whole text. Two are equal where they have
+/// the same keys and values at the same offsets, which takes a call inside the other for each level.
 #[cycle(gml)]
 #[derive(Debug, Drop)]
 pub struct GmlList {
