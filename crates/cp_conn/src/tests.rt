@@ -1,5 +1,5 @@
-// What the calls answer on small graphs, worked out by hand.
-ghost use Rattle.std.specs.Prelude.{◌<◌};
+// What the calls answer on small graphs, worked out by hand, and on two long ones.
+ghost use Rattle.std.specs.Prelude.{◌≡◌, ℕ, ◌<◌, ◌⊎◌, length, slice_index_or, IsTrue};
 ghost use Rattle.cp_base.specs.Graphs.{AreWithin};
 ghost use Rattle.cp_conn.specs.Blocks.{HaveNoLoop};
 
@@ -8,19 +8,26 @@ use cp_base::{Graph, Memory};
 use std::alloc::Global;
 use std::test::Fail;
 
-// Whether these are the component numbers of a graph, and these its only cut vertices.
+// The vertices of the long path and of the long cycle.
+const LONG: usize = 100_000;
+
+// Whether these are the component numbers of a graph, these its only cut vertices and these the block
+// numbers of its edges.
 fn has_parts(
     alloc: Global,
     vertices: usize,
     ends: &[(usize, usize)],
     numbers: &[usize],
     cuts: &[usize],
+    block_numbers: &[usize],
 ) -> Result<bool, Memory>
-    requires { AreWithin vertices ends.now }
+    requires ends_within { AreWithin vertices ends.now }
+    requires no_loop { HaveNoLoop ends.now }
 {
     let g = Graph::from_ends(alloc, vertices, ends)?;
-    let found = components(alloc, &g)?;
-    let mut right = found.as_slice() == numbers;
+    let by_vertex = components(alloc, &g)?;
+    let by_edge = blocks(alloc, &g)?;
+    let mut right = by_vertex.as_slice() == numbers && by_edge.as_slice() == block_numbers;
     for v in 0..g.vertices() {
         if is_cut_vertex(alloc, &g, v)? != cuts.contains(&v) {
             right = false;
@@ -52,91 +59,80 @@ fn has_blocks_at(
     Ok(right)
 }
 
-// Whether these are the block numbers of the edges.
-fn has_blocks(
-    alloc: Global,
-    vertices: usize,
-    ends: &[(usize, usize)],
-    numbers: &[usize],
-) -> Result<bool, Memory>
-    requires ends_within { AreWithin vertices ends.now }
-    requires no_loop { HaveNoLoop ends.now }
-{
-    let g = Graph::from_ends(alloc, vertices, ends)?;
-    let found = blocks(alloc, &g)?;
-    Ok(found.as_slice() == numbers)
-}
-
 #[test]
 fn parts_of_small_graphs(rt: HostRuntime) -> Result<(), Fail> {
     let alloc = rt.alloc();
-    let triangle = [(0, 1), (1, 2), (2, 0), (2, 3)];
+    let tail = [(0, 1), (1, 2), (2, 0), (2, 3)];
+    let found = has_parts(alloc, 5, &tail, &[0, 0, 0, 0, 1], &[2], &[0, 0, 0, 1]);
     assert_eq!(rt;
-        has_parts(alloc, 5, &triangle, &[0, 0, 0, 0, 1], &[2]),
+        found,
         Ok(true),
-        "a triangle with a tail"
+        "a triangle with a tail, and a vertex alone"
     );
-    assert_eq!(rt; has_parts(alloc, 0, &[], &[], &[]), Ok(true), "no vertex");
-    assert_eq!(rt;
-        has_parts(alloc, 2, &[(0, 1), (1, 0)], &[0, 0], &[]),
-        Ok(true),
-        "parallel edges"
-    );
-    assert_eq!(rt;
-        has_parts(alloc, 3, &[(2, 1), (1, 0)], &[0, 0, 0], &[1]),
-        Ok(true),
-        "a path"
-    );
-    assert_eq!(rt;
-        has_blocks_at(alloc, 5, &triangle, 2, &[&[1, 2], &[3]]),
-        Ok(true),
-        "a triangle with a tail"
-    );
-    assert_eq!(rt;
-        has_blocks_at(alloc, 5, &triangle, 4, &[]),
-        Ok(true),
-        "a vertex without edges"
-    );
-    assert_eq!(rt;
-        has_blocks_at(alloc, 2, &[(0, 1), (1, 0)], 1, &[&[0, 1]]),
-        Ok(true),
-        "parallel edges"
-    );
-    assert_eq!(rt;
-        has_blocks(alloc, 5, &triangle, &[0, 0, 0, 1]),
-        Ok(true),
-        "a triangle with a tail"
-    );
-    assert_eq!(rt; has_blocks(alloc, 0, &[], &[]), Ok(true), "no edge");
-    assert_eq!(rt;
-        has_blocks(alloc, 2, &[(0, 1), (1, 0)], &[0, 0]),
-        Ok(true),
-        "parallel edges"
-    );
-    assert_eq!(rt;
-        has_blocks(alloc, 3, &[(2, 1), (1, 0)], &[0, 1]),
-        Ok(true),
-        "a path"
-    );
-    assert_eq!(rt;
-        has_blocks(
-            alloc,
-            5,
-            &[(4, 3), (0, 2), (2, 4), (1, 0), (3, 2), (1, 2)],
-            &[0, 1, 0, 1, 0, 1]
-        ),
-        Ok(true),
-        "two triangles at one vertex"
-    );
-    assert_eq!(rt;
-        has_blocks(
-            alloc,
-            4,
-            &[(0, 1), (2, 3), (1, 2), (3, 0), (3, 1)],
-            &[0, 0, 0, 0, 0]
-        ),
-        Ok(true),
-        "a square with a diagonal"
-    );
+    let found = has_parts(alloc, 0, &[], &[], &[], &[]);
+    assert_eq!(rt; found, Ok(true), "no vertex");
+    let parallel = [(0, 1), (1, 0)];
+    let found = has_parts(alloc, 2, &parallel, &[0, 0], &[], &[0, 0]);
+    assert_eq!(rt; found, Ok(true), "parallel edges");
+    let path = [(2, 1), (1, 0)];
+    let found = has_parts(alloc, 3, &path, &[0, 0, 0], &[1], &[0, 1]);
+    assert_eq!(rt; found, Ok(true), "a path");
+    let two = [(4, 3), (0, 2), (2, 4), (1, 0), (3, 2), (1, 2)];
+    let found = has_parts(alloc, 5, &two, &[0, 0, 0, 0, 0], &[2], &[0, 1, 0, 1, 0, 1]);
+    assert_eq!(rt; found, Ok(true), "two triangles at one vertex");
+    let square = [(0, 1), (2, 3), (1, 2), (3, 0), (3, 1)];
+    let found = has_parts(alloc, 4, &square, &[0, 0, 0, 0], &[], &[0, 0, 0, 0, 0]);
+    assert_eq!(rt; found, Ok(true), "a square with a diagonal");
+    let found = has_blocks_at(alloc, 5, &tail, 2, &[&[1, 2], &[3]]);
+    assert_eq!(rt; found, Ok(true), "a triangle and a bridge");
+    let found = has_blocks_at(alloc, 5, &tail, 4, &[]);
+    assert_eq!(rt; found, Ok(true), "a vertex without edges");
+    let found = has_blocks_at(alloc, 2, &parallel, 1, &[&[0, 1]]);
+    assert_eq!(rt; found, Ok(true), "two parallel edges");
+    let found = has_blocks_at(alloc, 5, &two, 2, &[&[1, 5], &[2, 4]]);
+    assert_eq!(rt; found, Ok(true), "two triangles");
+    Ok(())
+}
+
+// Whether all ends are vertices.
+fn are_within(vertices: usize, ends: &[(usize, usize)]) -> bool
+    ensures { IsTrue result → AreWithin vertices ends.now }
+{
+    ends.iter()
+        .all(|pair| pair.0 < vertices && pair.1 < vertices)
+}
+
+// Whether no edge is a loop.
+fn have_no_loop(ends: &[(usize, usize)]) -> bool
+    ensures { IsTrue result → HaveNoLoop ends.now }
+{
+    ends.iter().all(|pair| pair.0 != pair.1)
+}
+
+// Whether the graph is connected, and its edges are in one block or each in a block of its own.
+fn is_long(alloc: Global, ends: &[(usize, usize)], in_one_block: bool) -> Result<bool, Memory> {
+    if !are_within(LONG, ends) || !have_no_loop(ends) {
+        return Ok(false);
+    }
+    let g = Graph::from_ends(alloc, LONG, ends)?;
+    let mut right = components(alloc, &g)?.iter().all(|number| *number == 0);
+    for (edge, number) in blocks(alloc, &g)?.iter().enumerate() {
+        if *number != if in_one_block { 0 } else { edge } {
+            right = false;
+        }
+    }
+    Ok(right)
+}
+
+#[test]
+fn long_graphs(rt: HostRuntime) -> Result<(), Fail> {
+    let alloc = rt.alloc();
+    let mut ends = Vec::new(alloc);
+    for v in 1..LONG {
+        ends.push((v - 1, v))?;
+    }
+    assert_eq!(rt; is_long(alloc, ends.as_slice(), false), Ok(true), "a path");
+    ends.push((LONG - 1, 0))?;
+    assert_eq!(rt; is_long(alloc, ends.as_slice(), true), Ok(true), "a cycle");
     Ok(())
 }

@@ -1,0 +1,6 @@
+pub mod Ends
+pub mod Asking
+pub mod Fitting
+pub mod Texts
+pub mod Answer
+pub mod Run

@@ -1,0 +1,26 @@
+-- The lines that a run writes, each ended by one line feed.
+use Rattle.std.specs.Prelude.{ℕ, List, [], ◌∷◌, ◌++◌, codes}
+use Rattle.std.specs.Fmt.{decimal}
+use Rattle.std.specs.List.{flat_map}
+
+abbrev pub line : List ℕ → List ℕ
+line text = text ++ 10 ∷ []
+
+-- each number in decimal
+abbrev pub number_lines : List ℕ → List ℕ
+number_lines numbers = flat_map (λ number. line (decimal number)) numbers
+
+abbrev pub usage_line : List ℕ
+usage_line = line (codes "usage: graph_parts edges|components|blocks|bipolar")
+
+abbrev pub unfit_line : List ℕ
+unfit_line = line (codes "no answer")
+
+abbrev pub read_fault_line : List ℕ
+read_fault_line = line (codes "read fault")
+
+abbrev pub too_long_line : List ℕ
+too_long_line = line (codes "input too long")
+
+abbrev pub refused_line : ℕ → ℕ → List ℕ
+refused_line kind at = line (codes "refused " ++ decimal kind ++ codes " at " ++ decimal at)

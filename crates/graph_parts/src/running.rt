@@ -1,0 +1,60 @@
+// The whole of a run.
+ghost use Rattle.std.specs.Prelude.{◌≡◌, ◌≢◌, ◌<◌, ◌⊎◌, IsTrue, length, map, string_bytes};
+ghost use Rattle.std.specs.Io.KnownBytes.{Appends, IsAtEnd, Keeps};
+ghost use Rattle.cp_io.specs.Causes.{Rose};
+ghost use Rattle.cp_io.specs.Streams.{Took, TookFront};
+ghost use Rattle.graph_parts.specs.Answer.{most_bytes};
+ghost use Rattle.graph_parts.specs.Asking.{Asks};
+ghost use Rattle.graph_parts.specs.Run.{IsAnswer, Wrote, WroteFront};
+ghost use Rattle.graph_parts.specs.Texts.{read_fault_line};
+ghost use Rattle.graph_parts.specs.declared.ask.Asked.{Asked as AnyAsked};
+
+use crate::ask::asked_of;
+use crate::decide::decide;
+use crate::end::End;
+use crate::texts;
+use cp_base::Memory;
+use cp_io::{Failed, ReadEnd, Sink, Source, read_all, write_all};
+use std::alloc::Global;
+
+/// Writes the text whole and finishes the sink, and then the end is `end`.
+fn tell<K: Sink>(sink: &mut K, text: &[u8], end: End) -> End
+    requires { end ≢ End.WriteFault }
+    ensures cases { (result ≡ end) ⊎ (result ≡ End.WriteFault) }
+    ensures whole { result ≢ End.WriteFault → Appends (K.taken sink.old) (K.taken sink.new) text.now }
+    ensures finished { result ≢ End.WriteFault → IsTrue (K.finished sink.new) }
+    ensures fault { result ≡ End.WriteFault → Rose (K.faults sink.old) (K.faults sink.new) × TookFront (K.taken sink.old) (K.taken sink.new) text.now }
+{
+    match write_all(sink, text) {
+        Ok(()) => end,
+        Err(Failed) => End::WriteFault,
+    }
+}
+
+/// Runs the program: `words` are the words of the command line without the program's name. All texts
+/// go to the sink, those of refusals too. Linear in the number of bytes, but for the look-ups of ids
+/// and `bipolar`.
+pub fn run<S: Source, K: Sink>(alloc: Global, words: &[String], source: &mut S, sink: &mut K) -> End
+    ensures answer { IsAnswer result → Wrote (map string_bytes words.now) (S.left source.old) (K.taken sink.old) (K.taken sink.new) result }
+    ensures unread { ((a : AnyAsked) → ¬ Asks (map string_bytes words.now) a) → source.new ≡ source.old }
+    ensures usage { ((a : AnyAsked) → ¬ Asks (map string_bytes words.now) a) → (result ≡ End.Usage) ⊎ (result ≡ End.WriteFault) }
+    ensures too_long { result ≡ End.TooLong → Took (S.left source.old) (S.left source.new) (λ bytes. most_bytes < length bytes) }
+    ensures read_whole { (a : AnyAsked) → Asks (map string_bytes words.now) a → IsAnswer result → result ≢ End.TooLong → IsAtEnd (S.left source.new) }
+    ensures finished { result ≢ End.WriteFault → result ≢ End.Memory → IsTrue (K.finished sink.new) }
+    ensures read_fault { result ≡ End.ReadFault → Rose (S.faults source.old) (S.faults source.new) × Appends (K.taken sink.old) (K.taken sink.new) read_fault_line }
+    ensures write_fault { result ≡ End.WriteFault → Rose (K.faults sink.old) (K.faults sink.new) × WroteFront (map string_bytes words.now) (S.left source.old) (S.faults source.old) (S.faults source.new) (K.taken sink.old) (K.taken sink.new) }
+    ensures memory { result ≡ End.Memory → Keeps (K.taken sink.old) (K.taken sink.new) }
+{
+    let Some(asked) = asked_of(words) else {
+        return tell(sink, texts::USAGE, End::Usage);
+    };
+    match read_all(alloc, source) {
+        Ok(bytes) => match decide(alloc, asked, &bytes) {
+            Ok((end, text)) => tell(sink, &text, end),
+            Err(Memory) => End::Memory,
+        },
+        Err(ReadEnd::Fault) => tell(sink, texts::READ_FAULT, End::ReadFault),
+        Err(ReadEnd::TooLong) => tell(sink, texts::TOO_LONG, End::TooLong),
+        Err(ReadEnd::Memory) => End::Memory,
+    }
+}
