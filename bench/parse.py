@@ -1,19 +1,18 @@
 #!/usr/bin/env python3
 """Measures reading: `cplan check` on a report that says no, followed by a GML text, which is parsed and
-made a clustered graph before the report is rejected. Prints seconds and peak memory for each shape and
-size, beside those of networkx on the same text where it can read it, and of `sha256sum`, in one run.
-Nothing here is part of the gate.
+made a clustered graph before the report is rejected. Prints processor time and peak memory for each shape
+and size, beside those of networkx on the same text where it can read it, and of `sha256sum`, in one run.
+Prints the table of bench/README.md; nothing here is part of the gate.
 
 Usage: bench/parse.py [PROGRAM] [LARGEST_NUMBER_OF_MEBIBYTES]
 
 PROGRAM is the built `cplan`; without it the script builds it.
 """
 import os
-import sys
 import tempfile
 import time
 
-from check import apart, measure, program_path
+from measure import Command, apart, arguments, measured, print_head, print_row, sha256sum
 
 REPORT = "cplan-report 1\nno\nend\n"
 
@@ -77,33 +76,30 @@ def networkx_seconds(path):
         return b"-"
     with open(path, encoding="ascii") as source:
         text = source.read()[len(REPORT):]
-    start = time.perf_counter()
+    start = time.process_time()
     try:
         networkx.parse_gml(text, label="id")
     except Exception:
         return b"-"
-    return b"%.2f" % (time.perf_counter() - start)
+    return b"%.2f" % (time.process_time() - start)
 
 
 def main():
-    program = program_path(sys.argv[1:])
-    numbers = [int(word) for word in sys.argv[1:] if word.isdigit()]
-    largest = numbers[0] if numbers else 64
-    print("| shape | MB | check s | check MB | MB per MB | networkx s | sha256sum s | ratio |")
-    print("| --- | --- | --- | --- | --- | --- | --- | --- |")
+    program, mebibytes = arguments(64)
+    print_head(["shape", "MB", "check s", "peak MB", "MB per MB", "networkx s", "sha256sum s", "ratio"])
     with tempfile.TemporaryDirectory() as folder:
         path = os.path.join(folder, "input")
         for shape in (flat, strings, deep, clusters):
             size = 2**20
-            while size <= largest * 2**20:
+            while size <= mebibytes * 2**20:
                 apart(lambda: write(path, shape(int(size * 0.97))))
                 length = os.path.getsize(path) / 2**20
-                seconds, memory, status, text = measure([program, "check"], path)
-                if status != 1 or text != b"rejected no layout\n":
-                    sys.exit("%s of %.1f MB: status %d, %r" % (shape.__name__, length, status, text))
-                base, _, _, _ = measure(["sha256sum"], path)
+                run, base = measured([Command([program, "check"], path, 1, b"rejected no layout\n"), sha256sum(path)])
                 shown = apart(lambda: networkx_seconds(path)).decode() if length < 9 else "-"
-                print("| %s | %.1f | %.3f | %.0f | %.1f | %s | %.3f | %.1f |" % (shape.__name__, length, seconds, memory, memory / length, shown, base, seconds / base))
+                print_row(
+                    [shape.__name__, "%.1f" % length, "%.3f" % run.seconds, "%.0f" % run.memory]
+                    + ["%.1f" % (run.memory / length), shown, "%.3f" % base.seconds, "%.1f" % (run.seconds / base.seconds)]
+                )
                 size *= 8
 
 

@@ -11,3 +11,5 @@ pub use verdict::{Reject, Verdict};
 
 #[cfg(test)]
 mod tests;
+#[cfg(test)]
+mod tests_by_border_graph;

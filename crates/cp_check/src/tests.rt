@@ -99,7 +99,7 @@ const ORDERS: [(&str, Verdict); 3] = [
 ];
 
 // The graph of a text. Other texts answer as if memory were wanting.
-fn graph_of(alloc: Global, text: &str) -> Result<CGraph, Memory> {
+pub(crate) fn graph_of(alloc: Global, text: &str) -> Result<CGraph, Memory> {
     match parse(alloc, text.as_bytes()) {
         Ok(list) => build(alloc, &list).ok().ok_or(Memory),
         Err(_) => Err(Memory),
