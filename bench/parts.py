@@ -15,7 +15,7 @@ import sys
 import tempfile
 import time
 
-from check import TOP, apart
+from measure import TOP, apart
 
 # the most edges whose answers are compared
 COMPARED = 100_000

@@ -1,0 +1,6 @@
+use Rattle.std.proofs.Common.{◌≢◌, ℕ, ◌<◌}
+use Rattle.cp_rot.specs.Systems.{twin, vertex_of}
+use Rattle.cp_rotlaw.proofs.tests_glue.has_no_loops.Given as goal
+
+abbrev pub invariant-loop-d : goal.invariant-loop-d
+invariant-loop-d l = (f : ℕ) → f < l.d → vertex_of l.rot (twin f) ≢ vertex_of l.rot f

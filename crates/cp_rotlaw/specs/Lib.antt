@@ -1,0 +1,6 @@
+pub mod Systems
+pub mod Dipoles
+pub mod Glue
+pub mod GlueTables
+pub mod Stars
+pub mod StarParts

@@ -1,0 +1,20 @@
+//! Laws of gluing and splitting on rotation systems.
+#![tactic(auto)]
+
+mod dipole;
+mod gluing;
+mod gluing_tables;
+mod star;
+mod star_lists;
+mod star_parts;
+mod systems;
+#[cfg(test)]
+mod tests_glue;
+#[cfg(test)]
+mod tests_star;
+#[cfg(test)]
+mod tests_systems;
+
+pub use dipole::dipole_reversed;
+pub use gluing::glue;
+pub use star::star_split;
