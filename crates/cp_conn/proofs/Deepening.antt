@@ -12,7 +12,7 @@ use Rattle.cp_counting.proofs.Counting.{count_all, count_agree, count_without, w
 use Rattle.cp_conn.specs.Darts.{start, finish, IsEntry, AreChained}
 use Rattle.cp_conn.specs.Search.{is_unmet}
 use Rattle.cp_conn.specs.SearchForest.{Above, itself, child, Hangs, IsPlacedBelow, IsUpright, IsSearchForest}
-use Rattle.cp_conn.specs.Deepening.{LeadDown, IsGrown, AreFollowed, StandsAt, Rests, StayMet}
+use Rattle.cp_conn.specs.Deepening.{LeadDown, IsGrown, AreFollowed, StandsAt, Rests, StayMet, IsFurther}
 use Rattle.cp_conn.proofs.DartChains.{dart_joins, Joins-sym, start_within, finish_within}
 use Rattle.cp_conn.proofs.Searching.{unmet_true, unmet_false}
 use Rattle.cp_conn.proofs.BlockSteps.{twin, twin-lt, start_twin, finish_twin}
@@ -46,7 +46,7 @@ room : (es : List (ℕ × ℕ)) (n : ℕ) (number up edge order : List ℕ) (v :
 room es n number up edge order v g lt new = omega (arith, g.all, count_without n (is_unmet n number) v lt (unmet_true n number v new))
 
 -- one vertex more is met
-grown_more : (es : List (ℕ × ℕ)) (n : ℕ) (number up edge order : List ℕ) (v x e : ℕ) (number' up' edge' order' : List ℕ) → Meets es n number up edge order v x e number' up' edge' order' → IsGrown es n number' up' edge' order'
+pub grown_more : (es : List (ℕ × ℕ)) (n : ℕ) (number up edge order : List ℕ) (v x e : ℕ) (number' up' edge' order' : List ℕ) → Meets es n number up edge order v x e number' up' edge' order' → IsGrown es n number' up' edge' order'
 grown_more es n number up edge order v x e number' up' edge' order' m = record {
   number_each = ap length m.number_is ∙ length-set number v (length order) ∙ g.number_each;
   up_each = ap length m.up_is ∙ length-set up v x ∙ g.up_each;
@@ -131,7 +131,7 @@ grown_more es n number up edge order v x e number' up' edge' order' m = record {
         p
 
 -- a new vertex keeps what is above a vertex that was met
-above_grown : (es : List (ℕ × ℕ)) (n : ℕ) (number up edge order : List ℕ) (v x e : ℕ) (number' up' edge' order' : List ℕ) (a b : ℕ) → Meets es n number up edge order v x e number' up' edge' order' → b < n → get_or number b 0 < n → Above up a b → Above up' a b
+pub above_grown : (es : List (ℕ × ℕ)) (n : ℕ) (number up edge order : List ℕ) (v x e : ℕ) (number' up' edge' order' : List ℕ) (a b : ℕ) → Meets es n number up edge order v x e number' up' edge' order' → b < n → get_or number b 0 < n → Above up a b → Above up' a b
 above_grown es n number up edge order v x e number' up' edge' order' a b m lt met itself = itself
 above_grown es n number up edge order v x e number' up' edge' order' a b m lt met (child w) =
     let differ : b ≡ v → ⊥ = λ q. omega (arith, met, m.new, ap (λ (k : ℕ). get_or number k 0) q) in
@@ -139,18 +139,18 @@ above_grown es n number up edge order v x e number' up' edge' order' a b m lt me
     child (subst (Above up' a) (sym (set_other up up' v x b m.up_is differ)) (above_grown es n number up edge order v x e number' up' edge' order' a (get_or up b 0) m parent.0 parent.1 w))
 
 -- a vertex that was met stays met
-stay_met : (es : List (ℕ × ℕ)) (n : ℕ) (number up edge order : List ℕ) (v x e : ℕ) (number' up' edge' order' : List ℕ) → Meets es n number up edge order v x e number' up' edge' order' → StayMet n number number'
+pub stay_met : (es : List (ℕ × ℕ)) (n : ℕ) (number up edge order : List ℕ) (v x e : ℕ) (number' up' edge' order' : List ℕ) → Meets es n number up edge order v x e number' up' edge' order' → StayMet n number number'
 stay_met es n number up edge order v x e number' up' edge' order' m w ltw met =
     let differ : w ≡ v → ⊥ = λ q. omega (arith, met, m.new, ap (λ (k : ℕ). get_or number k 0) q) in
     omega (arith, met, set_other number number' v (length order) w m.number_is differ)
 
 -- the new vertex is met
-new_met : (es : List (ℕ × ℕ)) (n : ℕ) (number up edge order : List ℕ) (v x e : ℕ) (number' up' edge' order' : List ℕ) → Meets es n number up edge order v x e number' up' edge' order' → get_or number' v 0 < n
+pub new_met : (es : List (ℕ × ℕ)) (n : ℕ) (number up edge order : List ℕ) (v x e : ℕ) (number' up' edge' order' : List ℕ) → Meets es n number up edge order v x e number' up' edge' order' → get_or number' v 0 < n
 new_met es n number up edge order v x e number' up' edge' order' m =
     omega (arith, room es n number up edge order v m.grown m.within m.new, set_at number number' v (length order) v m.number_is (omega (arith, m.within, m.grown.number_each)) refl)
 
 -- what was followed stays so where a vertex more is met
-followed_grown : (es : List (ℕ × ℕ)) (n : ℕ) (number up edge order : List ℕ) (v x e : ℕ) (number' up' edge' order' next : List ℕ) → AreWithin n es → Meets es n number up edge order v x e number' up' edge' order' → AreFollowed es n number up next → AreFollowed es n number' up' next
+pub followed_grown : (es : List (ℕ × ℕ)) (n : ℕ) (number up edge order : List ℕ) (v x e : ℕ) (number' up' edge' order' next : List ℕ) → AreWithin n es → Meets es n number up edge order v x e number' up' edge' order' → AreFollowed es n number up next → AreFollowed es n number' up' next
 followed_grown es n number up edge order v x e number' up' edge' order' next w m f = record {
   next_each = f.next_each;
   entries = f.entries;
@@ -448,3 +448,11 @@ forest_made es n number up edge order next w r all = record {
   placed = λ v lt. r.grown.placed v lt (all v lt);
   upright = λ d lt. let s : start es d < n = start_within n es d w lt in (r.followed.met d lt (omega (arith, r.done (start es d) s (all (start es d) s)))).2;
 }
+
+-- the order goes on with a vertex more
+pub further_push : (order longer : List ℕ) (v : ℕ) → longer ≡ order ++ v ∷ [] → IsFurther order longer
+further_push order longer v is = (omega (arith, ap length is, length_push order v), λ i lt. ap (λ (zs : List ℕ). get_or zs i 0) is ∙ get_or_append_left order (v ∷ []) 0 i lt)
+
+-- an order that goes on twice
+pub further_more : (order longer longest : List ℕ) → IsFurther order longer → IsFurther longer longest → IsFurther order longest
+further_more order longer longest f g = (omega (arith, f.0, g.0), λ i lt. g.1 i (omega (arith, lt, f.0)) ∙ f.1 i lt)

@@ -14,3 +14,4 @@ pub mod Forests
 pub mod TreeLinks
 pub mod Deepening
 pub mod LowPoints
+pub mod SearchTrees

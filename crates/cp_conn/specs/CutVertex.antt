@@ -1,5 +1,5 @@
 -- Cut vertices (Hopcroft, Tarjan 1973).
-use Rattle.std.specs.Prelude.{◌≡◌, ℕ, Bool, not, ◌&&◌, eqb, List, filter, slice_index}
+use Rattle.std.specs.Prelude.{◌≡◌, ◌≢◌, ℕ, ◌<◌, Bool, not, ◌&&◌, eqb, List, filter, slice_index}
 use Rattle.std.specs.List.{Contains}
 use Rattle.cp_counting.specs.Connected.{Joins, Connected}
 
@@ -10,6 +10,10 @@ avoids v e = not (eqb e.0 v) && not (eqb e.1 v)
 -- the pairs that do not touch v: what is left of a graph where v is removed
 abbrev pub without_vertex : ℕ → List (ℕ × ℕ) → List (ℕ × ℕ)
 without_vertex v es = filter (avoids v) es
+
+-- of n vertices, any two stay connected where another one is removed
+abbrev pub AreBiconnected : ℕ → List (ℕ × ℕ) → Type 0
+AreBiconnected n es = (v x y : ℕ) → x < n → y < n → x ≢ v → y ≢ v → Connected (without_vertex v es) x y
 
 -- x is another vertex than v, and some pair joins the two
 pub record IsNeighbour (es : List (ℕ × ℕ)) (v x : ℕ) : Type 0 where

@@ -46,6 +46,10 @@ pub record Rests (es : List (ℕ × ℕ)) (n : ℕ) (number up edge order next :
 abbrev pub StayMet : ℕ → List ℕ → List ℕ → Type 0
 StayMet n before after = (v : ℕ) → v < n → slice_index before v < n → slice_index after v < n
 
+-- the order is as it was, or goes on with further vertices
+abbrev pub IsFurther : List ℕ → List ℕ → Type 0
+IsFurther order longer = (length order ≤ length longer) × ((i : ℕ) → i < length order → slice_index longer i ≡ slice_index order i)
+
 -- fewer darts are left, or as many and the search stands at a lower number
 abbrev pub IsNearer : List ℕ → ℕ → List ℕ → ℕ → Type 0
 IsNearer next number less lower = (sum_by (λ k. k) less < sum_by (λ k. k) next) ⊎ ((less ≡ next) × (lower < number))

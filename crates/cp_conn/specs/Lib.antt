@@ -9,3 +9,4 @@ pub mod SearchForest
 pub mod LowPoints
 pub mod TreeLinks
 pub mod Deepening
+pub mod SearchTree

@@ -1,4 +1,5 @@
-//! The parts of a graph: its components, its cut vertices and its blocks.
+//! The parts of a graph: its components, its cut vertices and its blocks; search trees of biconnected
+//! graphs.
 #![tactic(auto)]
 
 mod block_numbers;
@@ -9,6 +10,7 @@ mod edge_blocks;
 mod edge_links;
 mod low_points;
 mod numbering;
+mod rooted_search;
 mod search;
 mod search_forest;
 
@@ -16,6 +18,7 @@ pub use block_numbers::blocks;
 pub use component_numbers::components;
 pub use cut_vertex::is_cut_vertex;
 pub use edge_blocks::{EdgeParts, edges_by_block};
+pub use rooted_search::{SearchTree, search_tree};
 
 #[cfg(test)]
 mod tests;

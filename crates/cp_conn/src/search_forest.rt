@@ -1,10 +1,10 @@
 // A search through a graph, depth first.
-ghost use Rattle.std.specs.Prelude.{◌≡◌, ◌++◌, ◌∷◌, [], ℕ, ◌+◌, ◌*◌, ◌<◌, ◌≤◌, ◌⊎◌, length, slice_index, slice_set, IfOk, OnOk};
+ghost use Rattle.std.specs.Prelude.{◌≡◌, ◌++◌, ◌∷◌, [], ℕ, ◌+◌, ◌*◌, ◌<◌, ◌≤◌, ◌⊎◌, length, slice_index, slice_set, replicate, IfOk, OnOk};
 ghost use Rattle.std.specs.List.{sum_by};
 ghost use Rattle.cp_base.specs.Graphs.{AreWithin};
 ghost use Rattle.cp_conn.specs.Darts.{AreChained};
 ghost use Rattle.cp_conn.specs.SearchForest.{IsSearchForest};
-ghost use Rattle.cp_conn.specs.Deepening.{LeadDown, IsGrown, StandsAt, Rests, StayMet, IsNearer};
+ghost use Rattle.cp_conn.specs.Deepening.{LeadDown, IsGrown, StandsAt, Rests, StayMet, IsFurther, IsNearer};
 
 use crate::darts::{dart_table, finish_of};
 use cp_base::Memory;
@@ -24,8 +24,28 @@ pub(crate) struct SearchForest {
     pub(crate) order: Vec<usize>,
 }
 
+// A forest of no vertex.
+pub(crate) fn empty_forest(alloc: Global, vertices: usize) -> Result<SearchForest, Memory>
+    ensures number { IfOk result (λ f. f.number.items ≡ replicate vertices vertices) }
+    ensures parent { IfOk result (λ f. f.parent.items ≡ replicate vertices 0) }
+    ensures edge { IfOk result (λ f. f.edge.items ≡ replicate vertices 0) }
+    ensures order { IfOk result (λ f. f.order.items ≡ []) }
+{
+    Ok(SearchForest {
+        number: vec![in alloc; vertices; vertices]?,
+        parent: vec![in alloc; 0; vertices]?,
+        edge: vec![in alloc; 0; vertices]?,
+        order: Vec::new(alloc),
+    })
+}
+
 // Meets a vertex, which hangs by an edge below its parent.
-fn meet(forest: &mut SearchForest, vertex: usize, parent: usize, edge: usize) -> Result<(), Memory>
+pub(crate) fn meet(
+    forest: &mut SearchForest,
+    vertex: usize,
+    parent: usize,
+    edge: usize,
+) -> Result<(), Memory>
     requires number_within { vertex < length forest.old.number.items }
     requires parent_within { vertex < length forest.old.parent.items }
     requires edge_within { vertex < length forest.old.edge.items }
@@ -55,6 +75,7 @@ fn follow_next(
     requires some_left { 0 < slice_index next.old.items vertex }
     ensures stands { IfOk result (λ now. StandsAt ends.now (length next.old.items) forest.new.number.items forest.new.parent.items forest.new.edge.items forest.new.order.items next.new.items now) }
     ensures kept { OnOk result (StayMet (length next.old.items) forest.old.number.items forest.new.number.items) }
+    ensures further { OnOk result (IsFurther forest.old.order.items forest.new.order.items) }
     ensures fewer { OnOk result (sum_by (λ k. k) next.new.items < sum_by (λ k. k) next.old.items) }
 {
     let dart = next[vertex] - 1;
@@ -82,6 +103,7 @@ fn go_on(
     requires more { slice_index forest.old.parent.items vertex ≡ vertex → 0 < slice_index next.old.items vertex }
     ensures stands { IfOk result (λ now. StandsAt ends.now (length next.old.items) forest.new.number.items forest.new.parent.items forest.new.edge.items forest.new.order.items next.new.items now) }
     ensures kept { OnOk result (StayMet (length next.old.items) forest.old.number.items forest.new.number.items) }
+    ensures further { OnOk result (IsFurther forest.old.order.items forest.new.order.items) }
     ensures nearer { IfOk result (λ now. IsNearer next.old.items (slice_index forest.old.number.items vertex) next.new.items (slice_index forest.new.number.items now)) }
 {
     if next[vertex] > 0 {
@@ -89,6 +111,27 @@ fn go_on(
     } else {
         Ok(forest.parent[vertex])
     }
+}
+
+// Goes on with the search until it rests, from the vertex that it stands at.
+pub(crate) fn search_on(
+    ends: &[(usize, usize)],
+    lower: &[usize],
+    mut vertex: usize,
+    next: &mut Vec<usize>,
+    forest: &mut SearchForest,
+) -> Result<(), Memory>
+    requires ends_within { AreWithin (length next.old.items) ends.now }
+    requires lead { LeadDown ends.now lower.now }
+    requires stands { StandsAt ends.now (length next.old.items) forest.old.number.items forest.old.parent.items forest.old.edge.items forest.old.order.items next.old.items vertex }
+    ensures rests { OnOk result (Rests ends.now (length next.old.items) forest.new.number.items forest.new.parent.items forest.new.edge.items forest.new.order.items next.new.items) }
+    ensures kept { OnOk result (StayMet (length next.old.items) forest.old.number.items forest.new.number.items) }
+    ensures further { OnOk result (IsFurther forest.old.order.items forest.new.order.items) }
+{
+    while next[vertex] > 0 || forest.parent[vertex] != vertex {
+        vertex = go_on(ends, lower, vertex, next, forest)?;
+    }
+    Ok(())
 }
 
 // Meets all that a vertex leads to, where it was not met before.
@@ -109,11 +152,7 @@ fn search_from(
     ensures met { OnOk result (slice_index forest.new.number.items root < length next.old.items) }
 {
     meet(forest, root, root, 0)?;
-    let mut vertex = root;
-    while next[vertex] > 0 || forest.parent[vertex] != vertex {
-        vertex = go_on(ends, lower, vertex, next, forest)?;
-    }
-    Ok(())
+    search_on(ends, lower, root, next, forest)
 }
 
 // Meets all that a vertex leads to, where it was not met before. The vertices below it were met.
@@ -152,12 +191,7 @@ pub(crate) fn search_forest(
 {
     let darts = dart_table(alloc, vertices, ends)?;
     let mut next = darts.entries;
-    let mut forest = SearchForest {
-        number: vec![in alloc; vertices; vertices]?,
-        parent: vec![in alloc; 0; vertices]?,
-        edge: vec![in alloc; 0; vertices]?,
-        order: Vec::new(alloc),
-    };
+    let mut forest = empty_forest(alloc, vertices)?;
     for vertex in 0..vertices {
         visit(ends, darts.lower.as_slice(), vertex, &mut next, &mut forest)?;
     }

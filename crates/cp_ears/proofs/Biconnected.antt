@@ -5,13 +5,12 @@ use Rattle.cp_counting.specs.Classes.{labels}
 use Rattle.cp_counting.specs.Connected.{Joins}
 use Rattle.cp_counting.proofs.ClassLabels.{connected_labels}
 use Rattle.cp_conn.specs.Blocks.{HaveNoLoop, AreInOneBlock, Touches}
-use Rattle.cp_conn.specs.CutVertex.{avoids, without_vertex}
+use Rattle.cp_conn.specs.CutVertex.{avoids, without_vertex, AreBiconnected}
 use Rattle.cp_conn.proofs.DartChains.{Contains-at, Joins-sym, labels_joined}
 use Rattle.cp_conn.proofs.CutVertices.{kept_of, avoids_of}
 use Rattle.cp_conn.proofs.OneBlock.{one_block_at}
 use Rattle.cp_conn.proofs.BlockClasses.{carry_block}
 use Rattle.cp_ears.specs.Bipolar.{IsOneBlock, HaveEdges}
-use Rattle.cp_ears.specs.Ears.{IsBiconnected}
 
 -- an end of a pair that joins u and y is one of the two
 end_cases : (e : ℕ × ℕ) (u y z w : ℕ) → Joins e u y → Joins e z w → (z ≡ u) ⊎ (z ≡ y)
@@ -67,7 +66,7 @@ touch_joins : (es : List (ℕ × ℕ)) (x e : ℕ) → Touches es x e → (w : �
 touch_joins es x e t = ⊎_elim (λ h. ((get_or es e (0, 0)).1, inl (h, refl))) (λ h. ((get_or es e (0, 0)).0, inr (refl, h))) t
 
 -- a graph of one block in which each vertex has an edge is biconnected
-pub biconnected_of : (n : ℕ) (es : List (ℕ × ℕ)) → HaveNoLoop es → IsOneBlock es → HaveEdges n es → IsBiconnected n es
+pub biconnected_of : (n : ℕ) (es : List (ℕ × ℕ)) → HaveNoLoop es → IsOneBlock es → HaveEdges n es → AreBiconnected n es
 biconnected_of n es none one has v x y ltx lty nex ney =
     let ex : (e : ℕ) × (e < length es) × Touches es x e = has x ltx in
     let ey : (e : ℕ) × (e < length es) × Touches es y e = has y lty in

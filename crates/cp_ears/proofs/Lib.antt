@@ -1,6 +1,7 @@
 pub mod Biconnected
-pub mod Insertions
-pub mod Searches
-pub mod Tables
-pub mod Orders
 pub mod Numbered
+pub mod Rooms
+pub mod Places
+pub mod BipolarOrders
+pub mod Induced
+pub mod Samples

@@ -1,15 +1,13 @@
 -- Edges with equal block numbers are in one block.
-use Rattle.std.proofs.Common.{◌≡◌, ℕ, suc, ◌<◌, List, [], length, get_or, ap, inl, inr, sym, refl, ◌∙◌, subst, ⊎_elim, arith}
+use Rattle.std.proofs.Common.{◌≡◌, ℕ, suc, ◌<◌, List, length, get_or, inl, sym, refl, ◌∙◌, subst, ⊎_elim, arith}
 use Rattle.std.proofs.lemmas.Bool.{cases_eq, cases_lt}
-use Rattle.std.proofs.lemmas.List.{get_or_default}
 use Rattle.cp_counting.specs.Count.{count, IsCount}
 use Rattle.cp_counting.proofs.Counting.{IsCount-next_yes, IsCount-unique, count_higher}
 use Rattle.cp_conn.specs.Blocks.{HaveNoLoop, AreInOneBlock}
 use Rattle.cp_conn.specs.Numbering.{IsLeast, HasNumber, AreNumbered}
 use Rattle.cp_conn.proofs.BlockClasses.{block-sym, block-trans}
 use Rattle.cp_conn.proofs.DartChains.{Contains-at}
-use Rattle.cp_ears.specs.Bipolar.{IsOneBlock, HaveEdges, AreAdjacent}
-use Rattle.cp_ears.specs.Ears.{AreListsOf}
+use Rattle.cp_ears.specs.Bipolar.{IsOneBlock, AreAdjacent}
 
 -- a number with the property makes the count above it higher
 count_apart : (P : ℕ → Type 0) (l m c : ℕ) → IsCount P l c → IsCount P m c → P l → l < m → ⊥
@@ -37,13 +35,6 @@ pub one_block_numbers : (es : List (ℕ × ℕ)) (numbers : List ℕ) → HaveNo
 one_block_numbers es numbers none are all e f lte ltf =
     let h = same_number (AreInOneBlock es) (length es) numbers e f are lte ltf (all e (omega (arith, are.one_each)) ∙ sym (all f (omega (arith, are.one_each)))) in
     block-trans es e h.0 f none (block-sym es h.0 e h.1) h.2
-
--- where each list has an item each vertex has an edge
-pub edges_listed : (n : ℕ) (es : List (ℕ × ℕ)) (lists : List (List ℕ)) → AreListsOf n (AreAdjacent es) lists → ((x : ℕ) → x < length lists → 0 < length (get_or lists x [])) → HaveEdges n es
-edges_listed n es lists l filled v lt =
-    let a : AreAdjacent es v (get_or (get_or lists v []) 0 0) = l.each v 0 lt (filled v (omega (arith, l.size))) in
-    let at : get_or es a.contained.0 (0, 0) ≡ a.pair = get_or_default es a.contained.0 (0, 0) a.pair a.contained.1 ∙ a.contained.2 in
-    (a.contained.0, a.contained.1, ⊎_elim (λ h. inl (ap (λ (p : ℕ × ℕ). p.0) at ∙ h.0)) (λ h. inr (ap (λ (p : ℕ × ℕ). p.1) at ∙ h.1)) a.joined)
 
 -- the ends of an edge are adjacent
 pub ends_adjacent : (es : List (ℕ × ℕ)) (e : ℕ) → e < length es → AreAdjacent es (get_or es e (0, 0)).0 (get_or es e (0, 0)).1

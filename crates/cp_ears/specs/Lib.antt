@@ -1,2 +1,3 @@
 pub mod Bipolar
-pub mod Ears
+pub mod Placing
+pub mod Induced

@@ -2,11 +2,11 @@
 #![tactic(auto)]
 
 mod bipolar_order;
-mod ear_search;
-mod neighbours;
-mod places;
+mod connected_parts;
+mod placing;
 
 pub use bipolar_order::bipolar;
+pub use connected_parts::prefixes_are_connected;
 
 #[cfg(test)]
 mod tests;

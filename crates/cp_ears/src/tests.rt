@@ -1,11 +1,11 @@
 // Orders of small graphs, worked out by hand.
-ghost use Rattle.std.specs.Prelude.{◌≡◌, ℕ, ◌<◌, length, slice_index, slice_index_or, IsTrue, [], EachIndex};
+ghost use Rattle.std.specs.Prelude.{◌≡◌, ℕ, ◌<◌, ◌≤◌, false, true, length, slice_index, slice_index_or, IsTrue, IfOk, EachIndex};
 ghost use Rattle.cp_base.specs.Graphs.{AreWithin};
 ghost use Rattle.cp_conn.specs.Blocks.{HaveNoLoop};
+ghost use Rattle.cp_ears.specs.Bipolar.{HaveEdges};
 
-use crate::bipolar;
-use crate::neighbours::neighbour_lists;
-use cp_base::{Graph, Items, Memory};
+use crate::{bipolar, prefixes_are_connected};
+use cp_base::{Graph, Memory};
 use cp_conn::blocks;
 use std::alloc::Global;
 use std::test::Fail;
@@ -17,26 +17,35 @@ fn are_zero(numbers: &[usize]) -> bool
     numbers.iter().all(|number| *number == 0)
 }
 
-// Whether each list has an item.
-fn are_filled(lists: &[Items<usize>]) -> bool
-    ensures { IsTrue result → (x : ℕ) → x < length lists.now → 0 < length (slice_index_or lists.now x []) }
+// Whether all are true.
+fn are_true(flags: &[bool]) -> bool
+    ensures { IsTrue result → EachIndex flags.now (λ k. slice_index_or flags.now k false ≡ true) }
 {
-    for list in lists {
-        if list.len() == 0 {
-            return false;
-        }
-    }
-    true
+    flags.iter().all(|flag| *flag)
 }
 
-// Whether the graph is one block with an edge at each vertex, and this is its order between the ends of
-// an edge.
+// Whether each vertex is an end of some edge.
+fn have_edges(alloc: Global, vertices: usize, ends: &[(usize, usize)]) -> Result<bool, Memory>
+    requires { AreWithin vertices ends.now }
+    ensures { IfOk result (λ all. IsTrue all → HaveEdges vertices ends.now) }
+{
+    let mut touched = vec![in alloc; false; vertices]?;
+    for (first, second) in ends {
+        touched[*first] = true;
+        touched[*second] = true;
+    }
+    Ok(are_true(touched.as_slice()))
+}
+
+// Whether the graph is one block with an edge at each vertex, and its order between the ends of an edge
+// is one of these two.
 fn has_order(
     alloc: Global,
     vertices: usize,
     ends: &[(usize, usize)],
     edge: usize,
     order: &[usize],
+    other: &[usize],
 ) -> Result<bool, Memory>
     requires ends_within { AreWithin vertices ends.now }
     requires no_loop { HaveNoLoop ends.now }
@@ -44,45 +53,74 @@ fn has_order(
 {
     let g = Graph::from_ends(alloc, vertices, ends)?;
     let numbers = blocks(alloc, &g)?;
-    let lists = neighbour_lists(alloc, vertices, ends)?;
-    if !are_zero(numbers.as_slice()) || !are_filled(lists.as_slice()) {
+    if !are_zero(numbers.as_slice()) || !have_edges(alloc, vertices, ends)? {
         return Ok(false);
     }
     let (s, t) = ends[edge];
     let found = bipolar(alloc, &g, s, t)?;
-    Ok(found.as_slice() == order)
+    prefixes_are_connected(&g, s, t, found.as_slice());
+    Ok(found.as_slice() == order || found.as_slice() == other)
 }
 
 #[test]
 fn orders_of_small_graphs(rt: HostRuntime) -> Result<(), Fail> {
     let alloc = rt.alloc();
     assert_eq!(rt;
-        has_order(alloc, 3, &[(0, 1), (1, 2), (0, 2)], 2, &[0, 1, 2]),
+        has_order(alloc, 3, &[(0, 1), (1, 2), (0, 2)], 2, &[0, 1, 2], &[]),
         Ok(true),
         "a triangle"
     );
     assert_eq!(rt;
-        has_order(alloc, 2, &[(0, 1), (1, 0)], 1, &[1, 0]),
+        has_order(alloc, 2, &[(0, 1), (1, 0)], 1, &[1, 0], &[]),
         Ok(true),
         "parallel edges"
     );
     let all_pairs = [(0, 1), (0, 2), (0, 3), (1, 2), (1, 3), (2, 3)];
     assert_eq!(rt;
-        has_order(alloc, 4, &all_pairs, 2, &[0, 2, 1, 3]),
+        has_order(alloc, 4, &all_pairs, 2, &[0, 1, 2, 3], &[0, 2, 1, 3]),
         Ok(true),
         "four vertices, all joined"
     );
     let six = [(0, 1), (1, 2), (2, 3), (3, 4), (4, 5), (5, 0)];
     assert_eq!(rt;
-        has_order(alloc, 6, &six, 5, &[5, 4, 3, 2, 1, 0]),
+        has_order(alloc, 6, &six, 5, &[5, 4, 3, 2, 1, 0], &[]),
         Ok(true),
         "a cycle"
     );
     let chord = [(0, 1), (1, 2), (2, 3), (3, 0), (1, 3)];
     assert_eq!(rt;
-        has_order(alloc, 4, &chord, 3, &[3, 2, 1, 0]),
+        has_order(alloc, 4, &chord, 3, &[3, 2, 1, 0], &[]),
         Ok(true),
         "a cycle with a chord"
     );
+    Ok(())
+}
+
+// Whether the order of a long cycle goes round it.
+fn goes_round(alloc: Global, vertices: usize) -> Result<bool, Memory>
+    requires { 2 ≤ vertices }
+{
+    let mut ends = Vec::new(alloc);
+    let mut order = Vec::new(alloc);
+    for vertex in 0..vertices - 1 {
+        ends.push((vertex, vertex + 1))?;
+        order.push(vertex)?;
+    }
+    ends.push((vertices - 1, 0))?;
+    order.push(vertices - 1)?;
+    order.reverse();
+    has_order(
+        alloc,
+        vertices,
+        ends.as_slice(),
+        vertices - 1,
+        order.as_slice(),
+        &[],
+    )
+}
+
+#[test]
+fn order_of_a_long_cycle(rt: HostRuntime) -> Result<(), Fail> {
+    assert_eq!(rt; goes_round(rt.alloc(), 100_000), Ok(true));
     Ok(())
 }

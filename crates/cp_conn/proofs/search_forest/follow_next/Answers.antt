@@ -1,5 +1,5 @@
 use Rattle.std.proofs.Common.{◌≤◌, ◌<◌, length, arith}
-use Rattle.cp_conn.proofs.Deepening.{follow_old_read, follow_new_read, fewer_read}
+use Rattle.cp_conn.proofs.Deepening.{follow_old_read, follow_new_read, fewer_read, further_push}
 use Rattle.cp_conn.proofs.search_forest.follow_next.Goals as goal
 
 pub returns-then-index-len-clause-stands : goal.returns-then-index-len-clause-stands
@@ -21,3 +21,6 @@ returns-clause-stands c =
 pub returns-clause-fewer : goal.returns-clause-fewer
 returns-clause-fewer c =
     fewer_read c.args.ends.now (length c.args.next.now.items) c.args.forest.now.number.items c.args.forest.now.parent.items c.args.forest.now.edge.items c.args.forest.now.order.items c.args.next.now.items c.args.lower.now c.args.vertex c.index.result.now c.requires.stands c.requires.lead c.requires.some_left c.index.ensures
+
+pub returns-clause-further : goal.returns-clause-further
+returns-clause-further c = further_push c.args.forest.now.order.items c.meet.new.forest.order.items c.finish_of-to.result c.in_ok-meet.ensures.order

@@ -5,8 +5,8 @@ use Rattle.cp_conn.proofs.search_forest.search_forest.Goals as goal
 pub loop-vertex-init : goal.loop-vertex-init
 loop-vertex-init c = record {
   size = c.in_ok-darts.ensures.entry_each;
-  rests = rest_begins c.args.ends.now c.args.vertices c.in_ok-vec.field-0.items c.in_ok-vec-2.field-0.items c.in_ok-vec-3.field-0.items c.new.result.items c.in_ok-darts.darts.entries.items c.in_ok-darts.darts.lower.items
-      c.requires c.in_ok-darts.ensures (c.in_ok-vec.ensures.items_if_clones_equal (λ y e. e)) (c.in_ok-vec-2.ensures.items_if_clones_equal (λ y e. e)) (c.in_ok-vec-3.ensures.items_if_clones_equal (λ y e. e)) c.new.ensures.items;
+  rests = rest_begins c.args.ends.now c.args.vertices c.in_ok-forest.forest.number.items c.in_ok-forest.forest.parent.items c.in_ok-forest.forest.edge.items c.in_ok-forest.forest.order.items c.in_ok-darts.darts.entries.items c.in_ok-darts.darts.lower.items
+      c.requires c.in_ok-darts.ensures c.in_ok-forest.ensures.number c.in_ok-forest.ensures.parent c.in_ok-forest.ensures.edge c.in_ok-forest.ensures.order;
   lower_met = λ x lt. absurd (omega arith);
 }
 

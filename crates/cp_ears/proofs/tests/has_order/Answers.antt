@@ -1,9 +1,9 @@
 -- The graph was found to be one block with an edge at each vertex.
-use Rattle.std.proofs.Common.{◌≡◌, ℕ, ◌<◌, List, [], length, get_or, refl, sym, ap, subst}
+use Rattle.std.proofs.Common.{◌≡◌, ℕ, ◌<◌, List, length, get_or, refl, sym, ap, subst}
 use Rattle.cp_base.specs.Graphs.{PlainGraph}
 use Rattle.cp_conn.specs.Blocks.{HaveNoLoop}
 use Rattle.cp_ears.specs.Bipolar.{HaveEdges}
-use Rattle.cp_ears.proofs.Numbered.{one_block_numbers, edges_listed}
+use Rattle.cp_ears.proofs.Numbered.{one_block_numbers}
 use Rattle.cp_ears.proofs.tests.has_order.Goals as goal
 
 pub bipolar-requires-clause-one_block : goal.bipolar-requires-clause-one_block
@@ -12,7 +12,4 @@ bipolar-requires-clause-one_block c =
     (subst (λ (xs : List ℕ). (e : ℕ) → e < length xs → get_or xs e 0 ≡ 0) c.as_slice.ensures.value (c.if-not-are_zero.ensures refl))
 
 pub bipolar-requires-clause-each_has_edge : goal.bipolar-requires-clause-each_has_edge
-bipolar-requires-clause-each_has_edge c =
-    subst (λ (g : PlainGraph). HaveEdges g.vertices g.ends) (sym c.in_ok-g.ensures)
-    (edges_listed c.args.vertices c.args.ends.now c.in_ok-lists.lists.items c.in_ok-lists.ensures
-    (subst (λ (lists : List (List ℕ)). (x : ℕ) → x < length lists → 0 < length (get_or lists x [])) c.as_slice-else-not-are_zero.ensures.value (c.if-not-are_filled.ensures refl)))
+bipolar-requires-clause-each_has_edge c = subst (λ (g : PlainGraph). HaveEdges g.vertices g.ends) (sym c.in_ok-g.ensures) (c.in_ok-have_edges.ensures c.if-not-branch.false)

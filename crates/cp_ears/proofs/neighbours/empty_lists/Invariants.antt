@@ -1,7 +1,0 @@
--- So many empty lists so far.
-use Rattle.std.proofs.Common.{◌≡◌, []}
-use Rattle.std.specs.Prelude.{replicate}
-use Rattle.cp_ears.proofs.neighbours.empty_lists.Given as goal
-
-abbrev pub invariant-loop-list : goal.invariant-loop-list
-invariant-loop-list l = l.lists.items ≡ replicate l._list []
