@@ -35,8 +35,8 @@ fn dart_numbers(
     Ok((numbers, count))
 }
 
-// At which vertices the darts stand then: those of a by their own numbers, but where a dart of b has the
-// number, which does not stand at w.
+// At which vertices the darts of the result stand: where a dart of b has the number of one of a, at the
+// vertex of the dart of b.
 fn vertices_glued(
     alloc: Global,
     a: &Rot,
