@@ -15,7 +15,7 @@ import sys
 import tempfile
 import time
 
-from measure import TOP, apart
+from measure import TOP, apart, print_head, print_row
 
 # the most edges whose answers are compared
 COMPARED = 100_000
@@ -23,8 +23,8 @@ COMPARED = 100_000
 # how often each run is made
 ROUNDS = 3
 
-# the most edges for which a bipolar order is asked for: its cost grows with the square
-ORDERED = {"cycle": 1_000_000, "grid": 100_000}
+# the shapes that are one block, so that they have a bipolar order
+ORDERED = {"cycle", "grid"}
 
 
 def path(edges):
@@ -168,7 +168,7 @@ def rows(program, folder, shape, edges):
     source = os.path.join(folder, "input")
     vertices, count = map(int, apart(lambda: write(source, *shape(edges))).split())
     words = ["edges", "components", "blocks"]
-    if edges <= ORDERED.get(shape.__name__, 0):
+    if shape.__name__ in ORDERED:
         words.append("bipolar")
     (reading, _), *runs = best(program, words, folder)
     if numbers(os.path.join(folder, "edges")) != [vertices, count]:
@@ -178,7 +178,8 @@ def rows(program, folder, shape, edges):
     components, blocks, shown = apart(lambda: networkx_runs(folder, shape, edges)).decode().split(" ", 2)
     beside = {"components": float(components), "blocks": float(blocks), "bipolar": float(blocks)}
     for word, seconds, memory in taken:
-        print("| %s | %d | %d | %s | %.3f | %.3f | %.0f | %.3f | %.2f | %s |" % (shape.__name__, vertices, count, word, reading, seconds, memory, beside[word], seconds / beside[word], shown), flush=True)
+        figures = ("%.3f %.3f %.0f %.3f %.2f" % (reading, seconds, memory, beside[word], seconds / beside[word])).split()
+        print_row([shape.__name__, str(vertices), str(count), word, *figures, shown])
         os.remove(os.path.join(folder, word))
     if shown == "OTHER":
         sys.exit("%s: other answers than those of networkx" % shape.__name__)
@@ -197,8 +198,7 @@ def main():
     program = program_path(sys.argv[1:])
     given = [int(word) for word in sys.argv[1:] if word.isdigit()]
     largest = given[0] if given else 1_000_000
-    print("| shape | vertices | edges | call | read s | call s | peak MB | networkx s | ratio | answers |")
-    print("| --- | --- | --- | --- | --- | --- | --- | --- | --- | --- |")
+    print_head(["shape", "vertices", "edges", "call", "read s", "call s", "peak MB", "networkx s", "ratio", "answers"])
     with tempfile.TemporaryDirectory() as folder:
         for shape in (path, cycle, grid, connected, chain):
             edges = 10_000
