@@ -42,8 +42,8 @@ fn judged(alloc: Global, report: &Report, text: &[u8]) -> Result<(End, Vec<u8>),
     }
 }
 
-/// The end and its text. At most n log n in the number of bytes and of the places where edges cross
-/// borders, times at most the depth of the clusters.
+/// The end and its text. Linear in the number of bytes and of the places where edges cross borders, on
+/// average, since ids are looked up by a hash.
 pub(crate) fn decide(alloc: Global, bytes: &[u8]) -> Result<(End, Vec<u8>), Memory>
     ensures answer { IfOk result (λ a. Checked bytes.now a.0 a.1.items) }
     ensures kind { IfOk result (λ a. IsAnswer a.0) }

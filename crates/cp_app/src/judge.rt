@@ -9,7 +9,7 @@ use cp_report::Report;
 use std::alloc::Global;
 
 /// Whether the report has a good layout for the graph. All memory is taken before the check begins.
-/// Linear in the border graph, times at most the depth of the clusters.
+/// Linear in the graph, the report and the border graph.
 pub(crate) fn verdict(alloc: Global, graph: &CGraph, report: &Report) -> Result<Verdict, Memory>
     ensures { IfOk result (IsVerdict graph.now report.now) }
 {

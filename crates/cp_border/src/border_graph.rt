@@ -109,8 +109,8 @@ fn arranged_rot(alloc: Global, g: &CGraph, lay: &Layout, vertices: usize) -> Res
 /// The graph and the borders of its clusters as one rotation system: the vertices are the nodes, and
 /// behind them one for each crossing of an edge and a border, by edge and along it; the edges are
 /// the segments of the edges, and behind them those of the borders. `Node` and `Cluster` tell the
-/// first wrong line of the layout. Linear in the numbers of nodes, clusters, edges and items, and in
-/// the number of crossings times the depth to which clusters are nested.
+/// first wrong line of the layout. Linear in the numbers of nodes, clusters, edges, items and
+/// crossings.
 pub fn border_rot(alloc: Global, g: &CGraph, lay: &Layout) -> Result<Rot, BorderFault>
     ensures found { IfOk result (λ rot. rot ≡ borders g.now lay.now) }
     ensures arranged { IfOk result (λ _. IsArranged g.now lay.now) }

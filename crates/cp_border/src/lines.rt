@@ -181,8 +181,8 @@ fn clear_counts(counts: &mut [usize])
 /// leave the cluster, each once, or of the first list that has no cluster. Clusters are counted from
 /// 1 on, since the root has no list. `None` where each cluster has its list and each list its
 /// cluster. Takes no memory: `counts` has at least as many places as there are clusters, `seen` as
-/// there are edges; what stands in them before and after is open. Linear in the numbers of places
-/// and items, and of edges times the depth to which clusters are nested.
+/// there are edges; what stands in them before and after is open. Linear in the numbers of places,
+/// items and crossings.
 pub fn first_wrong_cluster_in(
     g: &CGraph,
     lay: &Layout,

@@ -16,8 +16,7 @@ use std::marker::Model;
 /// Fills the tables by which the border graph of an arranged layout is looked up: `first` with the
 /// number of border vertices before each edge, `at` with the vertex of each dart, `next` with the
 /// dart behind each dart, and `begins` with the first dart of the list of each border vertex. Takes
-/// no memory. Linear in the numbers of nodes, clusters, edges and items, and in the number of
-/// crossings times the depth to which clusters are nested.
+/// no memory. Linear in the numbers of nodes, clusters, edges, items and crossings.
 pub fn write_tables(
     g: &CGraph,
     lay: &Layout,

@@ -36,7 +36,7 @@ outward_root ps zero = refl
 outward_root ps (suc n) = refl
 
 -- one step outward
-outward_step : (ps : List ℕ) (n c : ℕ) → 0 < c → outward ps (suc n) c ≡ c ∷ outward ps n (slice_index ps (c - 1))
+pub outward_step : (ps : List ℕ) (n c : ℕ) → 0 < c → outward ps (suc n) c ≡ c ∷ outward ps n (slice_index ps (c - 1))
 outward_step ps n c above = cond-false (c == 0) [] (c ∷ outward ps n (slice_index ps (c - 1))) (ne_eqb c 0 (λ e. omega arith))
 
 -- more steps than the number of the cluster lead no further
@@ -93,14 +93,6 @@ pub encloses_higher : (ps : List ℕ) → IsLower ps → (c a : ℕ) → a < c �
 encloses_higher ps low c a lt =
     ap (λ (b : Bool). b || list_any (λ (x : ℕ). x == c) (chain ps a)) (ne_eqb c 0 (λ e. omega arith)) ∙ outward_below ps low a a c lt
 
--- where the way outward has passed c, or reached it
-pub encloses_end : (ps : List ℕ) → IsLower ps → (c a : ℕ) → a ≤ c → encloses ps c a ≡ (a == c)
-encloses_end ps low c a le =
-    ⊎_elim
-    (λ e. ap (encloses ps c) e ∙ encloses_itself ps low c ∙ sym (eq-eqb a c e))
-    (λ ne. encloses_higher ps low c a (omega arith) ∙ sym (ne_eqb a c ne))
-    (cases_eq a c)
-
 -- the clusters of a chain lie between the root and its first, and enclose that
 pub record IsOnChain (ps : List ℕ) (a c : ℕ) : Type 0 where
   pub above : 0 < c
@@ -145,7 +137,7 @@ chain_none ps low p (suc n) (suc a) le fails =
     ∙ rest
 
 -- what encloses lies on the way outward
-within_from_encloses : (g : Clustered) → IsLower g.parents → (n c a : ℕ) → a ≤ n → encloses g.parents c a ≡ true → IsWithin g c a
+pub within_from_encloses : (g : Clustered) → IsLower g.parents → (n c a : ℕ) → a ≤ n → encloses g.parents c a ≡ true → IsWithin g c a
 within_from_encloses g low zero c a le en =
     ⊎_elim
     (λ lt. absurd (false≢true (sym (encloses_higher g.parents low c a lt) ∙ en)))
@@ -163,7 +155,7 @@ within_from_encloses g low (suc n) c a le en =
     (cases_order c a)
 
 -- what lies on the way outward encloses
-encloses_from_within : (g : Clustered) → IsLower g.parents → (c a : ℕ) → IsWithin g c a → encloses g.parents c a ≡ true
+pub encloses_from_within : (g : Clustered) → IsLower g.parents → (c a : ℕ) → IsWithin g c a → encloses g.parents c a ≡ true
 encloses_from_within g low c _ here = encloses_itself g.parents low c
 encloses_from_within g low c _ (inner {b = b} above w) =
     let outside : encloses g.parents c (parent g b) ≡ true = encloses_from_within g low c (parent g b) w in
@@ -177,19 +169,3 @@ encloses_from_within g low c _ (inner {b = b} above w) =
 pub contains-IsWithin : (g : Clustered) → IsClustered g → (c v : ℕ) → (contains g c v ≡ true) ↔ IsWithin g c (home g v)
 contains-IsWithin g is c v =
     (within_from_encloses g (IsLower-clustered g is) (home g v) c (home g v) (omega arith), encloses_from_within g (IsLower-clustered g is) c (home g v))
-
--- the way outward from the home of node v has come to a cluster, and has not passed c
-pub record IsOnWay (g : Clustered) (c v at : ℕ) : Type 0 where
-  pub cluster : at < clusters g
-  pub same : contains g c v ≡ encloses g.parents c at
-
-pub IsOnWay-start : (g : Clustered) (c v : ℕ) → home g v < clusters g → IsOnWay g c v (home g v)
-IsOnWay-start g c v lt = record { cluster = lt; same = refl }
-
-pub IsOnWay-more : (g : Clustered) → IsClustered g → (c v at : ℕ) → IsOnWay g c v at → c < at → IsOnWay g c v (parent g at)
-IsOnWay-more g is c v at so lt =
-    let less : parent g at < at = (IsLower-clustered g is).lower at (omega arith) in
-    record { cluster = omega (arith, so.cluster); same = so.same ∙ encloses_step g.parents (IsLower-clustered g is) c at lt }
-
-pub IsOnWay-end : (g : Clustered) → IsClustered g → (c v at : ℕ) → IsOnWay g c v at → at ≤ c → (at == c) ≡ contains g c v
-IsOnWay-end g is c v at so le = sym (so.same ∙ encloses_end g.parents (IsLower-clustered g is) c at le)

@@ -113,7 +113,7 @@ All-reverse P xs all k d lt =
     let n : length (reverse xs) ≡ length xs = length-reverse xs in
     subst P (sym (get_or-reverse xs k d (omega arith))) (all (length xs - 1 - k) d (omega arith))
 
-pub Contains-reverse : (xs : List ℕ) (x : ℕ) → Contains xs x → Contains (reverse xs) x
+Contains-reverse : (xs : List ℕ) (x : ℕ) → Contains xs x → Contains (reverse xs) x
 Contains-reverse xs x c =
     let n : length (reverse xs) ≡ length xs = length-reverse xs in
     let lt : c.0 < length xs = c.1 in

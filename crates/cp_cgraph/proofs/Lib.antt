@@ -1,6 +1,7 @@
 pub mod Ancestors
 pub mod Crossing
 pub mod Counted
+pub mod Nesting
 pub mod Reading
 pub mod Places
 pub mod Walk

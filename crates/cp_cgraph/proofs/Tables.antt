@@ -1,15 +1,18 @@
 -- The tables that are read make up a clustered graph.
-use Rattle.std.proofs.Common.{◌≡◌, ℕ, ℤ, pos, zero, suc, ◌+◌, ◌-◌, ◌<◌, ◌≤◌, cond, List, [], ◌∷◌, ◌++◌, length, map, get_or, Option, Some, None, refl, sym, ap, subst, ⊎_elim, arith, length-append}
+use Rattle.std.proofs.Common.{◌≡◌, ℕ, ℤ, pos, zero, suc, ◌+◌, ◌-◌, ◌<◌, ◌≤◌, cond, slice_index, List, [], ◌∷◌, ◌++◌, length, map, get_or, Option, Some, None, refl, sym, ap, ◌∙◌, subst, ⊎_elim, arith, length-append}
 use Rattle.std.specs.Prelude.{codes}
 use Rattle.std.specs.List.{All, flat_map}
 use Rattle.std.specs.Ordering.{int_eq}
-use Rattle.std.proofs.lemmas.Bool.{cases_Bool, cases_lt, cond-true, cond-false}
-use Rattle.std.proofs.lemmas.List.{length-map, get_or-map, get_or_append_left, get_or-append_right}
+use Rattle.std.proofs.lemmas.Bool.{cases_Bool, cases_lt, cases_eq, cond-true, cond-false}
+use Rattle.std.proofs.lemmas.List.{length-map, get_or-map, get_or_append_left, get_or-append_right, get_or-append-add}
 use Rattle.std.proofs.lemmas.List.Elements.{All-append}
 use Rattle.std.proofs.lemmas.List.Quantifiers.{position-Some}
 use Rattle.cp_gml.specs.Trees.{Tree, nil, leaf, node}
 use Rattle.cp_gml.specs.declared.tree.Entry.{Entry}
-use Rattle.cp_cgraph.specs.Clustered.{IsClustered}
+use Rattle.cp_cgraph.specs.Clustered.{Clustered, IsClustered, parent}
+use Rattle.cp_cgraph.specs.Crossings.{IsWithin, here, inner as opens}
+use Rattle.cp_cgraph.specs.LookUps.{IsNested}
+use Rattle.cp_cgraph.proofs.Nesting.{IsWithin-trans}
 use Rattle.cp_cgraph.specs.Entries.{keyed, inner, first_id}
 use Rattle.cp_cgraph.specs.Nested.{is_cluster, is_vertex, leaf_id, opened, parents, names, name_of}
 use Rattle.cp_cgraph.specs.GraphFaults.{known_ids, edge_entries, root_tree}
@@ -143,3 +146,69 @@ IsClustered-graph_of es =
           let low : get_or (parents 0 1 t) (c - 1) 0 < 1 + (c - 1) = parents_lower t 0 1 (c - 1) 0 (omega arith) (omega arith) in
           omega (arith, low);
     }
+
+-- where so many clusters are opened inside cluster c, of which the first has number n
+record IsOpened (g : Clustered) (c n many : ℕ) : Type 0 where
+  nested : (d : ℕ) → n ≤ d → d < n + many → IsWithin g (parent g d) (d - 1)
+  last : IsWithin g c (n + many - 1)
+
+-- a cluster, those inside it and those behind it
+IsOpened-more : (g : Clustered) (c n m k : ℕ) → 0 < n → parent g n ≡ c → IsWithin g c (n - 1) → IsOpened g n (n + 1) m → (IsWithin g c (n + (1 + m) - 1) → IsOpened g c (n + (1 + m)) k) → IsOpened g c n (1 + m + k)
+IsOpened-more g c n m k above is w inside behind_of =
+    let own : IsWithin g c n = opens above (subst (IsWithin g c) (sym is) here) in
+    let behind : IsOpened g c (n + (1 + m)) k =
+    behind_of (subst (IsWithin g c) (let e : n + 1 + m - 1 ≡ n + (1 + m) - 1 = omega arith in e) (IsWithin-trans g c n (n + 1 + m - 1) own inside.last)) in
+    record {
+      nested = λ d from to.
+          ⊎_elim
+          (λ e. subst (λ (x : ℕ). IsWithin g (parent g x) (x - 1)) (sym e) (subst (λ (x : ℕ). IsWithin g x (n - 1)) (sym is) w))
+          (λ ne. ⊎_elim (λ l. inside.nested d (omega arith) l) (λ ge. behind.nested d (omega arith) (omega arith)) (cases_lt d (n + 1 + m)))
+          (cases_eq d n);
+      last = subst (IsWithin g c) (let e : n + (1 + m) + k - 1 ≡ n + (1 + m + k) - 1 = omega arith in e) behind.last;
+    }
+
+-- the parents stand in the table of all parents, from cluster n on
+abbrev StandAt : Clustered → ℕ → List ℕ → Type 0
+StandAt g n ps = (i : ℕ) → i < length ps → parent g (n + i) ≡ slice_index ps i
+
+StandAt-inside : (g : Clustered) (c n : ℕ) (first rest : List ℕ) → StandAt g n (c ∷ first ++ rest) → StandAt g (n + 1) first
+StandAt-inside g c n first rest stand i l =
+    ap (parent g) (let e : n + 1 + i ≡ n + suc i = omega arith in e) ∙ stand (suc i) (omega (arith, length-append first rest)) ∙ get_or_append_left first rest 0 i l
+
+StandAt-behind : (g : Clustered) (c n m : ℕ) (first rest : List ℕ) → length first ≡ m → StandAt g n (c ∷ first ++ rest) → StandAt g (n + (1 + m)) rest
+StandAt-behind g c n m first rest size stand i l =
+    ap (parent g) (let e : n + (1 + m) + i ≡ n + suc (length first + i) = omega arith in e)
+    ∙ stand (suc (length first + i)) (omega (arith, length-append first rest))
+    ∙ get_or-append-add first rest i 0
+
+IsOpened-all : (g : Clustered) (t : Tree) (c n : ℕ) → 0 < n → IsWithin g c (n - 1) → StandAt g n (parents c n t) → IsOpened g c n (opened t)
+IsOpened-all g nil c n above w stand = record {
+  nested = λ d from to. absurd (omega arith);
+  last = subst (IsWithin g c) (let e : n - 1 ≡ n + 0 - 1 = omega arith in e) w;
+}
+IsOpened-all g (leaf key key_at value at t) c n above w stand = IsOpened-all g t c n above w stand
+IsOpened-all g (node key key_at at list end t) c n above w stand =
+    let b = is_cluster key in
+    let m = opened list in
+    let first = parents n (n + 1) list in
+    let rest = parents c (n + (1 + m)) t in
+    ⊎_elim
+    (λ y.
+    let all : StandAt g n (c ∷ first ++ rest) = subst (StandAt g n) (cond-true b (c ∷ first ++ rest) (parents c n t) y) stand in
+    subst (IsOpened g c n) (sym (cond-true b (1 + m + opened t) (opened t) y))
+    (IsOpened-more g c n m (opened t) above
+    (ap (parent g) (let e : n ≡ n + 0 = omega arith in e) ∙ all 0 (omega arith))
+    w
+    (IsOpened-all g list n (n + 1) (omega arith) (subst (IsWithin g n) (let e : n ≡ n + 1 - 1 = omega arith in e) here) (StandAt-inside g c n first rest all))
+    (λ v. IsOpened-all g t c (n + (1 + m)) (omega arith) v (StandAt-behind g c n m first rest (length-parents list n (n + 1)) all))))
+    (λ f.
+    subst (IsOpened g c n) (sym (cond-false b (1 + m + opened t) (opened t) f))
+    (IsOpened-all g t c n above w (subst (StandAt g n) (cond-false b (c ∷ first ++ rest) (parents c n t) f) stand)))
+    (cases_Bool b)
+
+pub IsNested-graph_of : (es : List Entry) → IsNested (graph_of es)
+IsNested-graph_of es c above less =
+    let g = graph_of es in
+    let t = root_tree es in
+    let size : length (parents 0 1 t) ≡ opened t = length-parents t 0 1 in
+    (IsOpened-all g t 0 1 (omega arith) here (λ i l. ap (slice_index (parents 0 1 t)) (let e : 1 + i - 1 ≡ i = omega arith in e))).nested c (omega arith) (omega arith)

@@ -1,5 +1,6 @@
 pub mod Clustered
 pub mod Crossings
+pub mod LookUps
 pub mod Rows
 pub mod Entries
 pub mod Nested

@@ -4,8 +4,11 @@ ghost use Rattle.std.specs.List.{filter, position_or_len, range_with_len};
 ghost use Rattle.cp_counting.specs.Count.{Exactly};
 ghost use Rattle.cp_cgraph.specs.Clustered.{IsClustered, nodes, edges, clusters, source, target, parent, home, id};
 ghost use Rattle.cp_cgraph.specs.Crossings.{contains, leaves, crossings, IsWithin};
+ghost use Rattle.cp_cgraph.specs.LookUps.{IsNested, AreFromTo, depth};
 
-use crate::walks::{crossing_count, crossing_place, leads_to, sides, with_reversed};
+use crate::look_ups::{crossed, depths, lasts};
+use crate::stored::Stored;
+use crate::walks::{sides, with_reversed};
 use cp_base::Memory;
 use std::alloc::Global;
 use std::marker::Model;
@@ -16,46 +19,63 @@ use std::marker::Model;
 /// which they were read, and cluster 0 is the root, which has all nodes.
 #[derive(Debug, Drop)]
 pub struct CGraph {
-    ids: Vec<i32>,
-    ends: Vec<(usize, usize)>,
-    parents: Vec<usize>,
-    homes: Vec<usize>,
+    stored: Stored,
+    lasts: Vec<usize>,
+    depths: Vec<usize>,
+    crossed: Vec<usize>,
 }
 
 impl Model for CGraph {
-    ghost use Rattle.cp_cgraph.specs.Clustered.{Clustered, IsClustered};
+    ghost use Rattle.cp_cgraph.specs.Clustered.{Clustered};
+    ghost use Rattle.cp_cgraph.specs.LookUps.{AreLookUps};
 
     ghost Value = { Clustered };
 
-    ghost view = { λ g. record { ids = g.ids.items; ends = g.ends.items; parents = g.parents.items; homes = g.homes.items } };
+    ghost view = { λ g. g.stored };
 
-    ghost invariant = { λ g. IsClustered record { ids = g.ids.items; ends = g.ends.items; parents = g.parents.items; homes = g.homes.items } };
+    ghost invariant = { λ g. AreLookUps g.stored g.lasts.items g.depths.items g.crossed.items };
 }
 
 impl CGraph {
     // The graph of these tables.
-    pub(crate) fn from_tables(
-        ids: Vec<i32>,
-        ends: Vec<(usize, usize)>,
-        parents: Vec<usize>,
-        homes: Vec<usize>,
-    ) -> CGraph
-        requires { IsClustered record { ids = ids.items; ends = ends.items; parents = parents.items; homes = homes.items } }
-        ensures { result ≡ record { ids = ids.items; ends = ends.items; parents = parents.items; homes = homes.items } }
+    pub(crate) fn from_stored(alloc: Global, stored: Stored) -> Result<CGraph, Memory>
+        requires { IsNested stored }
+        ensures { IfOk result (λ g. g ≡ stored) }
     {
-        CGraph {
-            ids,
-            ends,
-            parents,
-            homes,
-        }
+        let lasts = lasts(&stored, alloc)?;
+        let depths = depths(&stored, alloc)?;
+        let crossed = crossed(&stored, alloc)?;
+        Ok(CGraph {
+            stored,
+            lasts,
+            depths,
+            crossed,
+        })
     }
 
     // Edges end at nodes, homes and parents are clusters, and parents have lower numbers.
     fn is_clustered(&self)
         ensures { IsClustered self.now }
     {
-        let _ = &self.homes;
+        self.stored.is_clustered();
+    }
+
+    // The greatest number of a cluster within cluster `c`.
+    fn last(&self, c: usize) -> usize
+        requires { c < clusters self.now }
+        ensures { AreFromTo self.now c result }
+    {
+        let _clusters = self.clusters();
+        self.lasts[c]
+    }
+
+    // The number of clusters round cluster `c`, with itself and without the root.
+    fn depth(&self, c: usize) -> usize
+        requires { c < clusters self.now }
+        ensures { result ≡ depth self.now c }
+    {
+        let _clusters = self.clusters();
+        self.depths[c]
     }
 
     /// The number of nodes.
@@ -64,7 +84,8 @@ impl CGraph {
         ensures bound { result < 2 ^ 60 }
         ensures clustered { IsClustered self.now }
     {
-        self.homes.as_slice().len()
+        self.is_clustered();
+        self.stored.nodes()
     }
 
     /// The number of edges.
@@ -72,7 +93,7 @@ impl CGraph {
         ensures value { result ≡ edges self.now }
         ensures bound { result < 2 ^ 60 }
     {
-        self.ends.as_slice().len()
+        self.stored.edges()
     }
 
     /// The number of clusters, with the root.
@@ -80,7 +101,7 @@ impl CGraph {
         ensures value { result ≡ clusters self.now }
         ensures bound { result ≤ 2 ^ 60 }
     {
-        self.parents.as_slice().len() + 1
+        self.stored.clusters()
     }
 
     /// The id that node `v` has in the file.
@@ -88,7 +109,7 @@ impl CGraph {
         requires { v < nodes self.now }
         ensures { result ≡ id self.now v }
     {
-        self.ids[v]
+        self.stored.id(v)
     }
 
     /// The numbers of the source and the target node of edge `e`.
@@ -98,7 +119,7 @@ impl CGraph {
         ensures source { source self.now e < nodes self.now }
         ensures target { target self.now e < nodes self.now }
     {
-        self.ends[e]
+        self.stored.ends(e)
     }
 
     /// The home of node `v`: the number of the innermost cluster that has it.
@@ -107,7 +128,7 @@ impl CGraph {
         ensures value { result ≡ home self.now v }
         ensures cluster { result < clusters self.now }
     {
-        self.homes[v]
+        self.stored.home(v)
     }
 
     /// The cluster directly round cluster `c`, which is not the root. Its number is lower.
@@ -117,22 +138,23 @@ impl CGraph {
         ensures value { result ≡ parent self.now c }
         ensures lower { result < c }
     {
-        self.parents[c - 1]
+        self.stored.parent(c)
     }
 
     /// Whether cluster `c` contains node `v`: it is the root, or the node's home or a cluster round
-    /// that. Takes no memory, and time in the depth to which clusters are nested.
+    /// that. Constant time.
     pub fn contains(&self, c: usize, v: usize) -> bool
         requires cluster { c < clusters self.now }
         requires node { v < nodes self.now }
         ensures { result ≡ contains self.now c v }
     {
         self.is_clustered();
-        leads_to(self, c, v)
+        let home = self.home(v);
+        c <= home && home <= self.last(c)
     }
 
-    /// Whether edge `e` leaves cluster `c`: the cluster contains exactly one of its two nodes. Takes
-    /// no memory, and time in the depth to which clusters are nested.
+    /// Whether edge `e` leaves cluster `c`: the cluster contains exactly one of its two nodes. Constant
+    /// time.
     pub fn leaves(&self, c: usize, e: usize) -> bool
         requires cluster { c < clusters self.now }
         requires edge { e < edges self.now }
@@ -146,8 +168,7 @@ impl CGraph {
         }
     }
 
-    /// The edges that leave cluster `c`, by rising number. Time in the number of edges times the
-    /// depth to which clusters are nested.
+    /// The edges that leave cluster `c`, by rising number. Time in the number of edges.
     pub fn leaving(&self, alloc: Global, c: usize) -> Result<Vec<usize>, Memory>
         requires { c < clusters self.now }
         ensures { IfOk result (λ found. found.items ≡ filter (leaves self.now c) (range_with_len 0 (edges self.now))) }
@@ -160,30 +181,29 @@ impl CGraph {
 
     /// The clusters that edge `e` leaves, in the order in which it crosses their borders: those that
     /// contain the source, from the innermost outward, and then those that contain the target, from
-    /// the outermost inward. Time in the depth to which clusters are nested.
+    /// the outermost inward. Time in the number of these clusters.
     pub fn crossings(&self, alloc: Global, e: usize) -> Result<Vec<usize>, Memory>
         requires { e < edges self.now }
         ensures { IfOk result (λ found. found.items ≡ crossings self.now e) }
     {
         self.is_clustered();
-        let (left, entered) = sides(self, alloc, e)?;
+        let (left, entered) = sides(&self.stored, alloc, e)?;
         let found = with_reversed(left, entered)?;
         Ok(found)
     }
 
-    /// The number of clusters that edge `e` leaves. Takes no memory, and time in the depth to which
-    /// clusters are nested.
+    /// The number of clusters that edge `e` leaves. Constant time.
     pub fn crossed(&self, e: usize) -> usize
         requires { e < edges self.now }
         ensures value { result ≡ length (crossings self.now e) }
         ensures bound { result < 2 ^ 61 }
     {
         self.is_clustered();
-        crossing_count(self, e)
+        let _clusters = self.clusters();
+        self.crossed[e]
     }
 
-    /// The place of cluster `c` among the clusters that edge `e` leaves, counted from 0. Takes no
-    /// memory, and time in the depth to which clusters are nested.
+    /// The place of cluster `c` among the clusters that edge `e` leaves, counted from 0. Constant time.
     pub fn place(&self, e: usize, c: usize) -> usize
         requires edge { e < edges self.now }
         requires cluster { c < clusters self.now }
@@ -191,7 +211,12 @@ impl CGraph {
         ensures { result ≡ position_or_len (λ x. x == c) (crossings self.now e) }
     {
         self.is_clustered();
-        crossing_place(self, e, c)
+        let (source, target) = self.ends(e);
+        if self.contains(c, source) {
+            self.depth(self.home(source)) - self.depth(c)
+        } else {
+            self.crossed(e) - 1 - (self.depth(self.home(target)) - self.depth(c))
+        }
     }
 
     /// A cluster contains a node exactly where it is the node's home or lies round it.
@@ -200,7 +225,7 @@ impl CGraph {
         requires node { v < nodes self.now }
         ensures { (contains self.now c v ≡ true) ↔ IsWithin self.now c (home self.now v) }
     {
-        let _ = &self.homes;
+        self.is_clustered();
     }
 
     /// The crossings of an edge are exactly the clusters that it leaves, each once.
@@ -208,6 +233,6 @@ impl CGraph {
         requires { e < edges self.now }
         ensures { Exactly (clusters self.now) (λ c. leaves self.now c e) (crossings self.now e) }
     {
-        let _ = &self.homes;
+        self.is_clustered();
     }
 }

@@ -9,11 +9,13 @@ mod graph;
 mod ids;
 mod law;
 mod layout;
+mod look_ups;
 mod names;
 mod nodes;
 mod reader;
 mod roots;
 mod spelled;
+mod stored;
 #[cfg(test)]
 mod tests;
 mod walks;

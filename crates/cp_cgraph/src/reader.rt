@@ -13,6 +13,7 @@ use crate::ids::Ids;
 use crate::names::{homes, read_names};
 use crate::nodes::read_nodes;
 use crate::roots::{graph_list, read_roots};
+use crate::stored::Stored;
 use cp_base::{Items, Memory};
 use cp_gml::{Entry, GmlList};
 use std::alloc::Global;
@@ -53,8 +54,8 @@ fn read_parts(alloc: Global, entries: &[Entry], end: usize) -> Result<Parts, Mem
     })
 }
 
-// The graph of the parts of some entries.
-fn graph(alloc: Global, parts: &Parts, end: usize, entries: &[Entry]) -> Result<CGraph, Memory>
+// The tables of the graph of the parts of some entries.
+fn tables(alloc: Global, parts: &Parts, end: usize, entries: &[Entry]) -> Result<Stored, Memory>
     requires { AreParts end entries.now parts.now }
     ensures { IfOk result (λ g. g ≡ graph_of entries.now) }
 {
@@ -62,13 +63,23 @@ fn graph(alloc: Global, parts: &Parts, end: usize, entries: &[Entry]) -> Result<
     let ends = Vec::from_slice(alloc, parts.ends.items())?;
     let parents = Vec::from_slice(alloc, parts.parents.items())?;
     let homes = homes(alloc, parts.ids.ids(), parts.names.items(), &parts.named)?;
-    Ok(CGraph::from_tables(ids, ends, parents, homes))
+    Ok(Stored::new(ids, ends, parents, homes))
+}
+
+// The graph of the parts of some entries.
+fn graph(alloc: Global, parts: &Parts, end: usize, entries: &[Entry]) -> Result<CGraph, Memory>
+    requires { AreParts end entries.now parts.now }
+    ensures { IfOk result (λ g. g ≡ graph_of entries.now) }
+{
+    let stored = tables(alloc, parts, end, entries)?;
+    CGraph::from_stored(alloc, stored)
 }
 
 /// The clustered graph that a list of keys and values says (the format is Himsolt's GML, with clusters
-/// in nested lists of their own), or its first fault. Time and memory linear in the number of entries, on
-/// average; a call inside the other for each cluster that is open. Ids are looked up by a hash whose seed is
-/// fixed (SipHash-1-3), so those chosen against it may make the time quadratic, and no more.
+/// in nested lists of their own), or its first fault. Memory linear in the number of entries, and time linear
+/// in it, on average, and in the number of places where edges cross borders; a call inside the other for each
+/// cluster that is open. Ids are looked up by a hash whose seed is fixed (SipHash-1-3), so those chosen against
+/// it may make the time quadratic, and no more.
 ///
 /// Nodes and edges are the `node` and `edge` entries of the first `graph` entry, and are numbered in
 /// their order; an edge names its ends by the ids of nodes, which may stand after it. The root list is

@@ -1,69 +1,9 @@
 // Nested clusters, and what their edges cross.
-ghost use Rattle.std.specs.Prelude.{◌≡◌, ℕ, ◌+◌, ◌<◌, IsTrue, length, slice_index, slice_index_or};
-ghost use Rattle.cp_cgraph.specs.Clustered.{IsClustered};
-
 use crate::{CGraph, GraphFault, build, one_graph};
 use cp_base::Memory;
 use cp_gml::parse;
 use std::alloc::Global;
 use std::process::Abort;
-
-// Whether each edge ends at nodes.
-fn end_below(ends: &[(usize, usize)], nodes: usize) -> bool
-    ensures { IsTrue result → (e : ℕ) → e < length ends.now → ((slice_index_or ends.now e (0, 0)).0 < nodes) × ((slice_index_or ends.now e (0, 0)).1 < nodes) }
-{
-    for (source, target) in ends {
-        if *source >= nodes || *target >= nodes {
-            return false;
-        }
-    }
-    true
-}
-
-// Whether each number is below the bound.
-fn are_below(numbers: &[usize], bound: usize) -> bool
-    ensures { IsTrue result → (i : ℕ) → i < length numbers.now → slice_index numbers.now i < bound }
-{
-    for number in numbers {
-        if *number >= bound {
-            return false;
-        }
-    }
-    true
-}
-
-// Whether each cluster but the root lies in one of a lower number.
-fn are_lower(parents: &[usize]) -> bool
-    ensures { IsTrue result → (i : ℕ) → i < length parents.now → slice_index parents.now i < i + 1 }
-{
-    for i in 0..parents.len() {
-        if parents[i] > i {
-            return false;
-        }
-    }
-    true
-}
-
-// The graph of the tables. Tables of no graph answer as if memory were wanting.
-fn graph(
-    alloc: Global,
-    ids: &[i32],
-    ends: &[(usize, usize)],
-    parents: &[usize],
-    homes: &[usize],
-) -> Result<CGraph, Memory> {
-    if !end_below(ends, ids.len()) || !are_lower(parents) {
-        return Err(Memory);
-    }
-    if ids.len() != homes.len() || !are_below(homes, parents.len() + 1) {
-        return Err(Memory);
-    }
-    let ids = Vec::from_slice(alloc, ids)?;
-    let ends = Vec::from_slice(alloc, ends)?;
-    let parents = Vec::from_slice(alloc, parents)?;
-    let homes = Vec::from_slice(alloc, homes)?;
-    Ok(CGraph::from_tables(ids, ends, parents, homes))
-}
 
 type Parts = (
     &'static [i32],
@@ -73,9 +13,13 @@ type Parts = (
 );
 
 // The crossings of the last edge, and the edges that leave the last cluster.
-fn crossed(alloc: Global, parts: Parts) -> Result<(Vec<usize>, Vec<usize>), Memory> {
-    let (ids, ends, parents, homes) = parts;
-    let g = graph(alloc, ids, ends, parents, homes)?;
+fn crossed(alloc: Global, text: &[u8]) -> Result<(Vec<usize>, Vec<usize>), Memory> {
+    let Ok(list) = parse(alloc, text) else {
+        return Err(Memory);
+    };
+    let Ok(g) = build(alloc, &list) else {
+        return Err(Memory);
+    };
     if g.edges() == 0 {
         return Err(Memory);
     }
@@ -87,23 +31,35 @@ fn crossed(alloc: Global, parts: Parts) -> Result<(Vec<usize>, Vec<usize>), Memo
 #[test]
 fn clusters_are_left_outward_and_entered_inward(rt: HostRuntime) {
     let alloc = rt.alloc();
-    let rows: [(Parts, &[usize], &[usize]); 5] = [
+    let rows: [(&[u8], &[usize], &[usize]); 5] = [
         (
-            (&[1, 2], &[(0, 0), (0, 1), (0, 1)], &[0, 1], &[2, 0]),
+            b"rootcluster [ cluster [ cluster [ vertex 1 ] ] ] graph [ node [ id 1 ] node [ id 2 ] edge [ source 1 target 1 ] edge [ source 1 target 2 ] edge [ source 1 target 2 ] ]",
             &[2, 1],
             &[1, 2],
         ),
         (
-            (&[1, 2], &[(0, 1)], &[0, 1, 0, 3], &[2, 4]),
+            b"rootcluster [ cluster [ cluster [ vertex 1 ] ] cluster [ cluster [ vertex 2 ] ] ] graph [ node [ id 1 ] node [ id 2 ] edge [ source 1 target 2 ] ]",
             &[2, 1, 3, 4],
             &[0],
         ),
-        ((&[1, 2], &[(1, 0)], &[0, 1, 1], &[2, 3]), &[3, 2], &[0]),
-        ((&[1, 2], &[(1, 0)], &[0, 0], &[1, 1]), &[], &[]),
-        ((&[7], &[(0, 0)], &[], &[0]), &[], &[]),
+        (
+            b"rootcluster [ cluster [ cluster [ vertex 1 ] cluster [ vertex 2 ] ] ] graph [ node [ id 1 ] node [ id 2 ] edge [ source 2 target 1 ] ]",
+            &[3, 2],
+            &[0],
+        ),
+        (
+            b"rootcluster [ cluster [ vertex 1 vertex 2 ] cluster [ ] ] graph [ node [ id 1 ] node [ id 2 ] edge [ source 2 target 1 ] ]",
+            &[],
+            &[],
+        ),
+        (
+            b"graph [ node [ id 7 ] edge [ source 7 target 7 ] ]",
+            &[],
+            &[],
+        ),
     ];
-    for (parts, crossings, leaving) in rows {
-        match crossed(alloc, parts) {
+    for (text, crossings, leaving) in rows {
+        match crossed(alloc, text) {
             Ok((found, left)) => {
                 assert_eq!(rt; found.as_slice(), crossings);
                 assert_eq!(rt; left.as_slice(), leaving);

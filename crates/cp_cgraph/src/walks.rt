@@ -1,31 +1,16 @@
 // Walks outward through nested clusters.
-ghost use Rattle.std.specs.Prelude.{◌≡◌, ◌<◌, ◌^◌, ◌++◌, ◌==◌, true, IfOk, length, reverse};
-ghost use Rattle.std.specs.List.{position_or_len};
-ghost use Rattle.cp_cgraph.specs.Clustered.{IsClustered, nodes, edges, clusters};
-ghost use Rattle.cp_cgraph.specs.Crossings.{contains, leaves, crossings};
+ghost use Rattle.std.specs.Prelude.{◌≡◌, ◌<◌, ◌^◌, ◌++◌, IfOk, length, reverse};
+ghost use Rattle.cp_cgraph.specs.Clustered.{IsClustered, edges};
+ghost use Rattle.cp_cgraph.specs.Crossings.{crossings};
 
-use crate::graph::CGraph;
+use crate::stored::Stored;
 use cp_base::Memory;
 use std::alloc::Global;
-
-// Whether the way outward from the home of node `v` comes to cluster `c`.
-pub(crate) fn leads_to(g: &CGraph, c: usize, v: usize) -> bool
-    requires clustered { IsClustered g.now }
-    requires cluster { c < clusters g.now }
-    requires node { v < nodes g.now }
-    ensures { result ≡ contains g.now c v }
-{
-    let mut inner = g.home(v);
-    while inner > c {
-        inner = g.parent(inner);
-    }
-    inner == c
-}
 
 // The clusters that edge `e` leaves, those that contain its source and those that contain its
 // target, both from the innermost outward. Of the two clusters that are reached, the one of the
 // higher number is no cluster round the other, so it is left next.
-pub(crate) fn sides(g: &CGraph, alloc: Global, e: usize) -> Result<(Vec<usize>, Vec<usize>), Memory>
+pub(crate) fn sides(g: &Stored, alloc: Global, e: usize) -> Result<(Vec<usize>, Vec<usize>), Memory>
     requires clustered { IsClustered g.now }
     requires edge { e < edges g.now }
     ensures { IfOk result (λ lists. lists.0.items ++ reverse lists.1.items ≡ crossings g.now e) }
@@ -60,7 +45,7 @@ pub(crate) fn with_reversed(first: Vec<usize>, second: Vec<usize>) -> Result<Vec
 }
 
 // The number of clusters that edge `e` leaves.
-pub(crate) fn crossing_count(g: &CGraph, e: usize) -> usize
+pub(crate) fn crossing_count(g: &Stored, e: usize) -> usize
     requires clustered { IsClustered g.now }
     requires edge { e < edges g.now }
     ensures value { result ≡ length (crossings g.now e) }
@@ -77,38 +62,6 @@ pub(crate) fn crossing_count(g: &CGraph, e: usize) -> usize
             left += 1;
             outer = g.parent(outer);
         } else {
-            entered += 1;
-            inner = g.parent(inner);
-        }
-    }
-    left + entered
-}
-
-// The place of cluster `c` among the clusters that edge `e` leaves.
-pub(crate) fn crossing_place(g: &CGraph, e: usize, c: usize) -> usize
-    requires clustered { IsClustered g.now }
-    requires edge { e < edges g.now }
-    requires cluster { c < clusters g.now }
-    requires left { leaves g.now c e ≡ true }
-    ensures { result ≡ position_or_len (λ x. x == c) (crossings g.now e) }
-{
-    let (source, target) = g.ends(e);
-    let _clusters = g.clusters();
-    let mut left = 0;
-    let mut entered = 0;
-    let mut outer = g.home(source);
-    let mut inner = g.home(target);
-    while outer != inner {
-        if outer > inner {
-            if outer == c {
-                return left;
-            }
-            left += 1;
-            outer = g.parent(outer);
-        } else {
-            if inner == c {
-                return crossing_count(g, e) - 1 - entered;
-            }
             entered += 1;
             inner = g.parent(inner);
         }

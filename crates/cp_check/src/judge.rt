@@ -82,8 +82,8 @@ fn layout_reason(g: &CGraph, lay: &Layout, s: &mut Scratch) -> Option<Reject>
 }
 
 /// Whether the report has a good layout for the graph, or the first reason why it has none. Takes no
-/// memory, and the scratch fits the graph afterwards. Linear in the border graph, times at most the
-/// depth of the clusters.
+/// memory, and the scratch fits the graph afterwards. Linear in the graph, the report and the border
+/// graph.
 pub fn check(g: &CGraph, report: &Report, s: &mut Scratch) -> Verdict
     requires { Fits s.old g.now }
     ensures accepted { (result ≡ Verdict.Accepted) ↔ IsGoodReport g.now report.now }

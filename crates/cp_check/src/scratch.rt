@@ -132,8 +132,7 @@ impl Scratch {
     }
 
     /// Whether layouts of the graph can be checked here: it has the same numbers of nodes, edges,
-    /// clusters and border vertices. Linear in the numbers of edges and border vertices, times at
-    /// most the depth of the clusters.
+    /// clusters and border vertices. Linear in the number of edges.
     pub fn fits(&self, g: &CGraph) -> bool
         ensures { IsTrue result ↔ Fits self.now g.now }
     {
