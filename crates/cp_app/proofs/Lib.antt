@@ -1,4 +1,3 @@
 pub mod AnswerLemmas
 pub mod JudgeLemmas
 pub mod WordLemmas
-pub mod WrittenLemmas

@@ -2,6 +2,7 @@
 use Rattle.std.specs.Prelude.{◌≡◌, ℕ, ◌<◌, ◌≤◌, List, [], ◌∷◌, length, drop, codes}
 use Rattle.cp_cgraph.specs.Clustered.{Clustered}
 use Rattle.cp_gml.specs.Lists as lists
+use Rattle.cp_io.specs.Streams.{most_bytes}
 use Rattle.cp_report.specs.declared.report.Report.{Report}
 use Rattle.cp_report.specs.Texts.{BeginsWith}
 use Rattle.cp_report.specs.Faults as reports
@@ -11,10 +12,6 @@ use Rattle.cp_app.specs.Texts.{usage_line, too_long_line, bad_report_line, gramm
 use Rattle.cp_check.specs.declared.verdict.Reject.{Reject}
 use Rattle.cp_app.specs.declared.end.End.{End}
 use Rattle.cp_app.specs.declared.end.End.TheVariants as ends
-
--- the most bytes that an input may have: 64 MiB
-abbrev pub most_bytes : ℕ
-most_bytes = 67108864
 
 -- the words are the one command `check`
 abbrev pub IsCheck : List (List ℕ) → Type 0

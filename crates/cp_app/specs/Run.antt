@@ -1,8 +1,6 @@
 -- What a run writes: the text of its answer, a front of it, or the line of a read fault.
-use Rattle.std.specs.Prelude.{◌≡◌, ◌≢◌, ℕ, List, Option, ◌⊎◌, IfSome}
-use Rattle.std.specs.Io.KnownBytes.{Appends}
-use Rattle.cp_io.specs.Causes.{Rose}
-use Rattle.cp_io.specs.Streams.{TookFront}
+use Rattle.std.specs.Prelude.{◌≢◌, ℕ, List, Option}
+use Rattle.cp_io.specs.Answered.{WroteAnswer, WroteAnswerFront}
 use Rattle.cp_app.specs.Answer.{Answer}
 use Rattle.cp_app.specs.Texts.{read_fault_line}
 use Rattle.cp_app.specs.declared.end.End.{End}
@@ -16,9 +14,9 @@ pub record IsAnswer (end : End) : Type 0 where
 
 -- a text was written whole that, where the source told its bytes, answers them with this end
 abbrev pub Wrote : List (List ℕ) → Option (List ℕ) → Option (List ℕ) → Option (List ℕ) → End → Type 0
-Wrote words left old new end = (text : List ℕ) × IfSome left (λ bytes. Answer words bytes end text) × Appends old new text
+Wrote words = WroteAnswer (Answer words)
 
 -- a front of one text was written: of one that answers with some end, or of the line of a read fault
 -- where the source's count of faults rose
 abbrev pub WroteFront : List (List ℕ) → Option (List ℕ) → ℕ → ℕ → Option (List ℕ) → Option (List ℕ) → Type 0
-WroteFront words left before now old new = (text : List ℕ) × (IfSome left (λ bytes. (end : End) × Answer words bytes end text) ⊎ (Rose before now × (text ≡ read_fault_line))) × TookFront old new text
+WroteFront words = WroteAnswerFront (Answer words) read_fault_line

@@ -2,15 +2,15 @@
 ghost use Rattle.std.specs.Prelude.{◌≡◌, ◌≢◌, ◌<◌, ◌↔◌, ◌⊎◌, IsTrue, length, map, string_bytes};
 ghost use Rattle.std.specs.Io.KnownBytes.{Appends, IsAtEnd, Keeps};
 ghost use Rattle.cp_io.specs.Causes.{Rose};
-ghost use Rattle.cp_io.specs.Streams.{Took, TookFront};
-ghost use Rattle.cp_app.specs.Answer.{IsCheck, most_bytes};
+ghost use Rattle.cp_io.specs.Streams.{Took, most_bytes};
+ghost use Rattle.cp_app.specs.Answer.{IsCheck};
 ghost use Rattle.cp_app.specs.Run.{IsAnswer, Wrote, WroteFront};
 ghost use Rattle.cp_app.specs.Texts.{read_fault_line};
 
 use crate::decide::decide;
 use crate::{End, texts};
 use cp_base::Memory;
-use cp_io::{Failed, ReadEnd, Sink, Source, read_all, write_all};
+use cp_io::{ReadEnd, Sink, Source, read_all, tell};
 use std::alloc::Global;
 
 /// Whether the words are the one command `check`.
@@ -20,20 +20,6 @@ fn is_check(words: &[String]) -> bool
     match words {
         [word] => word.as_str() == "check",
         _ => false,
-    }
-}
-
-/// Writes the text whole and finishes the sink, and then the end is `end`.
-fn tell<K: Sink>(sink: &mut K, text: &[u8], end: End) -> End
-    requires { end ≢ End.WriteFault }
-    ensures cases { (result ≡ end) ⊎ (result ≡ End.WriteFault) }
-    ensures whole { result ≢ End.WriteFault → Appends (K.taken sink.old) (K.taken sink.new) text.now }
-    ensures finished { result ≢ End.WriteFault → IsTrue (K.finished sink.new) }
-    ensures fault { result ≡ End.WriteFault → Rose (K.faults sink.old) (K.faults sink.new) × TookFront (K.taken sink.old) (K.taken sink.new) text.now }
-{
-    match write_all(sink, text) {
-        Ok(()) => end,
-        Err(Failed) => End::WriteFault,
     }
 }
 
@@ -52,15 +38,15 @@ pub fn run<S: Source, K: Sink>(alloc: Global, words: &[String], source: &mut S, 
     ensures memory { result ≡ End.Memory → Keeps (K.taken sink.old) (K.taken sink.new) }
 {
     if !is_check(words) {
-        return tell(sink, texts::USAGE, End::Usage);
+        return tell(sink, texts::USAGE, End::Usage, End::WriteFault);
     }
     match read_all(alloc, source) {
         Ok(bytes) => match decide(alloc, &bytes) {
-            Ok((end, text)) => tell(sink, &text, end),
+            Ok((end, text)) => tell(sink, &text, end, End::WriteFault),
             Err(Memory) => End::Memory,
         },
-        Err(ReadEnd::Fault) => tell(sink, texts::READ_FAULT, End::ReadFault),
-        Err(ReadEnd::TooLong) => tell(sink, texts::TOO_LONG, End::TooLong),
+        Err(ReadEnd::Fault) => tell(sink, texts::READ_FAULT, End::ReadFault, End::WriteFault),
+        Err(ReadEnd::TooLong) => tell(sink, texts::TOO_LONG, End::TooLong, End::WriteFault),
         Err(ReadEnd::Memory) => End::Memory,
     }
 }

@@ -4,6 +4,10 @@ use Rattle.std.specs.Io.KnownBytes.{Appends, Consumes, IsAtEnd}
 use Rattle.cp_io.specs.declared.whole.ReadEnd.{ReadEnd}
 use Rattle.cp_io.specs.declared.whole.ReadEnd.TheVariants as ends
 
+-- the most bytes that an input may have: 64 MiB
+abbrev pub most_bytes : ℕ
+most_bytes = 67108864
+
 -- some bytes with P were taken from the front of what was left
 abbrev pub Took : Option (List ℕ) → Option (List ℕ) → (List ℕ → Type 0) → Type 0
 Took old new P = (bytes : List ℕ) × Consumes old new bytes × P bytes

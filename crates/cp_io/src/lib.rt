@@ -17,7 +17,7 @@ pub use mem_source::MemSource;
 pub use std_sink::StdSink;
 pub use std_source::StdSource;
 pub use streams::{Failed, Sink, Source};
-pub use whole::{MOST_BYTES, ReadEnd, read_all, write_all};
+pub use whole::{MOST_BYTES, ReadEnd, read_all, tell, write_all};
 
 #[cfg(test)]
 mod tests;

@@ -1,6 +1,6 @@
 // What no clause says: that calls succeed where memory suffices, and that real bytes pass the adapters.
 use crate::{
-    Failed, MOST_BYTES, MemSink, MemSource, ReadEnd, StdSink, StdSource, read_all, write_all,
+    Failed, MOST_BYTES, MemSink, MemSource, ReadEnd, StdSink, StdSource, read_all, tell, write_all,
 };
 use std::io;
 use std::io::Read;
@@ -45,6 +45,23 @@ fn a_text_is_written_whole_or_a_front_of_it(rt: HostRuntime) -> Result<(), Fail>
         let got = write_all(&mut sink, b"node 1: 0 4\n");
         assert_eq!(rt; got, want, "room {room} by {step}");
         assert_eq!(rt; sink.bytes(), taken, "room {room} by {step}");
+    }
+    Ok(())
+}
+
+#[test]
+fn the_end_is_told_or_the_failure(rt: HostRuntime) -> Result<(), Fail> {
+    // The calls that fail, the answer and the bytes taken.
+    let rows: [(&[u64], char, &[u8]); 3] = [
+        (&[], 'e', b"accepted\n"),
+        (&[2], 'f', b"accep"),
+        (&[3], 'f', b"accepted\n"),
+    ];
+    for (failing, want, taken) in rows {
+        let mut sink = MemSink::new(rt.alloc(), 64, 5, failing)?;
+        let got = tell(&mut sink, b"accepted\n", 'e', 'f');
+        assert_eq!(rt; got, want, "{failing:?}");
+        assert_eq!(rt; sink.bytes(), taken, "{failing:?}");
     }
     Ok(())
 }

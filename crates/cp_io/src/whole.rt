@@ -1,5 +1,5 @@
 // Reading all of a source and writing all of a text.
-ghost use Rattle.std.specs.Prelude.{◌≤◌, IsTrue, IsErrOf, OnErr, OnOk};
+ghost use Rattle.std.specs.Prelude.{◌≡◌, ◌≢◌, ◌≤◌, ◌⊎◌, IsTrue, IsErrOf, OnErr, OnOk};
 ghost use Rattle.std.specs.Io.KnownBytes.{Appends};
 ghost use Rattle.cp_io.specs.Causes.{HasCause, Rose};
 ghost use Rattle.cp_io.specs.Streams.{ReadTo, TookFront};
@@ -73,4 +73,19 @@ pub fn write_all<K: Sink>(sink: &mut K, text: &[u8]) -> Result<(), Failed>
         rest = after;
     }
     sink.finish()
+}
+
+/// Writes the whole text and finishes the sink. Answers `end`, or `failed` where the sink failed and
+/// a front of the text was taken. Costs what `write_all` costs.
+pub fn tell<K: Sink, E: Copy>(sink: &mut K, text: &[u8], end: E, failed: E) -> E
+    requires { end ≢ failed }
+    ensures cases { (result ≡ end) ⊎ (result ≡ failed) }
+    ensures whole { result ≢ failed → Appends (K.taken sink.old) (K.taken sink.new) text.now }
+    ensures finished { result ≢ failed → IsTrue (K.finished sink.new) }
+    ensures fault { result ≡ failed → Rose (K.faults sink.old) (K.faults sink.new) × TookFront (K.taken sink.old) (K.taken sink.new) text.now }
+{
+    match write_all(sink, text) {
+        Ok(()) => end,
+        Err(Failed) => failed,
+    }
 }

@@ -8,6 +8,7 @@ use Rattle.cp_gml.specs.Lists as lists
 use Rattle.cp_gml.specs.Trees.{tree}
 use Rattle.cp_gml.specs.declared.tree.Entry.{Entry}
 use Rattle.cp_gml.specs.declared.tree.GmlList.{GmlList, out-GmlList}
+use Rattle.cp_io.specs.Streams.{most_bytes}
 use Rattle.graph_parts.specs.Asking.{Asks}
 use Rattle.graph_parts.specs.Fitting.{Fits, AreAsked}
 use Rattle.graph_parts.specs.Texts.{number_lines, unfit_line, refused_line, usage_line, too_long_line}
@@ -16,10 +17,6 @@ use Rattle.graph_parts.specs.declared.end.End.{End}
 use Rattle.graph_parts.specs.declared.end.End.TheVariants as ends
 use Rattle.graph_parts.specs.declared.graph.TextFault.{TextFault}
 use Rattle.graph_parts.specs.declared.graph.TextFault.TheVariants as faults
-
--- the most bytes that an input may have: 64 MiB
-abbrev pub most_bytes : ℕ
-most_bytes = 67108864
 
 -- the graph without its clusters
 abbrev pub plain : Clustered → PlainGraph

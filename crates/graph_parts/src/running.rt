@@ -2,8 +2,7 @@
 ghost use Rattle.std.specs.Prelude.{◌≡◌, ◌≢◌, ◌<◌, ◌⊎◌, IsTrue, length, map, string_bytes};
 ghost use Rattle.std.specs.Io.KnownBytes.{Appends, IsAtEnd, Keeps};
 ghost use Rattle.cp_io.specs.Causes.{Rose};
-ghost use Rattle.cp_io.specs.Streams.{Took, TookFront};
-ghost use Rattle.graph_parts.specs.Answer.{most_bytes};
+ghost use Rattle.cp_io.specs.Streams.{Took, most_bytes};
 ghost use Rattle.graph_parts.specs.Asking.{Asks};
 ghost use Rattle.graph_parts.specs.Run.{IsAnswer, Wrote, WroteFront};
 ghost use Rattle.graph_parts.specs.Texts.{read_fault_line};
@@ -14,22 +13,8 @@ use crate::decide::decide;
 use crate::end::End;
 use crate::texts;
 use cp_base::Memory;
-use cp_io::{Failed, ReadEnd, Sink, Source, read_all, write_all};
+use cp_io::{ReadEnd, Sink, Source, read_all, tell};
 use std::alloc::Global;
-
-/// Writes the text whole and finishes the sink, and then the end is `end`.
-fn tell<K: Sink>(sink: &mut K, text: &[u8], end: End) -> End
-    requires { end ≢ End.WriteFault }
-    ensures cases { (result ≡ end) ⊎ (result ≡ End.WriteFault) }
-    ensures whole { result ≢ End.WriteFault → Appends (K.taken sink.old) (K.taken sink.new) text.now }
-    ensures finished { result ≢ End.WriteFault → IsTrue (K.finished sink.new) }
-    ensures fault { result ≡ End.WriteFault → Rose (K.faults sink.old) (K.faults sink.new) × TookFront (K.taken sink.old) (K.taken sink.new) text.now }
-{
-    match write_all(sink, text) {
-        Ok(()) => end,
-        Err(Failed) => End::WriteFault,
-    }
-}
 
 /// Runs the program: `words` are the words of the command line without the program's name. All texts
 /// go to the sink, those of refusals too. Linear in the number of bytes, but for the look-ups of ids
@@ -46,15 +31,15 @@ pub fn run<S: Source, K: Sink>(alloc: Global, words: &[String], source: &mut S, 
     ensures memory { result ≡ End.Memory → Keeps (K.taken sink.old) (K.taken sink.new) }
 {
     let Some(asked) = asked_of(words) else {
-        return tell(sink, texts::USAGE, End::Usage);
+        return tell(sink, texts::USAGE, End::Usage, End::WriteFault);
     };
     match read_all(alloc, source) {
         Ok(bytes) => match decide(alloc, asked, &bytes) {
-            Ok((end, text)) => tell(sink, &text, end),
+            Ok((end, text)) => tell(sink, &text, end, End::WriteFault),
             Err(Memory) => End::Memory,
         },
-        Err(ReadEnd::Fault) => tell(sink, texts::READ_FAULT, End::ReadFault),
-        Err(ReadEnd::TooLong) => tell(sink, texts::TOO_LONG, End::TooLong),
+        Err(ReadEnd::Fault) => tell(sink, texts::READ_FAULT, End::ReadFault, End::WriteFault),
+        Err(ReadEnd::TooLong) => tell(sink, texts::TOO_LONG, End::TooLong, End::WriteFault),
         Err(ReadEnd::Memory) => End::Memory,
     }
 }

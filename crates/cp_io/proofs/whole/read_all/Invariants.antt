@@ -1,5 +1,5 @@
 -- The bytes so far are what was taken from the source. Each turn but the last takes at least one.
-use Rattle.std.proofs.Common.{ℕ, ◌-◌, ◌≤◌, vec_len}
+use Rattle.std.proofs.Common.{◌-◌, ◌≤◌, vec_len}
 use Rattle.std.specs.Io.KnownBytes.{Consumes}
 use Rattle.cp_io.proofs.whole.read_all.Given as goal
 
