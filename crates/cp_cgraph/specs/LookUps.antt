@@ -31,6 +31,7 @@ pub record IsTable (n : ℕ) (xs : List ℕ) (f : ℕ → ℕ) : Type 0 where
   pub size : length xs ≡ n
   pub value : (k : ℕ) → k < n → slice_index xs k ≡ f k
 
+-- the tables of a graph that are made of those which are read
 pub record AreLookUps (g : Clustered) (lasts depths counts : List ℕ) : Type 0 where
   pub greatest : AreLasts g lasts
   pub deep : IsTable (clusters g) depths (depth g)

@@ -20,8 +20,11 @@ use std::marker::Model;
 #[derive(Debug, Drop)]
 pub struct CGraph {
     stored: Stored,
+    // for each cluster, the greatest number of a cluster within it
     lasts: Vec<usize>,
+    // for each cluster, the number of clusters round it, with itself and without the root
     depths: Vec<usize>,
+    // for each edge, the number of clusters that it leaves
     crossed: Vec<usize>,
 }
 
@@ -37,7 +40,7 @@ impl Model for CGraph {
 }
 
 impl CGraph {
-    // The graph of these tables.
+    // The graph of these tables, with those that are made of them.
     pub(crate) fn from_stored(alloc: Global, stored: Stored) -> Result<CGraph, Memory>
         requires { IsNested stored }
         ensures { IfOk result (λ g. g ≡ stored) }

@@ -1,4 +1,5 @@
-// Tables that tell at once how clusters are nested and what edges cross.
+// Tables that tell at once how clusters are nested and what edges cross. Clusters are numbered as they
+// are opened, so those within one have numbers that follow one another.
 ghost use Rattle.std.specs.Prelude.{IfOk};
 ghost use Rattle.cp_cgraph.specs.Clustered.{edges, clusters};
 ghost use Rattle.cp_cgraph.specs.LookUps.{IsNested, AreLasts, IsTable, depth, crossed};

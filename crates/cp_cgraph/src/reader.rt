@@ -76,10 +76,10 @@ fn graph(alloc: Global, parts: &Parts, end: usize, entries: &[Entry]) -> Result<
 }
 
 /// The clustered graph that a list of keys and values says (the format is Himsolt's GML, with clusters
-/// in nested lists of their own), or its first fault. Memory linear in the number of entries, and time linear
-/// in it, on average, and in the number of places where edges cross borders; a call inside the other for each
-/// cluster that is open. Ids are looked up by a hash whose seed is fixed (SipHash-1-3), so those chosen against
-/// it may make the time quadratic, and no more.
+/// in nested lists of their own), or its first fault. Memory linear in the number of entries, and time
+/// linear in that number and the number of times that an edge leaves a cluster, on average; a call inside
+/// the other for each cluster that is open. Ids are looked up by a hash whose seed is fixed (SipHash-1-3),
+/// so those chosen against it may make the time quadratic in the number of entries, and no more.
 ///
 /// Nodes and edges are the `node` and `edge` entries of the first `graph` entry, and are numbered in
 /// their order; an edge names its ends by the ids of nodes, which may stand after it. The root list is
