@@ -2,7 +2,7 @@
 use Rattle.std.specs.Prelude.{ℕ, ℤ, ◌==◌, Bool, if◌then◌else◌, List, [], ◌∷◌, Option, Some, None}
 use Rattle.std.specs.List.{filter}
 use Rattle.std.specs.Str.{bytes_eq}
-use Rattle.cp_gml.specs.Numbers.{is_integer, integer_value}
+use Rattle.cp_gml.specs.Numbers.{integer_of}
 use Rattle.cp_gml.specs.declared.tree.Entry.{Entry}
 use Rattle.cp_gml.specs.declared.tree.GmlValue.{GmlValue}
 use Rattle.cp_gml.specs.declared.tree.GmlValue.TheVariants.{Int, Number, Str, List as Nested}
@@ -36,7 +36,7 @@ without_v (b ∷ bs) = if b == 118 then bs else (b ∷ bs)
 
 -- the id that a string spells: an optional small v and an integer
 abbrev pub spelled_id : List ℕ → Option ℤ
-spelled_id text = if is_integer (without_v text) then integer_value (without_v text) else None
+spelled_id text = integer_of (without_v text)
 
 -- the id by which a value of `vertex` names a node: an integer, or a string that spells one
 abbrev pub vertex_id : GmlValue → Option ℤ

@@ -60,3 +60,7 @@ signed_value false n = if nat_le n 2147483647 then Some (pos n) else None
 -- the value of an integer, if it is in the range of ids
 abbrev pub integer_value : List ℕ → Option ℤ
 integer_value run = signed_value (is_negative run) (decimal_value (unsigned run))
+
+-- the integer in the range of ids that a run of bytes writes
+abbrev pub integer_of : List ℕ → Option ℤ
+integer_of run = if is_integer run then integer_value run else None

@@ -15,5 +15,6 @@ mod tree;
 
 pub use fault::GmlFault;
 pub use law::one_answer;
+pub use number::integer;
 pub use reader::parse;
 pub use tree::{Entries, Entry, GmlList, GmlValue, Text};

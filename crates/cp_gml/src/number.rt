@@ -2,7 +2,7 @@
 ghost use Rattle.std.specs.Prelude.{◌≡◌, ◌≤◌, length, min};
 ghost use Rattle.std.specs.List.{prefix_len};
 ghost use Rattle.cp_gml.specs.Bytes.{is_digit};
-ghost use Rattle.cp_gml.specs.Numbers.{unsigned, is_digits, is_integer, is_exponent, is_optional_exponent, is_fraction, is_unsigned_real, is_real, decimal_value, is_negative, signed_value, integer_value};
+ghost use Rattle.cp_gml.specs.Numbers.{unsigned, is_digits, is_integer, is_exponent, is_optional_exponent, is_fraction, is_unsigned_real, is_real, decimal_value, is_negative, signed_value, integer_value, integer_of};
 
 use crate::bytes;
 
@@ -116,4 +116,16 @@ pub(crate) fn integer_value(run: &[u8]) -> Option<i32>
     ensures { result ≡ integer_value run.now }
 {
     signed(is_negative(run), magnitude(unsigned(run)))
+}
+
+/// The integer that a run of bytes writes, an optional sign and digits, if it is in the range of ids,
+/// -2147483648 to 2147483647. `None` for all other runs. Linear in the length of the run.
+pub fn integer(run: &[u8]) -> Option<i32>
+    ensures { result ≡ integer_of run.now }
+{
+    if is_integer(run) {
+        integer_value(run)
+    } else {
+        None
+    }
 }
