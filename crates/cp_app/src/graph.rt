@@ -29,8 +29,8 @@ fn list_of(alloc: Global, text: &[u8]) -> Result<GmlList, TextFault>
     }
 }
 
-/// The clustered graph that the text says, or its first fault. Linear in the text, but for the
-/// look-ups of ids.
+/// The clustered graph that the text says, or its first fault. Linear on average in the text and in the
+/// number of places where edges cross borders; look-ups of ids that are chosen against the hash cost more.
 pub(crate) fn graph_of(alloc: Global, text: &[u8]) -> Result<CGraph, TextFault>
     ensures graph { IfOk result (IsGraphText text.now) }
     ensures fault { IfErr result (IsTextFault text.now) }

@@ -25,7 +25,8 @@ fn is_check(words: &[String]) -> bool
 
 /// Runs the program: `words` are the words of the command line without the program's name. All
 /// texts go to the sink, those of refusals too. `check` reads a report and behind it a graph, and
-/// tells whether the report's layout is good for the graph. At most n log n in the number of bytes.
+/// tells whether the report's layout is good for the graph. Linear on average in the number of bytes
+/// and of places where edges cross borders; look-ups of ids that are chosen against the hash cost more.
 pub fn run<S: Source, K: Sink>(alloc: Global, words: &[String], source: &mut S, sink: &mut K) -> End
     ensures answer { IsAnswer result → Wrote (map string_bytes words.now) (S.left source.old) (K.taken sink.old) (K.taken sink.new) result }
     ensures unread { ¬ IsCheck (map string_bytes words.now) → source.new ≡ source.old }

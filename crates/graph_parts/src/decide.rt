@@ -11,7 +11,7 @@ use crate::texts;
 use cp_base::Memory;
 use std::alloc::Global;
 
-/// The end and its text. Linear in the number of bytes, but for the look-ups of ids and `bipolar`.
+/// The end and its text. Linear in the number of bytes, but for the look-ups of ids.
 pub fn decide(alloc: Global, asked: Asked, bytes: &[u8]) -> Result<(End, Vec<u8>), Memory>
     ensures answer { IfOk result (λ a. Told asked bytes.now a.0 a.1.items) }
     ensures kind { IfOk result (λ a. IsAnswer a.0) }

@@ -33,7 +33,7 @@ fn order(alloc: Global, g: &Graph) -> Result<Option<Vec<usize>>, Memory>
     Ok(Some(numbers))
 }
 
-/// The numbers that are asked for, where the graph has them. Linear, but for `bipolar`.
+/// The numbers that are asked for, where the graph has them. Linear in the numbers of vertices and edges.
 pub fn numbers_of(alloc: Global, asked: Asked, g: &Graph) -> Result<Option<Vec<usize>>, Memory>
     ensures { IfOk result (λ found. MatchOption found (¬ Fits asked g.now) (λ numbers. Fits asked g.now × AreAsked asked g.now numbers.items)) }
 {

@@ -17,8 +17,7 @@ use cp_io::{ReadEnd, Sink, Source, read_all, tell};
 use std::alloc::Global;
 
 /// Runs the program: `words` are the words of the command line without the program's name. All texts
-/// go to the sink, those of refusals too. Linear in the number of bytes, but for the look-ups of ids
-/// and `bipolar`.
+/// go to the sink, those of refusals too. Linear in the number of bytes, but for the look-ups of ids.
 pub fn run<S: Source, K: Sink>(alloc: Global, words: &[String], source: &mut S, sink: &mut K) -> End
     ensures answer { IsAnswer result → Wrote (map string_bytes words.now) (S.left source.old) (K.taken sink.old) (K.taken sink.new) result }
     ensures unread { ((a : AnyAsked) → ¬ Asks (map string_bytes words.now) a) → source.new ≡ source.old }
