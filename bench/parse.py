@@ -24,7 +24,7 @@ def flat(size):
     for i in range(nodes):
         yield "node [ id %d ]\n" % i
     for i in range(nodes):
-        yield "edge [ source %d target %d ]\n" % (i, (i * 7 + 1) % nodes)
+        yield "edge [ source %d target %d ]\n" % (i, (i + nodes // 3) % nodes)
     yield "]\n"
 
 
@@ -60,11 +60,20 @@ def clusters(size):
     yield "]" * depth + "]\n"
 
 
-def write(path, parts):
+def fitted(shape, largest):
+    """The size at which the text of a shape is not much shorter than the largest length."""
+    size = largest
+    while True:
+        length = len(REPORT) + sum(map(len, shape(size)))
+        if 0.9 * largest <= length <= largest:
+            return size
+        size = int(size * 0.97 * largest / length)
+
+
+def write(path, shape, largest):
     with open(path, "w", encoding="ascii") as out:
         out.write(REPORT)
-        for part in parts:
-            out.write(part)
+        out.writelines(shape(fitted(shape, largest)))
     return b"done"
 
 
@@ -92,7 +101,7 @@ def main():
         for shape in (flat, strings, deep, clusters):
             size = 2**20
             while size <= mebibytes * 2**20:
-                apart(lambda: write(path, shape(int(size * 0.97))))
+                apart(lambda: write(path, shape, size))
                 length = os.path.getsize(path) / 2**20
                 run, base = measured([Command([program, "check"], path, 1, b"rejected no layout\n"), sha256sum(path)])
                 shown = apart(lambda: networkx_seconds(path)).decode() if length < 9 else "-"
