@@ -14,13 +14,15 @@ import tempfile
 import time
 
 import drawings
-from measure import LARGEST_INPUT, Command, apart, arguments, measured, print_head, print_row, sha256sum
+from measure import Command, apart, arguments, measured, print_head, print_row, sha256sum
 
 COLUMNS = (
     ["shape", "nodes", "edges", "clusters", "segments", "MB"]
     + ["read s", "report s", "build s", "check s", "whole s"]
     + ["ns / n log n", "peak MB", "sha256sum s", "ratio", "networkx s"]
 )
+
+PLAIN = ("triangulation", "grid", "components")
 
 NO = b"cplan-report 1\nno\nend\n"
 
@@ -124,10 +126,10 @@ def main():
     print_head(COLUMNS)
     with tempfile.TemporaryDirectory() as folder:
         for name, (shape, number) in SHAPES.items():
-            largest = 2**20
-            while largest <= min(mebibytes * 2**20, LARGEST_INPUT):
-                print_row([name, *cells(program, folder, shape, number, largest)])
-                largest *= 8
+            # plain graphs begin with 10 thousand edges
+            for size in (0.6 if name in PLAIN else 1, 8, 64):
+                if size <= mebibytes:
+                    print_row([name, *cells(program, folder, shape, number, int(size * 2**20))])
 
 
 if __name__ == "__main__":

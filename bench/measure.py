@@ -7,9 +7,6 @@ import traceback
 
 TOP = os.path.dirname(os.path.dirname(os.path.abspath(__file__)))
 
-# The text of one input may have no more bytes than this.
-LARGEST_INPUT = 64 * 2**20
-
 # A child that reads a file, and how it has to end: its status, and its text if that matters.
 Command = collections.namedtuple("Command", "words path status text")
 
