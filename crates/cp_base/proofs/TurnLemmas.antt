@@ -1,7 +1,7 @@
 -- Turning a list, by its two parts.
 use Rattle.std.proofs.Common.{◌≡◌, ℕ, List, ◌++◌, length, take, drop, sym, ap, ap₂, ◌∙◌, take-append-drop}
 use Rattle.std.proofs.Math.Seq.{take-append_seam, drop-append_seam}
-use Rattle.cp_base.specs.Turns.{IsTurnBy}
+use Rattle.cp_lists.specs.Turns.{IsTurnBy}
 
 -- a list whose parts are those of another, exchanged, is a turn of it
 pub turned : (xs ys front back first second : List ℕ) (i : ℕ) → front ≡ take i xs → back ≡ drop i xs → first ≡ take (length back) ys → second ≡ drop (length back) ys → first ≡ back → second ≡ front → IsTurnBy xs ys i

@@ -1,6 +1,6 @@
 // A list of numbers that is meant up to turning.
 ghost use Rattle.std.specs.Prelude.{◌≡◌, ◌↔◌, IfOk, IsTrue, reverse};
-ghost use Rattle.cp_base.specs.Turns.{IsTurn};
+ghost use Rattle.cp_lists.specs.Turns.{IsTurn};
 
 use crate::Memory;
 use crate::turns::is_turn;

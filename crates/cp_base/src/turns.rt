@@ -1,6 +1,6 @@
 // Whether two lists are one cyclic list.
 ghost use Rattle.std.specs.Prelude.{◌≡◌, ◌<◌, ◌↔◌, IsTrue, length};
-ghost use Rattle.cp_base.specs.Turns.{IsTurn, IsTurnBy};
+ghost use Rattle.cp_lists.specs.Turns.{IsTurn, IsTurnBy};
 
 // Whether `ys` is `xs` with its first `i` items moved to the end.
 fn is_turn_by(xs: &[usize], ys: &[usize], i: usize) -> bool

@@ -5,8 +5,8 @@ use Rattle.std.proofs.lemmas.Bool.{cases_order}
 use Rattle.std.proofs.lemmas.List.{get_or-map, length-map}
 use Rattle.std.proofs.lemmas.List.Elements.{All-nil, All-cons}
 use Rattle.std.proofs.lemmas.List.Kept.{AllPairs-cons}
-use Rattle.cp_counting.specs.Count.{Exactly}
-use Rattle.cp_counting.proofs.ExactLists.{EachOnce}
+use Rattle.cp_lists.specs.Count.{Exactly}
+use Rattle.cp_lists.proofs.ExactLists.{EachOnce}
 
 -- items that all differ stand apart
 EachOnce-apart : (xs : List ℕ) → AllPairs (λ x y. x ≢ y) xs → EachOnce xs

@@ -4,8 +4,8 @@ use mathlib.Core.List.{reverse_aux}
 use Rattle.std.specs.Prelude.{◌==◌, reverse}
 use Rattle.std.proofs.lemmas.Bool.{cases_eq, cases_Bool, eq-eqb, ne_eqb, false≢true}
 use Rattle.std.proofs.lemmas.List.{get_or-set_same, get_or-set_other}
-use Rattle.cp_counting.specs.Count.{count, Exactly}
-use Rattle.cp_counting.proofs.ExactLists.{EachOnce, place_of}
+use Rattle.cp_lists.specs.Count.{count, Exactly}
+use Rattle.cp_lists.proofs.ExactLists.{EachOnce, place_of}
 use Rattle.cp_cgraph.specs.Clustered.{Clustered, IsClustered, edges, clusters, source, target, home, parent}
 use Rattle.cp_cgraph.specs.Crossings.{leaves, crossings}
 use Rattle.cp_cgraph.proofs.Crossing.{IsBetween, IsBetween-start, IsBetween-left, IsBetween-entered, IsBetween-end, crossings-Exactly}

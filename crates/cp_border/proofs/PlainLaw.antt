@@ -4,8 +4,8 @@ use Rattle.std.specs.Prelude.{◌==◌, ◌↔◌, filter, reverse, not}
 use Rattle.std.specs.List.{flat_map, range_with_len}
 use Rattle.std.proofs.lemmas.Bool.{cases_lt, cases_Bool, eqb-true, eqb-false}
 use Rattle.std.proofs.lemmas.List.{get_or_past, append-nil}
-use Rattle.cp_counting.specs.Count.{Exactly}
-use Rattle.cp_counting.proofs.ExactLists.{Exactly-agree}
+use Rattle.cp_lists.specs.Count.{Exactly}
+use Rattle.cp_lists.proofs.ExactLists.{Exactly-agree}
 use Rattle.cp_cgraph.specs.Clustered.{Clustered, IsClustered, nodes, edges, clusters, source, target, home, node_of}
 use Rattle.cp_cgraph.specs.Crossings.{around, crossings, contains, outward}
 use Rattle.cp_cgraph.specs.declared.layout.Layout.{Layout}

@@ -5,8 +5,8 @@ use Rattle.std.specs.List.{flat_map, range_with_len, position_or_len}
 use Rattle.std.proofs.lemmas.Bool.{cases_lt, cases_eq, eq-eqb, ne_eqb, false≢true, cond-true, cond-false}
 use Rattle.std.proofs.lemmas.List.{get_or_append_left, get_or-append-add, get_or-map, length-map}
 use Rattle.std.proofs.lemmas.List.FromFn.{length-map-range_with_len, get_or-map-range_with_len}
-use Rattle.cp_counting.specs.Count.{Exactly}
-use Rattle.cp_counting.proofs.ExactLists.{place_at, place_is}
+use Rattle.cp_lists.specs.Count.{Exactly}
+use Rattle.cp_lists.proofs.ExactLists.{place_at, place_is}
 use Rattle.cp_cgraph.specs.Clustered.{Clustered, IsClustered, nodes, edges, clusters, source, target, node_of}
 use Rattle.cp_cgraph.specs.Crossings.{leaves, crossings}
 use Rattle.cp_cgraph.specs.declared.layout.Layout.{Layout}

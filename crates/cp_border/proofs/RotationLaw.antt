@@ -4,8 +4,8 @@ use Rattle.std.proofs.Common.{◌≡◌, ℕ, suc, ◌+◌, ◌-◌, ◌*◌, �
 use Rattle.std.specs.Prelude.{◌==◌}
 use Rattle.std.specs.List.{position_or_len}
 use Rattle.std.proofs.lemmas.Bool.{cases_lt, eq-eqb, eqb-true, cond_both}
-use Rattle.cp_counting.specs.Count.{count}
-use Rattle.cp_counting.proofs.ExactLists.{Exactly-length}
+use Rattle.cp_lists.specs.Count.{count}
+use Rattle.cp_lists.proofs.ExactLists.{Exactly-length}
 use Rattle.cp_cgraph.specs.Clustered.{Clustered, IsClustered, nodes, edges, clusters, source, node_of}
 use Rattle.cp_cgraph.specs.Crossings.{contains, leaves, crossings}
 use Rattle.cp_cgraph.specs.declared.layout.Layout.{Layout}

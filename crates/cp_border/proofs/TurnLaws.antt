@@ -3,7 +3,7 @@ use Rattle.std.proofs.Common.{◌≡◌, ◌≢◌, ℕ, ◌+◌, ◌-◌, ◌<�
 use Rattle.std.specs.List.{Contains}
 use Rattle.std.proofs.lemmas.Bool.{cases_eq, cases_lt}
 use Rattle.std.proofs.lemmas.List.{get_or-set_same, get_or-set_other}
-use Rattle.cp_counting.proofs.ExactLists.{EachOnce, place_of}
+use Rattle.cp_lists.proofs.ExactLists.{EachOnce, place_of}
 use Rattle.cp_cgraph.specs.Clustered.{Clustered, IsClustered, nodes, edges, clusters}
 use Rattle.cp_cgraph.specs.Crossings.{crossings}
 use Rattle.cp_cgraph.specs.declared.layout.Layout.{Layout}

@@ -1,6 +1,6 @@
 -- Good layouts, and c-planarity (Feng, Cohen and Eades 1995) by counting.
 use Rattle.std.specs.Prelude.{ℕ, ◌+◌, ◌*◌, ◌<◌, ◌==◌, length}
-use Rattle.cp_counting.specs.Count.{Exactly}
+use Rattle.cp_lists.specs.Count.{Exactly}
 use Rattle.cp_cgraph.specs.Clustered.{Clustered, nodes, edges, clusters, node_of}
 use Rattle.cp_cgraph.specs.Crossings.{leaves}
 use Rattle.cp_cgraph.specs.declared.layout.Layout.{Layout}

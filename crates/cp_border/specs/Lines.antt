@@ -1,6 +1,6 @@
 -- The lines of a layout, and what a fault of one says.
 use Rattle.std.specs.Prelude.{ℕ, ◌+◌, ◌*◌, ◌<◌, ◌==◌, length}
-use Rattle.cp_counting.specs.Count.{Exactly}
+use Rattle.cp_lists.specs.Count.{Exactly}
 use Rattle.cp_cgraph.specs.Clustered.{Clustered, edges, node_of}
 use Rattle.cp_cgraph.specs.Crossings.{leaves}
 use Rattle.cp_cgraph.specs.declared.layout.Layout.{Layout}

@@ -1,6 +1,6 @@
 // Whether a list holds exactly what is wanted, each once, by marks that the caller lends.
 ghost use Rattle.std.specs.Prelude.{◌≡◌, ◌≢◌, ℕ, ◌<◌, ◌≤◌, ◌↔◌, Bool, true, false, IsTrue, length, slice_index, slice_index_or};
-ghost use Rattle.cp_counting.specs.Count.{count, Exactly};
+ghost use Rattle.cp_lists.specs.Count.{count, Exactly};
 
 // What tells which numbers below a bound are wanted.
 pub(crate) trait Wanted {

@@ -1,6 +1,6 @@
 // Which line of a layout is the first wrong one.
 ghost use Rattle.std.specs.Prelude.{◌≡◌, ℕ, ◌+◌, ◌*◌, ◌<◌, ◌≤◌, ◌↔◌, ◌==◌, false, IsTrue, IfOk, MatchOption, length, slice_index, slice_index_or};
-ghost use Rattle.cp_counting.specs.Count.{count};
+ghost use Rattle.cp_lists.specs.Count.{count};
 ghost use Rattle.cp_cgraph.specs.Clustered.{nodes, edges, clusters, node_of};
 ghost use Rattle.cp_cgraph.specs.Crossings.{leaves};
 ghost use Rattle.cp_border.specs.Good.{IsRightNode, IsFirstWrongNode, IsRightCluster};

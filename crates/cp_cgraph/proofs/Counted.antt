@@ -4,7 +4,7 @@ use Rattle.std.proofs.Common.{◌≡◌, ℕ, suc, ◌+◌, ◌-◌, ◌<◌, �
 use Rattle.std.specs.Prelude.{◌==◌, reverse}
 use Rattle.std.specs.List.{position_or_len}
 use Rattle.std.proofs.lemmas.List.{get_or-reverse, length-reverse, get_or_append_left, get_or-append-add, get_or_at}
-use Rattle.cp_counting.proofs.ExactLists.{EachOnce, place_is}
+use Rattle.cp_lists.proofs.ExactLists.{EachOnce, place_is}
 use Rattle.cp_cgraph.specs.Clustered.{Clustered, IsClustered, clusters, source, target, home, parent}
 use Rattle.cp_cgraph.specs.Crossings.{crossings}
 use Rattle.cp_cgraph.proofs.Ancestors.{IsLower-clustered}

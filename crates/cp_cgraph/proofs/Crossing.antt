@@ -8,8 +8,8 @@ use Rattle.std.proofs.lemmas.List.{append-nil, get_or-reverse, length-reverse, g
 use Rattle.std.proofs.lemmas.List.Elements.{All-append, All-filter, filter_passes, Contains-append_left, Contains-append_right}
 use Rattle.std.proofs.lemmas.List.Folds.{Any-from_list_any}
 use Rattle.std.proofs.lemmas.List.Kept.{AllPairs-filter}
-use Rattle.cp_counting.specs.Count.{Exactly}
-use Rattle.cp_counting.proofs.ExactLists.{EachOnce}
+use Rattle.cp_lists.specs.Count.{Exactly}
+use Rattle.cp_lists.proofs.ExactLists.{EachOnce}
 use Rattle.cp_cgraph.specs.Clustered.{Clustered, IsClustered, edges, clusters, source, target, home, parent}
 use Rattle.cp_cgraph.specs.Crossings.{contains, leaves, crossings}
 use Rattle.cp_cgraph.proofs.Ancestors.{IsLower, IsLower-clustered, IsOnChain, chain, chain_more, chain_members, chain_falls, chain_none, encloses, encloses_step, encloses_higher}

@@ -1,7 +1,7 @@
 // Clustered graphs as they are stored, and what they tell of their nodes, edges and clusters.
 ghost use Rattle.std.specs.Prelude.{◌≡◌, ◌^◌, ◌<◌, ◌≤◌, ◌↔◌, ◌==◌, true, IfOk, length};
 ghost use Rattle.std.specs.List.{filter, position_or_len, range_with_len};
-ghost use Rattle.cp_counting.specs.Count.{Exactly};
+ghost use Rattle.cp_lists.specs.Count.{Exactly};
 ghost use Rattle.cp_cgraph.specs.Clustered.{IsClustered, nodes, edges, clusters, source, target, parent, home, id};
 ghost use Rattle.cp_cgraph.specs.Crossings.{contains, leaves, crossings, IsWithin};
 ghost use Rattle.cp_cgraph.specs.LookUps.{IsNested, AreFromTo, depth};

@@ -2,8 +2,8 @@
 use Rattle.std.proofs.Common.{◌≡◌, ℕ, zero, suc, ◌+◌, ◌-◌, ◌/◌, ◌<◌, ◌≤◌, List, length, get_or, sym, refl, ap, ◌∙◌, subst, inl, inr, ⊎_elim, arith}
 use Rattle.std.specs.List.{Contains}
 use Rattle.std.proofs.lemmas.Bool.{cases_eq, cases_lt}
-use Rattle.cp_counting.specs.Connected.{Joins, Connected, here, step}
-use Rattle.cp_counting.proofs.ClassLabels.{Connected-trans}
+use Rattle.cp_orbits.specs.Connected.{Joins, Connected, here, step}
+use Rattle.cp_orbits.proofs.ClassLabels.{Connected-trans}
 use Rattle.cp_conn.specs.Darts.{start, finish}
 use Rattle.cp_conn.specs.Blocks.{HaveNoLoop, IsSimpleCycle, HasEdge, AreInOneBlock}
 use Rattle.cp_conn.proofs.DartChains.{dart_joins, Joins-sym}

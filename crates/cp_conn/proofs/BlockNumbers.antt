@@ -2,11 +2,11 @@
 use Rattle.std.proofs.Common.{◌≡◌, ℕ, ◌<◌, ◌↔◌, List, length, get_or, eqb, sym, ap, ◌∙◌, subst, inl, inr, ⊎_elim, arith}
 use Rattle.std.proofs.lemmas.Bool.{eqb-true, eq-eqb}
 use Rattle.cp_base.specs.Graphs.{AreWithin}
-use Rattle.cp_counting.specs.Count.{count, IsCount}
-use Rattle.cp_counting.specs.Classes.{labels, classes}
-use Rattle.cp_counting.specs.Connected.{Joins, Connected}
-use Rattle.cp_counting.proofs.Counting.{count_agree}
-use Rattle.cp_counting.proofs.ClassLabels.{labels-le, labels-labels, connected_label, labels_connected, Connected-trans, Connected-sym}
+use Rattle.cp_lists.specs.Count.{count, IsCount}
+use Rattle.cp_orbits.specs.Classes.{labels, classes}
+use Rattle.cp_orbits.specs.Connected.{Joins, Connected}
+use Rattle.cp_lists.proofs.Counting.{count_agree}
+use Rattle.cp_orbits.proofs.ClassLabels.{labels-le, labels-labels, connected_label, labels_connected, Connected-trans, Connected-sym}
 use Rattle.cp_conn.specs.Blocks.{HaveNoLoop, AreInOneBlock, Touches}
 use Rattle.cp_conn.specs.Links.{AreBlockLinks}
 use Rattle.cp_conn.specs.Numbering.{IsLeast, AreNumbered}

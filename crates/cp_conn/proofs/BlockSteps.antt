@@ -2,9 +2,9 @@
 use Rattle.std.proofs.Common.{◌≡◌, ℕ, zero, suc, ◌+◌, ◌-◌, ◌*◌, ◌/◌, ◌%◌, ◌<◌, ◌≤◌, ◌⊎◌, List, [], ◌∷◌, ◌++◌, length, get_or, take, drop, cond, eqb, sym, refl, ap, ◌∙◌, subst, inl, inr, ⊎_elim, arith, length-append}
 use Rattle.std.proofs.lemmas.Bool.{cases_eq, cases_lt, eq-eqb, ne_eqb}
 use Rattle.std.proofs.lemmas.List.{get_or_push, length_push, get_or_append_left, get_or-append_right, get_or-drop, get_or-take, length-drop, take-append-drop, length-take-le}
-use Rattle.cp_counting.specs.Connected.{Joins, Connected, here, step}
-use Rattle.cp_counting.specs.Classes.{labels}
-use Rattle.cp_counting.proofs.ClassLabels.{connected_labels}
+use Rattle.cp_orbits.specs.Connected.{Joins, Connected, here, step}
+use Rattle.cp_orbits.specs.Classes.{labels}
+use Rattle.cp_orbits.proofs.ClassLabels.{connected_labels}
 use Rattle.cp_conn.specs.Darts.{start, finish}
 use Rattle.cp_conn.specs.CutVertex.{avoids, without_vertex}
 use Rattle.cp_conn.specs.Blocks.{IsSimpleCycle, HasEdge, AreInOneBlock}

@@ -2,8 +2,8 @@
 use Rattle.std.proofs.Common.{◌≡◌, ℕ, ◌+◌, ◌<◌, ◌≤◌, ◌⊎◌, ◌↔◌, Bool, true, false, ◌||◌, eqb, List, [], length, get_or, sym, refl, ap, ◌∙◌, subst, inl, inr, ⊎_elim, arith}
 use Rattle.std.proofs.lemmas.Bool.{cases_eq, eq-eqb, eqb-true, ne_eqb, false≢true}
 use Rattle.cp_base.specs.Graphs.{AreWithin}
-use Rattle.cp_counting.specs.Classes.{labels}
-use Rattle.cp_counting.specs.Connected.{Joins}
+use Rattle.cp_orbits.specs.Classes.{labels}
+use Rattle.cp_orbits.specs.Connected.{Joins}
 use Rattle.cp_conn.specs.CutVertex.{without_vertex}
 use Rattle.cp_conn.specs.Grouping.{touches, other_end, key_of, AreGrouped, IsPlaced, IsPut}
 use Rattle.cp_conn.specs.Blocks.{HaveNoLoop, AreInOneBlock, Touches, AreBlocksAt, item}

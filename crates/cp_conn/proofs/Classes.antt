@@ -1,10 +1,10 @@
 -- Classes that are numbered by their least members.
 use Rattle.std.proofs.Common.{◌≡◌, ℕ, List, length, get_or, eqb, sym, ap, ◌∙◌, subst, ◌<◌, ◌≤◌, arith}
-use Rattle.cp_counting.specs.Count.{count, IsCount}
-use Rattle.cp_counting.specs.Connected.{Connected}
-use Rattle.cp_counting.specs.Classes.{labels, classes}
-use Rattle.cp_counting.proofs.Counting.{count_agree}
-use Rattle.cp_counting.proofs.ClassLabels.{labels-le, labels-labels, connected_label, Connected-sym, leads_component, IsCount-classes}
+use Rattle.cp_lists.specs.Count.{count, IsCount}
+use Rattle.cp_orbits.specs.Connected.{Connected}
+use Rattle.cp_orbits.specs.Classes.{labels, classes}
+use Rattle.cp_lists.proofs.Counting.{count_agree}
+use Rattle.cp_orbits.proofs.ClassLabels.{labels-le, labels-labels, connected_label, Connected-sym, leads_component, IsCount-classes}
 use Rattle.cp_conn.specs.Numbering.{IsLeast, AreNumbered}
 
 -- the least vertices of components give the numbers of the components

@@ -4,9 +4,9 @@ use Rattle.std.specs.List.{Contains, filter}
 use Rattle.std.proofs.lemmas.Bool.{cases_eq, false≢true, not_from_true, eq-eqb, ne_eqb}
 use Rattle.std.proofs.lemmas.List.{get_or_read}
 use Rattle.cp_base.specs.Graphs.{AreWithin}
-use Rattle.cp_counting.specs.Classes.{labels}
-use Rattle.cp_counting.specs.Connected.{Joins}
-use Rattle.cp_counting.proofs.ClassLabels.{labels_connected, connected_labels, Contains-head, Contains-tail}
+use Rattle.cp_orbits.specs.Classes.{labels}
+use Rattle.cp_orbits.specs.Connected.{Joins}
+use Rattle.cp_orbits.proofs.ClassLabels.{labels_connected, connected_labels, Contains-head, Contains-tail}
 use Rattle.cp_conn.specs.CutVertex.{avoids, without_vertex, IsNeighbour, HasNeighbourApart, IsCutVertex}
 use Rattle.cp_conn.proofs.DartChains.{Contains-at, within_pair, within_joined}
 

@@ -5,9 +5,9 @@ use Rattle.std.specs.List.{Contains}
 use Rattle.std.proofs.lemmas.Bool.{cases_eq, eq-eqb, ne_eqb}
 use Rattle.std.proofs.lemmas.List.{get_or_default, get_or-set_same, get_or-set_other, get_or_append_left, get_or_push, get_or_read, get_or-replicate, length-set, length_push, length-replicate}
 use Rattle.cp_base.specs.Graphs.{AreWithin}
-use Rattle.cp_counting.specs.Connected.{Joins, here, step}
-use Rattle.cp_counting.specs.Classes.{labels}
-use Rattle.cp_counting.proofs.ClassLabels.{labels_connected}
+use Rattle.cp_orbits.specs.Connected.{Joins, here, step}
+use Rattle.cp_orbits.specs.Classes.{labels}
+use Rattle.cp_orbits.proofs.ClassLabels.{labels_connected}
 use Rattle.cp_conn.specs.Darts.{start, finish, IsEntry, AreChained}
 
 -- an even dart starts at the first end of its edge

@@ -6,9 +6,9 @@ use Rattle.std.proofs.lemmas.Bool.{cases_eq, cases_lt}
 use Rattle.std.proofs.lemmas.List.{get_or-set_same, get_or-set_other, get_or_append_left, get_or_push, get_or_read, get_or-replicate, length-set, length_push, length-replicate}
 use Rattle.std.proofs.lemmas.List.Sums.{sum_by-set}
 use Rattle.cp_base.specs.Graphs.{AreWithin}
-use Rattle.cp_counting.specs.Count.{without}
-use Rattle.cp_counting.specs.Connected.{Joins}
-use Rattle.cp_counting.proofs.Counting.{count_all, count_agree, count_without, without_at, without_other}
+use Rattle.cp_lists.specs.Count.{without}
+use Rattle.cp_orbits.specs.Connected.{Joins}
+use Rattle.cp_lists.proofs.Counting.{count_all, count_agree, count_without, without_at, without_other}
 use Rattle.cp_conn.specs.Darts.{start, finish, IsEntry, AreChained}
 use Rattle.cp_conn.specs.Search.{is_unmet}
 use Rattle.cp_conn.specs.SearchForest.{Above, itself, child, Hangs, IsPlacedBelow, IsUpright, IsSearchForest}

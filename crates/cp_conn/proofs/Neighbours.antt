@@ -2,7 +2,7 @@
 use Rattle.std.proofs.Common.{◌≡◌, ℕ, ◌+◌, ◌<◌, List, length, get_or, sym, ap, ◌∙◌, subst, inl, inr, ⊎_elim, arith}
 use Rattle.std.proofs.lemmas.Bool.{cases_eq}
 use Rattle.std.proofs.lemmas.List.{get_or_default}
-use Rattle.cp_counting.specs.Connected.{Joins}
+use Rattle.cp_orbits.specs.Connected.{Joins}
 use Rattle.cp_conn.specs.CutVertex.{IsNeighbour}
 use Rattle.cp_conn.proofs.DartChains.{Contains-at}
 

@@ -2,9 +2,9 @@
 use Rattle.std.proofs.Common.{◌≡◌, ℕ, zero, suc, ◌+◌, ◌-◌, ◌*◌, ◌/◌, ◌%◌, ◌<◌, ◌≤◌, ◌⊎◌, ◌↔◌, List, [], ◌∷◌, ◌++◌, length, get_or, sym, refl, ap, ◌∙◌, subst, inl, inr, ⊎_elim, arith}
 use Rattle.std.proofs.lemmas.Bool.{cases_eq, cases_lt}
 use Rattle.std.proofs.lemmas.List.{get_or_push, length_push}
-use Rattle.cp_counting.specs.Classes.{labels}
-use Rattle.cp_counting.specs.Connected.{Joins, Connected}
-use Rattle.cp_counting.proofs.ClassLabels.{connected_labels}
+use Rattle.cp_orbits.specs.Classes.{labels}
+use Rattle.cp_orbits.specs.Connected.{Joins, Connected}
+use Rattle.cp_orbits.proofs.ClassLabels.{connected_labels}
 use Rattle.cp_conn.specs.Darts.{start, finish}
 use Rattle.cp_conn.specs.CutVertex.{avoids, without_vertex}
 use Rattle.cp_conn.specs.Blocks.{IsSimpleCycle, HasEdge, AreInOneBlock}

@@ -1,7 +1,7 @@
 -- Paths of darts, and simple cycles that they close.
 use Rattle.std.proofs.Common.{◌≡◌, ℕ, zero, suc, ◌*◌, ◌<◌, ◌⊎◌, List, [], ◌∷◌, ◌++◌, length, get_or, sym, refl, ◌∙◌, subst, inl, inr, ⊎_elim, arith}
 use Rattle.std.proofs.lemmas.Bool.{cases_eq, cases_lt}
-use Rattle.cp_counting.specs.Connected.{Connected, here, step}
+use Rattle.cp_orbits.specs.Connected.{Connected, here, step}
 use Rattle.cp_conn.specs.Darts.{start, finish}
 use Rattle.cp_conn.specs.CutVertex.{avoids, without_vertex}
 use Rattle.cp_conn.proofs.DartChains.{dart_of, Joins-sym}

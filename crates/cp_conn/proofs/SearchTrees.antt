@@ -4,9 +4,9 @@ use Rattle.std.specs.Prelude.{replicate}
 use Rattle.std.proofs.lemmas.Bool.{cases_eq, cases_lt}
 use Rattle.std.proofs.lemmas.List.{get_or-replicate, get_or_default, length-replicate, length-set}
 use Rattle.cp_base.specs.Graphs.{AreWithin}
-use Rattle.cp_counting.specs.Connected.{Joins, Connected, here, step}
-use Rattle.cp_counting.proofs.Counting.{count_none}
-use Rattle.cp_counting.proofs.ClassLabels.{Connected-more}
+use Rattle.cp_orbits.specs.Connected.{Joins, Connected, here, step}
+use Rattle.cp_lists.proofs.Counting.{count_none}
+use Rattle.cp_orbits.proofs.ClassLabels.{Connected-more}
 use Rattle.cp_conn.specs.Darts.{start, finish, AreChained}
 use Rattle.cp_conn.specs.CutVertex.{avoids, without_vertex, AreBiconnected, IsNeighbour}
 use Rattle.cp_conn.specs.Search.{is_unmet}

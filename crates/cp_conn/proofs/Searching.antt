@@ -5,11 +5,11 @@ use Rattle.std.specs.List.{Contains}
 use Rattle.std.proofs.lemmas.Bool.{cases_eq, cases_lt, lt-ltb, le-ltb, false≢true}
 use Rattle.std.proofs.lemmas.List.{get_or-set_same, get_or-set_other, get_or_append_left, get_or_push, get_or_read, get_or-replicate, length-set, length_push, length-replicate}
 use Rattle.cp_base.specs.Graphs.{AreWithin}
-use Rattle.cp_counting.specs.Count.{without}
-use Rattle.cp_counting.specs.Connected.{Joins}
-use Rattle.cp_counting.specs.Classes.{labels}
-use Rattle.cp_counting.proofs.Counting.{count_agree, count_without, without_at, without_other}
-use Rattle.cp_counting.proofs.ClassLabels.{labels-le, labels-keeps, Respects-from}
+use Rattle.cp_lists.specs.Count.{without}
+use Rattle.cp_orbits.specs.Connected.{Joins}
+use Rattle.cp_orbits.specs.Classes.{labels}
+use Rattle.cp_lists.proofs.Counting.{count_agree, count_without, without_at, without_other}
+use Rattle.cp_orbits.proofs.ClassLabels.{labels-le, labels-keeps, Respects-from}
 use Rattle.cp_conn.specs.Darts.{start, finish, IsEntry, AreChained}
 use Rattle.cp_conn.specs.Search.{is_unmet, AreMet, AreNear, AreDone, GoesOn}
 use Rattle.cp_conn.proofs.DartChains.{dart_of, within_pair, within_joined, start_within, finish_within, labels_dart}

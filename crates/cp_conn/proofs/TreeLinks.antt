@@ -5,9 +5,9 @@ use Rattle.std.proofs.lemmas.Bool.{cases_eq, cases_lt, lt-ltb, le-ltb}
 use Rattle.std.proofs.lemmas.List.{get_or_read}
 use Rattle.std.proofs.lemmas.List.Elements.{Contains-append_cases, Contains-append_left, Contains-append_right}
 use Rattle.cp_base.specs.Graphs.{AreWithin}
-use Rattle.cp_counting.specs.Connected.{Joins, Connected, here, step}
-use Rattle.cp_counting.specs.Classes.{labels}
-use Rattle.cp_counting.proofs.ClassLabels.{Contains-head, connected_labels, Connected-trans, Connected-sym, Connected-pair}
+use Rattle.cp_orbits.specs.Connected.{Joins, Connected, here, step}
+use Rattle.cp_orbits.specs.Classes.{labels}
+use Rattle.cp_orbits.proofs.ClassLabels.{Contains-head, connected_labels, Connected-trans, Connected-sym, Connected-pair}
 use Rattle.cp_conn.specs.Darts.{start, finish}
 use Rattle.cp_conn.specs.CutVertex.{avoids, without_vertex}
 use Rattle.cp_conn.specs.Blocks.{HaveNoLoop, AreInOneBlock, Touches}

@@ -1,7 +1,7 @@
 -- Cut vertices (Hopcroft, Tarjan 1973).
 use Rattle.std.specs.Prelude.{◌≡◌, ◌≢◌, ℕ, ◌<◌, Bool, not, ◌&&◌, eqb, List, filter, slice_index}
 use Rattle.std.specs.List.{Contains}
-use Rattle.cp_counting.specs.Connected.{Joins, Connected}
+use Rattle.cp_orbits.specs.Connected.{Joins, Connected}
 
 -- the pair does not touch v
 abbrev pub avoids : ℕ → ℕ × ℕ → Bool

@@ -1,7 +1,7 @@
 -- What holds within a depth-first search.
 use Rattle.std.specs.Prelude.{◌≡◌, ℕ, suc, ◌+◌, ◌*◌, ◌<◌, ◌≤◌, ◌⊎◌, List, length, slice_index}
 use Rattle.std.specs.List.{sum_by}
-use Rattle.cp_counting.specs.Count.{count}
+use Rattle.cp_lists.specs.Count.{count}
 use Rattle.cp_conn.specs.Darts.{start, finish, IsEntry}
 use Rattle.cp_conn.specs.Search.{is_unmet}
 use Rattle.cp_conn.specs.SearchForest.{Above, IsPlacedBelow, IsUpright}

@@ -1,7 +1,7 @@
 -- Links between edges of one block.
 use Rattle.std.specs.Prelude.{ℕ, ◌<◌, List, length}
 use Rattle.std.specs.List.{Contains}
-use Rattle.cp_counting.specs.Connected.{Connected}
+use Rattle.cp_orbits.specs.Connected.{Connected}
 use Rattle.cp_conn.specs.Blocks.{AreInOneBlock, Touches}
 
 -- each link is between edges of one block, and the edges of one block at each vertex below bound are connected by links

@@ -1,6 +1,6 @@
 -- Classes of a relation on numbers, numbered by their least members.
 use Rattle.std.specs.Prelude.{◌≡◌, ℕ, ◌<◌, ◌≤◌, List, length, slice_index}
-use Rattle.cp_counting.specs.Count.{IsCount}
+use Rattle.cp_lists.specs.Count.{IsCount}
 
 -- l is the least number that R relates it to, so it stands for its class
 abbrev pub IsLeast : (ℕ → ℕ → Type 0) → ℕ → Type 0

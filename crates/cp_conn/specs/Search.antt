@@ -1,9 +1,9 @@
 -- What holds within a search through a graph.
 use Rattle.std.specs.Prelude.{◌≡◌, ℕ, ◌+◌, ◌<◌, ◌≤◌, Bool, not, nat_lt, List, length, slice_index}
 use Rattle.std.specs.List.{Contains}
-use Rattle.cp_counting.specs.Count.{count}
-use Rattle.cp_counting.specs.Classes.{labels}
-use Rattle.cp_counting.specs.Connected.{Joins}
+use Rattle.cp_lists.specs.Count.{count}
+use Rattle.cp_orbits.specs.Classes.{labels}
+use Rattle.cp_orbits.specs.Connected.{Joins}
 
 -- the vertex was not met
 abbrev pub is_unmet : ℕ → List ℕ → ℕ → Bool

@@ -1,7 +1,7 @@
 -- Search forests: each vertex hangs below another or is a root, and each edge goes up or down within a tree
 -- (Tarjan 1972; Hopcroft, Tarjan 1973).
 use Rattle.std.specs.Prelude.{◌≡◌, ℕ, ◌*◌, ◌<◌, ◌⊎◌, List, length, slice_index, slice_index_or}
-use Rattle.cp_counting.specs.Connected.{Joins}
+use Rattle.cp_orbits.specs.Connected.{Joins}
 use Rattle.cp_conn.specs.Darts.{start, finish}
 
 -- a is b, or going up from b leads to a

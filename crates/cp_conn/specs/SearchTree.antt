@@ -1,7 +1,7 @@
 -- Search trees of biconnected graphs, over the places of the vertices in the order in which a depth-first search met
 -- them (Hopcroft, Tarjan 1973).
 use Rattle.std.specs.Prelude.{◌≡◌, ℕ, ◌<◌, ◌⊎◌, true, List, length, slice_index}
-use Rattle.cp_counting.specs.Count.{Exactly}
+use Rattle.cp_lists.specs.Count.{Exactly}
 use Rattle.cp_conn.specs.CutVertex.{IsNeighbour}
 
 -- the vertices at two places of the order are adjacent

@@ -1,6 +1,6 @@
 // The components of a graph.
 ghost use Rattle.std.specs.Prelude.{IfOk};
-ghost use Rattle.cp_counting.specs.Connected.{Connected};
+ghost use Rattle.cp_orbits.specs.Connected.{Connected};
 ghost use Rattle.cp_conn.specs.Numbering.{AreNumbered};
 
 use crate::numbering::numbers_of;

@@ -1,6 +1,6 @@
 // Numbers of classes, from the least member of each class.
 ghost use Rattle.std.specs.Prelude.{◌≡◌, ℕ, ◌<◌, ◌≤◌, eqb, length, slice_index, IfOk};
-ghost use Rattle.cp_counting.specs.Count.{count};
+ghost use Rattle.cp_lists.specs.Count.{count};
 
 use cp_base::Memory;
 use std::alloc::Global;

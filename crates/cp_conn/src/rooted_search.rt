@@ -1,7 +1,7 @@
 // Search trees of biconnected graphs.
 ghost use Rattle.std.specs.Prelude.{◌≡◌, ℕ, ◌<◌, length, slice_index, slice_index_or, IfOk, MatchBool};
 ghost use Rattle.cp_base.specs.Graphs.{AreWithin};
-ghost use Rattle.cp_counting.specs.Connected.{Joins, Connected};
+ghost use Rattle.cp_orbits.specs.Connected.{Joins, Connected};
 ghost use Rattle.cp_conn.specs.CutVertex.{AreBiconnected, IsNeighbour};
 ghost use Rattle.cp_conn.specs.Deepening.{IsGrown};
 ghost use Rattle.cp_conn.specs.SearchForest.{IsSearchForest};

@@ -1,7 +1,7 @@
 // A search through a graph, breadth first.
 ghost use Rattle.std.specs.Prelude.{◌≡◌, ℕ, ◌+◌, ◌*◌, ◌<◌, ◌≤◌, length, slice_index, IfOk, OnOk};
 ghost use Rattle.cp_base.specs.Graphs.{AreWithin};
-ghost use Rattle.cp_counting.specs.Classes.{labels};
+ghost use Rattle.cp_orbits.specs.Classes.{labels};
 ghost use Rattle.cp_conn.specs.Darts.{start, finish, AreChained};
 ghost use Rattle.cp_conn.specs.Search.{AreMet, AreNear, AreDone, GoesOn};
 

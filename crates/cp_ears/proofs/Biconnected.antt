@@ -1,9 +1,9 @@
 -- A graph of one block stays connected where a vertex is removed.
 use Rattle.std.proofs.Common.{◌≡◌, ◌≢◌, ℕ, ◌<◌, ◌⊎◌, List, length, get_or, sym, refl, ap, ◌∙◌, subst, inl, inr, ⊎_elim}
 use Rattle.std.proofs.lemmas.Bool.{cases_eq}
-use Rattle.cp_counting.specs.Classes.{labels}
-use Rattle.cp_counting.specs.Connected.{Joins}
-use Rattle.cp_counting.proofs.ClassLabels.{connected_labels}
+use Rattle.cp_orbits.specs.Classes.{labels}
+use Rattle.cp_orbits.specs.Connected.{Joins}
+use Rattle.cp_orbits.proofs.ClassLabels.{connected_labels}
 use Rattle.cp_conn.specs.Blocks.{HaveNoLoop, AreInOneBlock, Touches}
 use Rattle.cp_conn.specs.CutVertex.{avoids, without_vertex, AreBiconnected}
 use Rattle.cp_conn.proofs.DartChains.{Contains-at, Joins-sym, labels_joined}

@@ -2,9 +2,9 @@
 use Rattle.std.proofs.Common.{◌≡◌, ◌≢◌, ℕ, ◌+◌, ◌-◌, ◌<◌, List, length, get_or, sym, refl, ap, ◌∙◌, subst, ⊎_elim, arith}
 use Rattle.std.proofs.lemmas.List.{get_or_default}
 use Rattle.cp_base.specs.Graphs.{PlainGraph}
-use Rattle.cp_counting.specs.Connected.{Joins}
-use Rattle.cp_counting.specs.Orbits.{Permutes}
-use Rattle.cp_counting.proofs.OrbitLaws.{Permutes-onto}
+use Rattle.cp_orbits.specs.Connected.{Joins}
+use Rattle.cp_orbits.specs.Orbits.{Permutes}
+use Rattle.cp_orbits.proofs.OrbitLaws.{Permutes-onto}
 use Rattle.cp_conn.specs.Blocks.{HaveNoLoop}
 use Rattle.cp_conn.specs.CutVertex.{IsNeighbour}
 use Rattle.cp_conn.specs.SearchTree.{IsSearchTree, AreJoinedAt}

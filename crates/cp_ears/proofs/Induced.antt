@@ -3,8 +3,8 @@ use Rattle.std.proofs.Common.{◌≡◌, ℕ, zero, suc, ◌+◌, ◌-◌, ◌<�
 use Rattle.std.proofs.lemmas.Bool.{cases_eq, eq-eqb}
 use Rattle.std.proofs.lemmas.List.{get_or-drop, get_or-take, length-take}
 use Rattle.cp_base.specs.Graphs.{PlainGraph}
-use Rattle.cp_counting.specs.Connected.{Connected, here, step}
-use Rattle.cp_counting.proofs.ClassLabels.{Connected-trans, Connected-sym}
+use Rattle.cp_orbits.specs.Connected.{Connected, here, step}
+use Rattle.cp_orbits.proofs.ClassLabels.{Connected-trans, Connected-sym}
 use Rattle.cp_conn.proofs.DartChains.{Joins-sym}
 use Rattle.cp_conn.proofs.CutVertices.{kept_of}
 use Rattle.cp_ears.specs.Bipolar.{AreAdjacent, IsBipolar}

@@ -1,8 +1,8 @@
 -- Edges with equal block numbers are in one block.
 use Rattle.std.proofs.Common.{◌≡◌, ℕ, suc, ◌<◌, List, length, get_or, inl, sym, refl, ◌∙◌, subst, ⊎_elim, arith}
 use Rattle.std.proofs.lemmas.Bool.{cases_eq, cases_lt}
-use Rattle.cp_counting.specs.Count.{count, IsCount}
-use Rattle.cp_counting.proofs.Counting.{IsCount-next_yes, IsCount-unique, count_higher}
+use Rattle.cp_lists.specs.Count.{count, IsCount}
+use Rattle.cp_lists.proofs.Counting.{IsCount-next_yes, IsCount-unique, count_higher}
 use Rattle.cp_conn.specs.Blocks.{HaveNoLoop, AreInOneBlock}
 use Rattle.cp_conn.specs.Numbering.{IsLeast, HasNumber, AreNumbered}
 use Rattle.cp_conn.proofs.BlockClasses.{block-sym, block-trans}

@@ -2,8 +2,8 @@
 use Rattle.std.specs.Prelude.{◌≡◌, ℕ, ◌+◌, ◌-◌, ◌<◌, true, List, length, slice_index}
 use Rattle.std.specs.List.{Contains}
 use Rattle.cp_base.specs.Graphs.{PlainGraph}
-use Rattle.cp_counting.specs.Count.{Exactly}
-use Rattle.cp_counting.specs.Connected.{Joins}
+use Rattle.cp_lists.specs.Count.{Exactly}
+use Rattle.cp_orbits.specs.Connected.{Joins}
 use Rattle.cp_conn.specs.Blocks.{AreInOneBlock, Touches}
 
 -- all edges are in one block

@@ -1,6 +1,6 @@
 -- Graphs that some of the vertices induce.
 use Rattle.std.specs.Prelude.{ℕ, ◌<◌, Bool, false, ◌||◌, ◌&&◌, eqb, List, [], ◌∷◌, length, slice_index, filter}
-use Rattle.cp_counting.specs.Connected.{Connected}
+use Rattle.cp_orbits.specs.Connected.{Connected}
 
 -- x is one of the items
 abbrev pub is_item : List ℕ → ℕ → Bool

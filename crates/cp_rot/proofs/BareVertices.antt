@@ -1,13 +1,13 @@
 -- Vertices more at which no dart stands.
 use Rattle.std.proofs.Common.{◌≡◌, ℕ, suc, ◌+◌, ◌*◌, ◌<◌, ◌≤◌, true, cond, not, ltb, eqb, sym, refl, ap, ◌∙◌, ⊎_elim, arith}
 use Rattle.std.proofs.lemmas.Bool.{cases_lt, cond-true, cond-false, lt-ltb, le-ltb, eq-eqb, not_from_false}
-use Rattle.cp_counting.specs.Classes.{labels}
-use Rattle.cp_counting.specs.Faces.{Rotates, ends_upto, stands, bare, faces, components}
-use Rattle.cp_counting.proofs.Counting.{count_all, count_inject}
-use Rattle.cp_counting.proofs.ClassLabels.{labels-keeps}
-use Rattle.cp_counting.proofs.Faces.{stands_none}
-use Rattle.cp_counting.proofs.Renaming.{Respects-ends}
-use Rattle.cp_counting.proofs.Parts.{count_add}
+use Rattle.cp_orbits.specs.Classes.{labels}
+use Rattle.cp_faces.specs.Faces.{Rotates, ends_upto, stands, bare, faces, components}
+use Rattle.cp_lists.proofs.Counting.{count_all, count_inject}
+use Rattle.cp_orbits.proofs.ClassLabels.{labels-keeps}
+use Rattle.cp_faces.proofs.Faces.{stands_none}
+use Rattle.cp_faces.proofs.Renaming.{Respects-ends}
+use Rattle.cp_faces.proofs.Parts.{count_add}
 
 -- numbers below n and below m that are given to each other are equally many
 pub same_size : (n m : ℕ) (p q : ℕ → ℕ) → ((x : ℕ) → x < n → (p x < m) × (q (p x) ≡ x)) → ((x : ℕ) → x < m → (q x < n) × (p (q x) ≡ x)) → n ≡ m

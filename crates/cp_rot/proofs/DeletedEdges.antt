@@ -1,12 +1,12 @@
 -- An edge left out of a rotation system.
 use Rattle.std.proofs.Common.{◌≡◌, ℕ, suc, ◌+◌, ◌-◌, ◌*◌, ◌/◌, ◌%◌, ◌<◌, ◌↔◌, map, sym, refl, ap, ap₂, ◌∙◌, subst, arith}
-use Rattle.cp_counting.specs.Orbits.{exchange}
-use Rattle.cp_counting.specs.CyclicLists.{but, follow}
-use Rattle.cp_counting.specs.Faces.{Turns, faces, components, drop_edge, on_edges, renamed_at, renamed_next}
-use Rattle.cp_counting.proofs.OrbitLaws.{exchange_left, exchange-below, exchange-exchange}
-use Rattle.cp_counting.proofs.Renaming.{on_edges_even, on_edges_odd}
-use Rattle.cp_counting.proofs.Insertions.{drop_edge-agree}
-use Rattle.cp_counting.proofs.Rewrites.{deleted-zero}
+use Rattle.cp_orbits.specs.Orbits.{exchange}
+use Rattle.cp_lists.specs.CyclicLists.{but, follow}
+use Rattle.cp_faces.specs.Faces.{Turns, faces, components, drop_edge, on_edges, renamed_at, renamed_next}
+use Rattle.cp_orbits.proofs.OrbitLaws.{exchange_left, exchange-below, exchange-exchange}
+use Rattle.cp_faces.proofs.Renaming.{on_edges_even, on_edges_odd}
+use Rattle.cp_faces.proofs.Insertions.{drop_edge-agree}
+use Rattle.cp_faces.proofs.Rewrites.{deleted-zero}
 use Rattle.cp_rot.specs.Systems.{System, edges, vertex_of, list_of, next, IsRotation}
 use Rattle.cp_rot.specs.Genus.{HasGenusZero}
 use Rattle.cp_rot.specs.Rewrites.{renumbered, without_edge, deleted}

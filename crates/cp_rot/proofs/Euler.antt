@@ -1,9 +1,9 @@
 -- Euler's formula, computed from the counts.
 use Rattle.std.proofs.Common.{◌≡◌, ℕ, ◌+◌, ◌*◌, ◌/◌, ◌≤◌, ◌↔◌, true, eqb, sym, ap, ap₂, ◌∙◌, arith}
 use Rattle.std.proofs.lemmas.Bool.{eqb-true, eq-eqb}
-use Rattle.cp_counting.specs.Connected.{IsLeastConnected}
-use Rattle.cp_counting.specs.Orbits.{IsLeastOfOrbit}
-use Rattle.cp_counting.proofs.Counting.{IsCount-unique, IsCount-le}
+use Rattle.cp_orbits.specs.Connected.{IsLeastConnected}
+use Rattle.cp_orbits.specs.Orbits.{IsLeastOfOrbit}
+use Rattle.cp_lists.proofs.Counting.{IsCount-unique, IsCount-le}
 use Rattle.cp_rot.specs.Systems.{System, darts}
 use Rattle.cp_rot.specs.Genus.{face_step, end_pairs, IsBare, FaceCount, ComponentCount, HasGenusZero}
 

@@ -2,15 +2,15 @@
 use Rattle.std.proofs.Common.{◌≡◌, ℕ, suc, ◌+◌, ◌*◌, ◌<◌, ◌⊎◌, ◌≢◌, ◌↔◌, true, false, cond, List, [], ◌∷◌, ◌++◌, eqb, sym, refl, ap, ap₂, ◌∙◌, subst, subst₂, inl, inr, ⊎_elim, arith, append_assoc}
 use Rattle.std.specs.List.{list_any}
 use Rattle.std.proofs.lemmas.Bool.{cases_eq, cases_lt, eq-eqb, ne_eqb, cond-true, cond-false, or_left, or_right}
-use Rattle.cp_counting.specs.Orbits.{put, exchange}
-use Rattle.cp_counting.specs.Classes.{joined}
-use Rattle.cp_counting.specs.CyclicLists.{Has, Lacks, Distinct, follow, MergesAt}
-use Rattle.cp_counting.specs.Faces.{Turns, faces, components, put_edge}
-use Rattle.cp_counting.proofs.DistinctLists.{has_cases, has_lacks, Lacks-from, Has-append_left, Has-append_right, Has-append_cases, Lacks-append_right, Distinct-turn, Distinct-middle, Distinct-append_left, Distinct-append_right, Distinct-apart_right, Has-turn}
-use Rattle.cp_counting.proofs.CyclicLists.{follow-turn, follow-merge}
-use Rattle.cp_counting.proofs.OrbitLaws.{exchange_left, exchange_right, exchange_other}
-use Rattle.cp_counting.proofs.Exchanges.{joined_at, joined_other}
-use Rattle.cp_counting.proofs.Insertions.{put_other, faces-expanded, components-expanded}
+use Rattle.cp_orbits.specs.Orbits.{put, exchange}
+use Rattle.cp_orbits.specs.Classes.{joined}
+use Rattle.cp_lists.specs.CyclicLists.{Has, Lacks, Distinct, follow, MergesAt}
+use Rattle.cp_faces.specs.Faces.{Turns, faces, components, put_edge}
+use Rattle.cp_lists.proofs.DistinctLists.{has_cases, has_lacks, Lacks-from, Has-append_left, Has-append_right, Has-append_cases, Lacks-append_right, Distinct-turn, Distinct-middle, Distinct-append_left, Distinct-append_right, Distinct-apart_right, Has-turn}
+use Rattle.cp_lists.proofs.CyclicLists.{follow-turn, follow-merge}
+use Rattle.cp_orbits.proofs.OrbitLaws.{exchange_left, exchange_right, exchange_other}
+use Rattle.cp_orbits.proofs.Exchanges.{joined_at, joined_other}
+use Rattle.cp_faces.proofs.Insertions.{put_other, faces-expanded, components-expanded}
 use Rattle.cp_rot.specs.Systems.{System, darts, edges, vertex_of, list_of, next, IsRotation}
 use Rattle.cp_rot.specs.Genus.{HasGenusZero}
 use Rattle.cp_rot.specs.Rewrites.{before, behind, others_from, row, row_left, expanded_list, expanded_vertex, expanded}

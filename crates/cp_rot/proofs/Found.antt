@@ -2,8 +2,8 @@
 -- when they were met are the least of their class.
 use Rattle.std.proofs.Common.{◌≡◌, ℕ, ◌+◌, ◌<◌, ◌≤◌, ◌⊎◌, ◌↔◌, Bool, false, List, slice_index_or, sym, ◌∙◌, subst, inl, inr, ⊎_elim, arith}
 use Rattle.std.proofs.lemmas.Bool.{cases_eq, cases_lt, cases_Bool, false≢true}
-use Rattle.cp_counting.specs.Count.{IsCount}
-use Rattle.cp_counting.proofs.Counting.{IsCount-none, IsCount-more_yes, IsCount-more_no}
+use Rattle.cp_lists.specs.Count.{IsCount}
+use Rattle.cp_lists.proofs.Counting.{IsCount-none, IsCount-more_yes, IsCount-more_no}
 use Rattle.cp_rot.specs.Tables.{IsMarked, IsUnmarked}
 
 -- a number is not marked and unmarked

@@ -1,21 +1,21 @@
 -- A rotation system as functions on numbers: its counts are those of the functions.
 use Rattle.std.proofs.Common.{◌≡◌, ℕ, ◌+◌, ◌*◌, ◌<◌, ◌↔◌, true, not, List, [], ◌∷◌, length, slice_index, sym, refl, ap, ◌∙◌, subst, arith}
 use Rattle.std.proofs.lemmas.Bool.{false≢true}
-use Rattle.cp_counting.specs.Count.{IsCount}
-use Rattle.cp_counting.specs.Connected.{IsLeastConnected}
-use Rattle.cp_counting.specs.Orbits.{IsLeastOfOrbit}
-use Rattle.cp_counting.specs.Classes.{labels, graph, orbits, Respects}
-use Rattle.cp_counting.specs.CyclicLists.{Has, follow}
-use Rattle.cp_counting.specs.Faces.{Rotates, Turns, face_upto, ends_upto, stands, bare, faces, components}
-use Rattle.cp_counting.proofs.Counting.{IsCount-same, IsCount-test}
-use Rattle.cp_counting.proofs.ClassLabels.{Respects-from, Respects_at, labels-respects, classes_equal, equal_labels, IsCount-classes}
-use Rattle.cp_counting.proofs.OrbitLaws.{IsCount-orbits, orbits_agree, graph_agree, walk}
-use Rattle.cp_counting.proofs.Faces.{stands_at, stands_none, euler_genus}
-use Rattle.cp_counting.proofs.Merges.{face_upto-twin}
-use Rattle.cp_counting.proofs.Renaming.{Respects-ends, ends-respects}
-use Rattle.cp_counting.proofs.DistinctLists.{Has-Contains}
-use Rattle.cp_counting.proofs.CyclicLists.{follow-places}
-use Rattle.cp_counting.proofs.ListRotations.{Rotates-lists, Rotates-agree}
+use Rattle.cp_lists.specs.Count.{IsCount}
+use Rattle.cp_orbits.specs.Connected.{IsLeastConnected}
+use Rattle.cp_orbits.specs.Orbits.{IsLeastOfOrbit}
+use Rattle.cp_orbits.specs.Classes.{labels, graph, orbits, Respects}
+use Rattle.cp_lists.specs.CyclicLists.{Has, follow}
+use Rattle.cp_faces.specs.Faces.{Rotates, Turns, face_upto, ends_upto, stands, bare, faces, components}
+use Rattle.cp_lists.proofs.Counting.{IsCount-same, IsCount-test}
+use Rattle.cp_orbits.proofs.ClassLabels.{Respects-from, Respects_at, labels-respects, classes_equal, equal_labels, IsCount-classes}
+use Rattle.cp_orbits.proofs.OrbitLaws.{IsCount-orbits, orbits_agree, graph_agree, walk}
+use Rattle.cp_faces.proofs.Faces.{stands_at, stands_none, euler_genus}
+use Rattle.cp_faces.proofs.Merges.{face_upto-twin}
+use Rattle.cp_faces.proofs.Renaming.{Respects-ends, ends-respects}
+use Rattle.cp_lists.proofs.DistinctLists.{Has-Contains}
+use Rattle.cp_lists.proofs.CyclicLists.{follow-places}
+use Rattle.cp_faces.proofs.ListRotations.{Rotates-lists, Rotates-agree}
 use Rattle.cp_rot.specs.Systems.{System, darts, edges, vertex_of, list_of, next, IsRotation}
 use Rattle.cp_rot.specs.Genus.{face_step, InOneFace, IsBare, FaceCount, end_pairs, ComponentCount, HasGenusZero}
 use Rattle.cp_rot.proofs.Rotations.{in_list, item_stands, face_step-Permutes}

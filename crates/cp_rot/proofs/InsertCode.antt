@@ -3,8 +3,8 @@ use Rattle.std.proofs.Common.{◌≡◌, ℕ, ◌+◌, ◌*◌, ◌/◌, ◌<◌
 use Rattle.std.specs.List.{Contains}
 use Rattle.std.proofs.lemmas.Bool.{cases_eq, eq-eqb, ne_eqb, cond-true, cond-false}
 use Rattle.std.proofs.lemmas.List.{take_more, get_or-set_same, get_or-set_other}
-use Rattle.cp_counting.specs.CyclicLists.{Has}
-use Rattle.cp_counting.proofs.DistinctLists.{Has-Contains, Has_at}
+use Rattle.cp_lists.specs.CyclicLists.{Has}
+use Rattle.cp_lists.proofs.DistinctLists.{Has-Contains, Has_at}
 use Rattle.cp_rot.specs.Systems.{System, edges, IsRotation}
 use Rattle.cp_rot.specs.Tables.{system_of}
 use Rattle.cp_rot.specs.Rewrites.{values, with_behind, vertex_with_edge, with_edge, others_from, expanded_vertex, expanded_list, expanded}

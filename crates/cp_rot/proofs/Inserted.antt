@@ -1,14 +1,14 @@
 -- Items put in behind others, and an edge put in.
 use Rattle.std.proofs.Common.{◌≡◌, ℕ, suc, ◌+◌, ◌*◌, ◌<◌, ◌⊎◌, ◌≢◌, cond, List, [], ◌∷◌, ◌++◌, eqb, sym, refl, ap, ◌∙◌, subst, inl, inr, ⊎_elim, arith, append_assoc, lt-suc_self}
 use Rattle.std.proofs.lemmas.Bool.{cases_eq, cases_lt, eq-eqb, ne_eqb, cond-true, cond-false}
-use Rattle.cp_counting.specs.Orbits.{put}
-use Rattle.cp_counting.specs.CyclicLists.{Has, Lacks, Distinct, follow, MergesAt}
-use Rattle.cp_counting.specs.Faces.{Turns, faces, components, put_edge}
-use Rattle.cp_counting.proofs.DistinctLists.{has_lacks, Lacks-from, Has-append_left, Has-append_right, Has-append_cases, Distinct-turn, Distinct-middle, Has-turn}
-use Rattle.cp_counting.proofs.CyclicLists.{follow-insert}
-use Rattle.cp_counting.proofs.ListRotations.{Rotates-agree}
-use Rattle.cp_counting.proofs.Faces.{zero-agree}
-use Rattle.cp_counting.proofs.Insertions.{put_behind, put_new, put_other, put_edge-zero}
+use Rattle.cp_orbits.specs.Orbits.{put}
+use Rattle.cp_lists.specs.CyclicLists.{Has, Lacks, Distinct, follow, MergesAt}
+use Rattle.cp_faces.specs.Faces.{Turns, faces, components, put_edge}
+use Rattle.cp_lists.proofs.DistinctLists.{has_lacks, Lacks-from, Has-append_left, Has-append_right, Has-append_cases, Distinct-turn, Distinct-middle, Has-turn}
+use Rattle.cp_lists.proofs.CyclicLists.{follow-insert}
+use Rattle.cp_faces.proofs.ListRotations.{Rotates-agree}
+use Rattle.cp_faces.proofs.Faces.{zero-agree}
+use Rattle.cp_faces.proofs.Insertions.{put_behind, put_new, put_other, put_edge-zero}
 use Rattle.cp_rot.specs.Systems.{System, darts, edges, vertex_of, list_of, next, IsRotation}
 use Rattle.cp_rot.specs.Genus.{InOneFace, HasGenusZero}
 use Rattle.cp_rot.specs.Rewrites.{before, behind, with_behind, vertex_with_edge, with_edge}

@@ -1,16 +1,16 @@
 -- Counts of rotation systems with new numbers, side by side, and with a loop whose darts are neighbours.
 use Rattle.std.proofs.Common.{◌≡◌, ℕ, zero, suc, ◌+◌, ◌-◌, ◌*◌, ◌/◌, ◌<◌, ◌≤◌, ◌⊎◌, Bool, sym, refl, ap, ap₂, ◌∙◌, subst, ⊎_elim, arith}
 use Rattle.std.proofs.lemmas.Bool.{cases_Bool, cond-true, cond-false}
-use Rattle.cp_counting.specs.Classes.{labels, graph}
-use Rattle.cp_counting.specs.Orbits.{exchange, Renumbers}
-use Rattle.cp_counting.specs.Faces.{Turns, face_upto, faces, components, drop_edge, Renames, on_edges, renamed_at, renamed_next}
-use Rattle.cp_counting.proofs.OrbitLaws.{exchange_left, exchange_right, label_step}
-use Rattle.cp_counting.proofs.Exchanges.{Renumbers-exchange}
-use Rattle.cp_counting.proofs.ListRotations.{Rotates-agree}
-use Rattle.cp_counting.proofs.Faces.{face_upto-past, insert-faces, faces_upto-agree, components-agree}
-use Rattle.cp_counting.proofs.Merges.{partner-twin}
-use Rattle.cp_counting.proofs.Renaming.{Renames-edges, Renames-Turns, faces-renamed, components-renamed, on_edges_even, on_edges_odd}
-use Rattle.cp_counting.proofs.Parts.{faces-beside, components-beside}
+use Rattle.cp_orbits.specs.Classes.{labels, graph}
+use Rattle.cp_orbits.specs.Orbits.{exchange, Renumbers}
+use Rattle.cp_faces.specs.Faces.{Turns, face_upto, faces, components, drop_edge, Renames, on_edges, renamed_at, renamed_next}
+use Rattle.cp_orbits.proofs.OrbitLaws.{exchange_left, exchange_right, label_step}
+use Rattle.cp_orbits.proofs.Exchanges.{Renumbers-exchange}
+use Rattle.cp_faces.proofs.ListRotations.{Rotates-agree}
+use Rattle.cp_faces.proofs.Faces.{face_upto-past, insert-faces, faces_upto-agree, components-agree}
+use Rattle.cp_faces.proofs.Merges.{partner-twin}
+use Rattle.cp_faces.proofs.Renaming.{Renames-edges, Renames-Turns, faces-renamed, components-renamed, on_edges_even, on_edges_odd}
+use Rattle.cp_faces.proofs.Parts.{faces-beside, components-beside}
 use Rattle.cp_rot.specs.Systems.{System, darts, edges, vertex_of, next, IsRotation}
 use Rattle.cp_rot.specs.Genus.{FaceCount, ComponentCount, HasGenusZero}
 use Rattle.cp_rot.specs.Rewrites.{deleted}

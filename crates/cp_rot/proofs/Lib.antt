@@ -16,7 +16,6 @@ pub mod Inserted
 pub mod ExpandedVertices
 pub mod InsertCode
 pub mod LawCounts
-pub mod FilteredLists
 pub mod RestrictedSystems
 pub mod SplitVertices
 pub mod BareVertices

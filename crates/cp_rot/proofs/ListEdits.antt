@@ -3,9 +3,9 @@ use Rattle.std.proofs.Common.{◌≡◌, ℕ, zero, suc, ◌+◌, ◌*◌, ◌/�
 use Rattle.std.specs.List.{position_or_len}
 use Rattle.std.proofs.lemmas.Bool.{cases_eq, eq-eqb, ne_eqb}
 use Rattle.std.proofs.lemmas.List.{get_or_append_left, get_or_at}
-use Rattle.cp_counting.specs.CyclicLists.{Has, Lacks, Distinct, but, head_or, next_from, follow}
-use Rattle.cp_counting.proofs.DistinctLists.{has_lacks, Lacks-from, Has-split}
-use Rattle.cp_counting.proofs.CyclicLists.{next_from_at, next_from_other, place_middle}
+use Rattle.cp_lists.specs.CyclicLists.{Has, Lacks, Distinct, but, head_or, next_from, follow}
+use Rattle.cp_lists.proofs.DistinctLists.{has_lacks, Lacks-from, Has-split}
+use Rattle.cp_lists.proofs.CyclicLists.{next_from_at, next_from_other, place_middle}
 use Rattle.cp_rot.specs.Rewrites.{values, without_edge, before, behind}
 
 -- the numbers below n give n values

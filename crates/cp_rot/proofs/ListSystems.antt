@@ -1,13 +1,13 @@
 -- Systems given by functions: at which vertex each dart stands, and the list of each vertex.
 use Rattle.std.proofs.Common.{◌≡◌, ℕ, suc, ◌+◌, ◌*◌, ◌<◌, ◌≢◌, ◌↔◌, cond, List, [], map, eqb, sym, refl, ap, ap₂, ◌∙◌, subst, subst₂, arith}
 use Rattle.std.proofs.lemmas.Bool.{eq-eqb, eqb-true}
-use Rattle.cp_counting.specs.Count.{Exactly}
-use Rattle.cp_counting.specs.Orbits.{splice}
-use Rattle.cp_counting.specs.CyclicLists.{Has, Distinct, but, follow}
-use Rattle.cp_counting.specs.Faces.{Rotates, faces, components, drop_edge}
-use Rattle.cp_counting.proofs.DistinctLists.{has_other, Exactly-from, Exactly-Distinct, Exactly-Has, but-Has, but-Lacks, Has-but, but-Distinct}
-use Rattle.cp_counting.proofs.ListRotations.{Rotates-lists, follow-splice}
-use Rattle.cp_counting.proofs.Faces.{zero-agree}
+use Rattle.cp_lists.specs.Count.{Exactly}
+use Rattle.cp_orbits.specs.Orbits.{splice}
+use Rattle.cp_lists.specs.CyclicLists.{Has, Distinct, but, follow}
+use Rattle.cp_faces.specs.Faces.{Rotates, faces, components, drop_edge}
+use Rattle.cp_lists.proofs.DistinctLists.{has_other, Exactly-from, Exactly-Distinct, Exactly-Has, but-Has, but-Lacks, Has-but, but-Distinct}
+use Rattle.cp_faces.proofs.ListRotations.{Rotates-lists, follow-splice}
+use Rattle.cp_faces.proofs.Faces.{zero-agree}
 use Rattle.cp_rot.specs.Systems.{System, darts, edges, vertex_of, list_of, next, IsRotation}
 use Rattle.cp_rot.specs.Genus.{HasGenusZero}
 use Rattle.cp_rot.specs.Rewrites.{system}

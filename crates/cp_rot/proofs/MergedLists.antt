@@ -1,13 +1,13 @@
 -- A list put into another, and the two vertices of the lists made one.
 use Rattle.std.proofs.Common.{◌≡◌, ℕ, suc, ◌<◌, ◌⊎◌, ◌≢◌, cond, List, [], ◌∷◌, ◌++◌, eqb, sym, refl, ap, ◌∙◌, subst, inl, inr, ⊎_elim, arith, append_assoc}
 use Rattle.std.proofs.lemmas.Bool.{cases_eq, eq-eqb, ne_eqb, cond-true, cond-false}
-use Rattle.cp_counting.specs.Classes.{joined}
-use Rattle.cp_counting.specs.Orbits.{exchange}
-use Rattle.cp_counting.specs.CyclicLists.{Has, Lacks, Distinct, follow, MergesAt}
-use Rattle.cp_counting.proofs.DistinctLists.{Has-append_left, Has-append_right, Has-append_cases, Has-turn, Distinct-turn, Distinct-append, Lacks-from, has_lacks}
-use Rattle.cp_counting.proofs.CyclicLists.{follow-turn, follow-merge}
-use Rattle.cp_counting.proofs.OrbitLaws.{exchange_left, exchange_right, exchange_other}
-use Rattle.cp_counting.proofs.Exchanges.{joined_at, joined_other, joined-below}
+use Rattle.cp_orbits.specs.Classes.{joined}
+use Rattle.cp_orbits.specs.Orbits.{exchange}
+use Rattle.cp_lists.specs.CyclicLists.{Has, Lacks, Distinct, follow, MergesAt}
+use Rattle.cp_lists.proofs.DistinctLists.{Has-append_left, Has-append_right, Has-append_cases, Has-turn, Distinct-turn, Distinct-append, Lacks-from, has_lacks}
+use Rattle.cp_lists.proofs.CyclicLists.{follow-turn, follow-merge}
+use Rattle.cp_orbits.proofs.OrbitLaws.{exchange_left, exchange_right, exchange_other}
+use Rattle.cp_orbits.proofs.Exchanges.{joined_at, joined_other, joined-below}
 use Rattle.cp_rot.specs.Rewrites.{before, behind, spliced}
 use Rattle.cp_rot.proofs.ListEdits.{around_item}
 use Rattle.cp_rot.proofs.ListSystems.{Listed, turn}

@@ -1,19 +1,19 @@
 -- Two vertices of a rotation system made one, and an edge contracted.
 use Rattle.std.proofs.Common.{◌≡◌, ℕ, suc, ◌+◌, ◌-◌, ◌*◌, ◌<◌, ◌≢◌, ◌↔◌, cond, List, eqb, sym, refl, ap, ap₂, ◌∙◌, subst, subst₂, ⊎_elim, arith}
 use Rattle.std.proofs.lemmas.Bool.{cases_eq, eq-eqb, eqb-true}
-use Rattle.cp_counting.specs.Classes.{joined}
-use Rattle.cp_counting.specs.Connected.{Connected}
-use Rattle.cp_counting.specs.Orbits.{exchange}
-use Rattle.cp_counting.specs.CyclicLists.{follow}
-use Rattle.cp_counting.specs.Faces.{Turns, faces, components, drop_edge, contracted, on_edges, renamed_at, renamed_next}
-use Rattle.cp_counting.proofs.Counting.{same_tests}
-use Rattle.cp_counting.proofs.ClassLabels.{connected_labels}
-use Rattle.cp_counting.proofs.OrbitLaws.{exchange_left, exchange_right, exchange-below, exchange-exchange}
-use Rattle.cp_counting.proofs.Exchanges.{joined_at, joined_other}
-use Rattle.cp_counting.proofs.Merges.{exchange_conjugate}
-use Rattle.cp_counting.proofs.Renaming.{on_edges_even, on_edges_odd}
-use Rattle.cp_counting.proofs.Insertions.{drop_edge-agree}
-use Rattle.cp_counting.proofs.Rewrites.{merged_vertices_within-zero, merged_vertices_between-zero, faces-contracted_edge, components-contracted_edge}
+use Rattle.cp_orbits.specs.Classes.{joined}
+use Rattle.cp_orbits.specs.Connected.{Connected}
+use Rattle.cp_orbits.specs.Orbits.{exchange}
+use Rattle.cp_lists.specs.CyclicLists.{follow}
+use Rattle.cp_faces.specs.Faces.{Turns, faces, components, drop_edge, contracted, on_edges, renamed_at, renamed_next}
+use Rattle.cp_lists.proofs.Counting.{same_tests}
+use Rattle.cp_orbits.proofs.ClassLabels.{connected_labels}
+use Rattle.cp_orbits.proofs.OrbitLaws.{exchange_left, exchange_right, exchange-below, exchange-exchange}
+use Rattle.cp_orbits.proofs.Exchanges.{joined_at, joined_other}
+use Rattle.cp_faces.proofs.Merges.{exchange_conjugate}
+use Rattle.cp_faces.proofs.Renaming.{on_edges_even, on_edges_odd}
+use Rattle.cp_faces.proofs.Insertions.{drop_edge-agree}
+use Rattle.cp_faces.proofs.Rewrites.{merged_vertices_within-zero, merged_vertices_between-zero, faces-contracted_edge, components-contracted_edge}
 use Rattle.cp_rot.specs.Systems.{System, darts, edges, vertex_of, list_of, next, IsRotation}
 use Rattle.cp_rot.specs.Genus.{InOneFace, HasGenusZero, end_pairs}
 use Rattle.cp_rot.specs.Rewrites.{spliced, renumbered_vertex, merged_list, merged, contraction}

@@ -3,7 +3,7 @@ use Rattle.std.proofs.Common.{◌≡◌, ℕ, ◌+◌, ◌<◌, ◌≢◌, List,
 use Rattle.std.specs.List.{Contains}
 use Rattle.std.proofs.lemmas.Bool.{cases_eq}
 use Rattle.std.proofs.lemmas.List.{get_or-set_same, get_or-set_other}
-use Rattle.cp_counting.proofs.ExactLists.{EachOnce, place_of}
+use Rattle.cp_lists.proofs.ExactLists.{EachOnce, place_of}
 use Rattle.cp_rot.specs.Systems.{System, darts, vertex_of, list_of, place_after, next, IsRotation}
 use Rattle.cp_rot.specs.Tables.{IsStored}
 use Rattle.cp_rot.proofs.Rotations.{in_list, item_stands, next_of_item}

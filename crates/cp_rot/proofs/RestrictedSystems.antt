@@ -1,14 +1,15 @@
 -- Rotation systems restricted to some of their edges.
 use Rattle.std.proofs.Common.{◌≡◌, ℕ, ◌+◌, ◌*◌, ◌/◌, ◌%◌, ◌<◌, Bool, true, List, sym, refl, ap, ap₂, ◌∙◌, arith}
 use Rattle.std.specs.List.{filter}
-use Rattle.cp_counting.specs.CyclicLists.{Has, follow}
-use Rattle.cp_counting.specs.Faces.{on_edges}
-use Rattle.cp_counting.proofs.CyclicLists.{follow-Has}
+use Rattle.cp_lists.specs.CyclicLists.{Has, follow}
+use Rattle.cp_faces.specs.Faces.{on_edges}
+use Rattle.cp_lists.proofs.CyclicLists.{follow-Has}
 use Rattle.cp_rot.specs.Systems.{System, IsRotation, edges, vertex_of, list_of, next}
 use Rattle.cp_rot.specs.Laws.{IsRestricted}
 use Rattle.cp_rot.proofs.Functions.{next-follow}
 use Rattle.cp_rot.proofs.ListSystems.{Listed, Listed-edges}
-use Rattle.cp_rot.proofs.FilteredLists.{Has-filter, filter-Has, follow-map_on}
+use Rattle.cp_lists.proofs.FilteredLists.{Has-filter, filter-Has}
+use Rattle.cp_lists.proofs.MappedLists.{follow-map_on}
 
 -- the edge of a dart with a new number
 pub on_edges_half : (p : ℕ → ℕ) (d : ℕ) → on_edges p d / 2 ≡ p (d / 2)

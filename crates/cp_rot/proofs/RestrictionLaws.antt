@@ -3,11 +3,11 @@
 use Rattle.std.proofs.Common.{◌≡◌, ℕ, zero, suc, ◌+◌, ◌-◌, ◌*◌, ◌/◌, ◌%◌, ◌<◌, ◌≤◌, Bool, true, false, not, ◌&&◌, ◌||◌, ltb, eqb, List, [], ◌∷◌, map, sym, refl, ap, ap₂, ◌∙◌, subst, ⊎_elim, arith}
 use Rattle.std.specs.List.{filter}
 use Rattle.std.proofs.lemmas.Bool.{cases_Bool, cases_eq, cases_lt, eq-eqb, ne_eqb, lt-ltb, le-ltb, cond-true, cond-false, or_right, false≢true}
-use Rattle.cp_counting.specs.Orbits.{exchange, Renumbers}
-use Rattle.cp_counting.specs.CyclicLists.{follow}
-use Rattle.cp_counting.specs.Faces.{on_edges}
-use Rattle.cp_counting.proofs.OrbitLaws.{exchange_left, exchange_other, exchange_case, exchange-exchange, exchange-below}
-use Rattle.cp_counting.proofs.Renaming.{Renumbers-on_edges}
+use Rattle.cp_orbits.specs.Orbits.{exchange, Renumbers}
+use Rattle.cp_lists.specs.CyclicLists.{follow}
+use Rattle.cp_faces.specs.Faces.{on_edges}
+use Rattle.cp_orbits.proofs.OrbitLaws.{exchange_left, exchange_other, exchange_case, exchange-exchange, exchange-below}
+use Rattle.cp_faces.proofs.Renaming.{Renumbers-on_edges}
 use Rattle.cp_rot.specs.Systems.{System, IsRotation, edges, twin, vertex_of, list_of, next}
 use Rattle.cp_rot.specs.Genus.{HasGenusZero}
 use Rattle.cp_rot.specs.Rewrites.{renumbered, without_edge, deleted, split_off}
@@ -17,7 +17,7 @@ use Rattle.cp_rot.proofs.Functions.{faces_of, components_of, FaceCount-faces, Co
 use Rattle.cp_rot.proofs.ListSystems.{Listed-edges, system_list}
 use Rattle.cp_rot.proofs.DeletedEdges.{IsRotation-deleted, deleted-edges, deleted_at}
 use Rattle.cp_rot.proofs.LawCounts.{renamed_counts, restricted_zero}
-use Rattle.cp_rot.proofs.FilteredLists.{filter_all, filter_agree, map_filtered}
+use Rattle.cp_lists.proofs.FilteredLists.{filter_all, filter_agree, map_filtered}
 use Rattle.cp_rot.proofs.BareVertices.{same_size}
 use Rattle.cp_rot.proofs.RestrictedSystems.{on_edges_half, on_edges_bit, on_edges-chain, kept_list, old_kept, new_kept, restricted_stand, kept_item, kept_follow, restricted_next}
 use Rattle.cp_rot.proofs.SplitParts.{split_by_parts}

@@ -3,8 +3,8 @@ use Rattle.std.proofs.Common.{◌≡◌, ℕ, ◌+◌, ◌-◌, ◌*◌, ◌/◌
 use Rattle.std.specs.List.{Contains, position_or_len}
 use Rattle.std.proofs.lemmas.Bool.{cases_eq, eq-eqb, ne_eqb, cond-true, cond-false}
 use Rattle.std.proofs.lemmas.List.Sums.{position_or_len_is}
-use Rattle.cp_counting.specs.Orbits.{exchange}
-use Rattle.cp_counting.proofs.ExactLists.{place_of}
+use Rattle.cp_orbits.specs.Orbits.{exchange}
+use Rattle.cp_lists.proofs.ExactLists.{place_of}
 use Rattle.cp_rot.specs.Systems.{System, darts, edges, IsRotation}
 use Rattle.cp_rot.specs.Tables.{system_of}
 use Rattle.cp_rot.specs.Rewrites.{values, system, spliced, deleted, merged}

@@ -2,8 +2,8 @@
 use Rattle.std.proofs.Common.{◌≡◌, ℕ, ◌+◌, ◌-◌, ◌*◌, ◌/◌, ◌%◌, ◌<◌, List, length, slice_index, sym, refl, ap, ◌∙◌, subst, ⊎_elim, arith}
 use Rattle.std.specs.List.{Contains}
 use Rattle.std.proofs.lemmas.Bool.{cases_eq, eq-eqb, ne_eqb, eqb-true}
-use Rattle.cp_counting.specs.Orbits.{Permutes}
-use Rattle.cp_counting.proofs.ExactLists.{EachOnce, place, place_at, place_is}
+use Rattle.cp_orbits.specs.Orbits.{Permutes}
+use Rattle.cp_lists.proofs.ExactLists.{EachOnce, place, place_at, place_is}
 use Rattle.cp_rot.specs.Systems.{System, darts, twin, vertex_of, list_of, place_after, next_in, next, IsRotation}
 use Rattle.cp_rot.specs.Genus.{face_step}
 

@@ -3,10 +3,10 @@ use Rattle.std.proofs.Common.{◌≡◌, ℕ, zero, suc, ◌+◌, ◌*◌, ◌/�
 use Rattle.std.specs.List.{Contains}
 use Rattle.std.proofs.lemmas.Bool.{cases_eq}
 use Rattle.std.proofs.lemmas.List.{get_or-set_same, get_or-set_other}
-use Rattle.cp_counting.specs.Connected.{Joins, here, step}
-use Rattle.cp_counting.proofs.Counting.{count-le}
-use Rattle.cp_counting.proofs.ExactLists.{place_of}
-use Rattle.cp_counting.proofs.ClassLabels.{Connected-sym, Connected-trans}
+use Rattle.cp_orbits.specs.Connected.{Joins, here, step}
+use Rattle.cp_lists.proofs.Counting.{count-le}
+use Rattle.cp_lists.proofs.ExactLists.{place_of}
+use Rattle.cp_orbits.proofs.ClassLabels.{Connected-sym, Connected-trans}
 use Rattle.cp_rot.specs.Systems.{System, darts, twin, vertex_of, list_of, IsRotation}
 use Rattle.cp_rot.specs.Genus.{end_pairs, Joined}
 use Rattle.cp_rot.specs.Tables.{IsMarked, IsUnmarked}

@@ -2,14 +2,14 @@
 -- numbers, the two systems restricted to the sets, side by side.
 use Rattle.std.proofs.Common.{◌≡◌, ℕ, ◌+◌, ◌-◌, ◌*◌, ◌/◌, ◌%◌, ◌<◌, ◌↔◌, Bool, true, false, cond, not, ltb, sym, refl, ap, ap₂, ◌∙◌, subst, ⊎_elim, arith}
 use Rattle.std.proofs.lemmas.Bool.{cases_Bool, cases_eq, cases_lt, lt-ltb, le-ltb, cond-true, cond-false, not_from_false}
-use Rattle.cp_counting.specs.Orbits.{exchange, Renumbers}
-use Rattle.cp_counting.specs.CyclicLists.{follow}
-use Rattle.cp_counting.specs.Faces.{Turns, Renames, faces, components, on_edges}
-use Rattle.cp_counting.proofs.OrbitLaws.{exchange_right, exchange-exchange, exchange-below}
-use Rattle.cp_counting.proofs.Faces.{faces_upto-agree, components-agree, euler_bound}
-use Rattle.cp_counting.proofs.Renaming.{Renumbers-on_edges, partner-on_edges, faces-renamed, components-renamed}
-use Rattle.cp_counting.proofs.ListRotations.{Rotates-agree}
-use Rattle.cp_counting.proofs.Parts.{faces-beside, components-beside}
+use Rattle.cp_orbits.specs.Orbits.{exchange, Renumbers}
+use Rattle.cp_lists.specs.CyclicLists.{follow}
+use Rattle.cp_faces.specs.Faces.{Turns, Renames, faces, components, on_edges}
+use Rattle.cp_orbits.proofs.OrbitLaws.{exchange_right, exchange-exchange, exchange-below}
+use Rattle.cp_faces.proofs.Faces.{faces_upto-agree, components-agree, euler_bound}
+use Rattle.cp_faces.proofs.Renaming.{Renumbers-on_edges, partner-on_edges, faces-renamed, components-renamed}
+use Rattle.cp_faces.proofs.ListRotations.{Rotates-agree}
+use Rattle.cp_faces.proofs.Parts.{faces-beside, components-beside}
 use Rattle.cp_rot.specs.Systems.{System, IsRotation, edges, vertex_of, next}
 use Rattle.cp_rot.specs.Genus.{HasGenusZero}
 use Rattle.cp_rot.specs.Rewrites.{split_off}

@@ -2,16 +2,16 @@
 use Rattle.std.proofs.Common.{◌≡◌, ◌≢◌, ℕ, zero, suc, ◌+◌, ◌*◌, ◌/◌, ◌<◌, ◌⊎◌, ◌↔◌, Bool, true, false, not, ◌&&◌, ◌||◌, eqb, sym, refl, ap, ap₂, ◌∙◌, subst, inl, inr, ⊎_elim, arith}
 use Rattle.std.specs.Fn.{iterate}
 use Rattle.std.proofs.lemmas.Bool.{cases_Bool, cases_eq, eq-eqb, ne_eqb, or_right, false≢true, or_left}
-use Rattle.cp_counting.specs.Classes.{labels, joined, Respects}
-use Rattle.cp_counting.specs.Orbits.{Permutes, exchange}
-use Rattle.cp_counting.specs.Faces.{Turns, Renames, ends_upto, faces, components}
-use Rattle.cp_counting.proofs.Counting.{first_below}
-use Rattle.cp_counting.proofs.ClassLabels.{same_labels}
-use Rattle.cp_counting.proofs.OrbitLaws.{iterate-after, iterate-below, returns_within, exchange_case, exchange_left, exchange_other}
-use Rattle.cp_counting.proofs.Exchanges.{Renumbers-exchange, joined_at, joined_other}
-use Rattle.cp_counting.proofs.Faces.{zero-agree, faces_upto-agree, components-agree}
-use Rattle.cp_counting.proofs.Renaming.{Respects-ends, Renames-vertices, faces-renamed, components-renamed}
-use Rattle.cp_counting.proofs.Rewrites.{merged_vertices_between-zero}
+use Rattle.cp_orbits.specs.Classes.{labels, joined, Respects}
+use Rattle.cp_orbits.specs.Orbits.{Permutes, exchange}
+use Rattle.cp_faces.specs.Faces.{Turns, Renames, ends_upto, faces, components}
+use Rattle.cp_lists.proofs.Counting.{first_below}
+use Rattle.cp_orbits.proofs.ClassLabels.{same_labels}
+use Rattle.cp_orbits.proofs.OrbitLaws.{iterate-after, iterate-below, returns_within, exchange_case, exchange_left, exchange_other}
+use Rattle.cp_orbits.proofs.Exchanges.{Renumbers-exchange, joined_at, joined_other}
+use Rattle.cp_faces.proofs.Faces.{zero-agree, faces_upto-agree, components-agree}
+use Rattle.cp_faces.proofs.Renaming.{Respects-ends, Renames-vertices, faces-renamed, components-renamed}
+use Rattle.cp_faces.proofs.Rewrites.{merged_vertices_between-zero}
 use Rattle.cp_rot.specs.Systems.{System, IsRotation, edges, vertex_of, next}
 use Rattle.cp_rot.specs.Genus.{HasGenusZero}
 use Rattle.cp_rot.specs.Rewrites.{split_off}

@@ -2,15 +2,15 @@
 use Rattle.std.proofs.Common.{◌≡◌, ℕ, ◌+◌, ◌*◌, ◌/◌, ◌<◌, Bool, true, false, not, List, sym, refl, ap, ◌∙◌, subst, ⊎_elim, arith, cond, eqb, ◌&&◌}
 use Rattle.std.specs.List.{filter}
 use Rattle.std.proofs.lemmas.Bool.{cases_Bool, cases_eq, eq-eqb, ne_eqb, not_from_false, false≢true, cond-true, cond-false, false_from_ne_true}
-use Rattle.cp_counting.specs.CyclicLists.{Has, Distinct, follow}
-use Rattle.cp_counting.specs.Faces.{stands}
-use Rattle.cp_counting.proofs.CyclicLists.{follow-Has}
-use Rattle.cp_counting.proofs.Faces.{stands_at, stands_some}
+use Rattle.cp_lists.specs.CyclicLists.{Has, Distinct, follow}
+use Rattle.cp_faces.specs.Faces.{stands}
+use Rattle.cp_lists.proofs.CyclicLists.{follow-Has}
+use Rattle.cp_faces.proofs.Faces.{stands_at, stands_some}
 use Rattle.cp_rot.specs.Systems.{System, next, edges, vertex_of, list_of, IsRotation}
 use Rattle.cp_rot.specs.Rewrites.{split_vertex, split_list, split_off}
 use Rattle.cp_rot.specs.Laws.{MeetAt}
 use Rattle.cp_rot.proofs.ListSystems.{Listed, turn, Listed-edges, system-edges, IsRotation-system}
-use Rattle.cp_rot.proofs.FilteredLists.{Has-filter, filter-Has, filter-Distinct, filter_all, follow_kept}
+use Rattle.cp_lists.proofs.FilteredLists.{Has-filter, filter-Has, filter-Distinct, filter_all, follow_kept}
 use Rattle.cp_rot.proofs.Functions.{next-follow}
 
 -- a test that is not passed fails

@@ -3,10 +3,10 @@ use Rattle.std.proofs.Common.{◌≡◌, ℕ, zero, suc, ◌+◌, ◌<◌, ◌�
 use Rattle.std.specs.Fn.{iterate}
 use Rattle.std.proofs.lemmas.Bool.{cases_eq}
 use Rattle.std.proofs.lemmas.List.{get_or-set_same, get_or-set_other}
-use Rattle.cp_counting.specs.Count.{count, without, IsCount}
-use Rattle.cp_counting.specs.Orbits.{IsLeastOfOrbit}
-use Rattle.cp_counting.proofs.Counting.{count_agree, count_without, without_at, without_other, IsCount-same}
-use Rattle.cp_counting.proofs.OrbitLaws.{iterate-after, Reaches-sym, Reaches-trans, Reaches-below, Reaches-within}
+use Rattle.cp_lists.specs.Count.{count, without, IsCount}
+use Rattle.cp_orbits.specs.Orbits.{IsLeastOfOrbit}
+use Rattle.cp_lists.proofs.Counting.{count_agree, count_without, without_at, without_other, IsCount-same}
+use Rattle.cp_orbits.proofs.OrbitLaws.{iterate-after, Reaches-sym, Reaches-trans, Reaches-below, Reaches-within}
 use Rattle.cp_rot.specs.Systems.{System, darts, IsRotation}
 use Rattle.cp_rot.specs.Genus.{face_step, InOneFace}
 use Rattle.cp_rot.specs.Tables.{IsMarked, IsUnmarked}

@@ -2,8 +2,8 @@
 use Rattle.std.proofs.Common.{◌≡◌, ℕ, suc, ◌+◌, ◌*◌, ◌/◌, ◌<◌, ◌≤◌, List, length, set, slice_index, sym, refl, ap, ◌∙◌, ⊎_elim, arith}
 use Rattle.std.proofs.lemmas.Bool.{cases_eq, eq-eqb, ne_eqb}
 use Rattle.std.proofs.lemmas.List.{get_or-set_same, get_or-set_other}
-use Rattle.cp_counting.specs.Count.{count}
-use Rattle.cp_counting.proofs.Counting.{count_yes, count_no}
+use Rattle.cp_lists.specs.Count.{count}
+use Rattle.cp_lists.proofs.Counting.{count_yes, count_no}
 use Rattle.cp_rot.specs.Systems.{IsRotation}
 use Rattle.cp_rot.specs.Tables.{system_of, stands_at}
 use Rattle.cp_rot.specs.Lists.{HasList}

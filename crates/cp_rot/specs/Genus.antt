@@ -1,8 +1,8 @@
 -- Faces, components, and Euler genus zero, which is Euler's formula counted over all components.
 use Rattle.std.specs.Prelude.{◌≡◌, ℕ, ◌+◌, ◌*◌, List, [], ◌∷◌}
-use Rattle.cp_counting.specs.Count.{IsCount}
-use Rattle.cp_counting.specs.Connected.{Connected, IsLeastConnected}
-use Rattle.cp_counting.specs.Orbits.{Reaches, IsLeastOfOrbit}
+use Rattle.cp_lists.specs.Count.{IsCount}
+use Rattle.cp_orbits.specs.Connected.{Connected, IsLeastConnected}
+use Rattle.cp_orbits.specs.Orbits.{Reaches, IsLeastOfOrbit}
 use Rattle.cp_rot.specs.Systems.{System, darts, edges, twin, next, list_of}
 
 -- along dart d to its other end, and there to the next dart

@@ -1,8 +1,8 @@
 -- How rotation systems stand to each other: with new numbers, and side by side.
 use Rattle.std.specs.Prelude.{◌≡◌, ◌≢◌, ℕ, zero, suc, ◌+◌, ◌/◌, ◌<◌, Bool, true, false, cond, map}
 use Rattle.std.specs.List.{filter}
-use Rattle.cp_counting.specs.Faces.{on_edges}
-use Rattle.cp_counting.specs.Orbits.{Renumbers}
+use Rattle.cp_faces.specs.Faces.{on_edges}
+use Rattle.cp_orbits.specs.Orbits.{Renumbers}
 use Rattle.cp_rot.specs.Systems.{System, darts, edges, twin, vertex_of, list_of, next}
 use Rattle.cp_rot.specs.Rewrites.{deleted}
 

@@ -1,9 +1,9 @@
 -- What the rewrites write: the vertex of each dart and the list of each vertex, from those before.
 use Rattle.std.specs.Prelude.{◌≡◌, ℕ, ◌<◌, ◌≢◌, ◌==◌, cond, List, [], ◌∷◌, ◌++◌, length, map, take, slice_index, slice_index_or}
 use Rattle.std.specs.List.{list_any}
-use Rattle.cp_counting.specs.Orbits.{exchange}
-use Rattle.cp_counting.specs.Classes.{joined}
-use Rattle.cp_counting.specs.Faces.{on_edges}
+use Rattle.cp_orbits.specs.Orbits.{exchange}
+use Rattle.cp_orbits.specs.Classes.{joined}
+use Rattle.cp_faces.specs.Faces.{on_edges}
 use Rattle.cp_rot.specs.Rewrites.{without_edge, spliced, with_behind, before, behind}
 
 -- at which vertex dart d stands, where edges e and last exchange their numbers

@@ -1,9 +1,9 @@
 -- The systems that the rewrites give. Where a vertex or an edge goes, the last one takes its number.
 use Rattle.std.specs.Prelude.{ℕ, zero, suc, ◌+◌, ◌-◌, ◌*◌, ◌/◌, ◌==◌, Bool, cond, not, ◌&&◌, List, [], ◌∷◌, ◌++◌, map, take, drop}
 use Rattle.std.specs.List.{filter, list_any, position_or_len}
-use Rattle.cp_counting.specs.Orbits.{exchange}
-use Rattle.cp_counting.specs.Classes.{joined}
-use Rattle.cp_counting.specs.Faces.{on_edges}
+use Rattle.cp_orbits.specs.Orbits.{exchange}
+use Rattle.cp_orbits.specs.Classes.{joined}
+use Rattle.cp_faces.specs.Faces.{on_edges}
 use Rattle.cp_rot.specs.Systems.{System, edges, vertex_of, list_of}
 
 -- the values of f at the numbers below n

@@ -2,7 +2,7 @@
 -- each vertex, counterclockwise (Heffter 1891, Edmonds 1960).
 use Rattle.std.specs.Prelude.{◌≡◌, ℕ, ◌+◌, ◌-◌, ◌*◌, ◌/◌, ◌%◌, ◌<◌, ◌==◌, cond, List, [], length, slice_index, slice_index_or}
 use Rattle.std.specs.List.{position_or_len}
-use Rattle.cp_counting.specs.Count.{Exactly}
+use Rattle.cp_lists.specs.Count.{Exactly}
 
 -- a number of vertices, the vertex at which each dart stands, and for each vertex its list of darts
 pub record System : Type 0 where

@@ -1,7 +1,7 @@
 // The vertices that stand for the components, by search from each vertex that was not found yet.
 ghost use Rattle.std.specs.Prelude.{◌≡◌, ℕ, ◌<◌, ◌≤◌, ◌↔◌, ◌⊎◌, ◌+◌, Bool, true, false, length, slice_index, slice_index_or};
-ghost use Rattle.cp_counting.specs.Count.{IsCount, count};
-ghost use Rattle.cp_counting.specs.Connected.{Connected, IsLeastConnected};
+ghost use Rattle.cp_lists.specs.Count.{IsCount, count};
+ghost use Rattle.cp_orbits.specs.Connected.{Connected, IsLeastConnected};
 ghost use Rattle.cp_rot.specs.Systems.{System, IsRotation, darts, list_of};
 ghost use Rattle.cp_rot.specs.Genus.{end_pairs, Joined};
 ghost use Rattle.cp_rot.specs.Tables.{IsMarked, IsUnmarked};

@@ -1,7 +1,7 @@
 // The vertices and lists without an edge, whose number the last edge takes.
 ghost use Rattle.std.specs.Prelude.{◌≡◌, ℕ, ◌+◌, ◌*◌, ◌/◌, ◌^◌, ◌<◌, ◌≤◌, IfOk, length};
-ghost use Rattle.cp_counting.specs.Orbits.{exchange};
-ghost use Rattle.cp_counting.specs.Faces.{on_edges};
+ghost use Rattle.cp_orbits.specs.Orbits.{exchange};
+ghost use Rattle.cp_faces.specs.Faces.{on_edges};
 ghost use Rattle.cp_rot.specs.Rewrites.{values, deleted};
 ghost use Rattle.cp_rot.specs.Tables.{system_of};
 ghost use Rattle.cp_rot.specs.RewriteTables.{kept_at, kept_items, kept_list};

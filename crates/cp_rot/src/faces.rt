@@ -1,7 +1,7 @@
 // The darts that stand for the faces, by walks round the faces.
 ghost use Rattle.std.specs.Prelude.{◌≡◌, ℕ, ◌<◌, ◌≤◌, ◌↔◌, ◌⊎◌, ◌^◌, IsTrue, Bool, true, false, length, slice_index_or};
-ghost use Rattle.cp_counting.specs.Count.{IsCount};
-ghost use Rattle.cp_counting.specs.Orbits.{Reaches, IsLeastOfOrbit};
+ghost use Rattle.cp_lists.specs.Count.{IsCount};
+ghost use Rattle.cp_orbits.specs.Orbits.{Reaches, IsLeastOfOrbit};
 ghost use Rattle.cp_rot.specs.Systems.{System, IsRotation, darts, list_of};
 ghost use Rattle.cp_rot.specs.Genus.{face_step, IsBare, InOneFace};
 ghost use Rattle.cp_rot.specs.Tables.{IsMarked, IsUnmarked};

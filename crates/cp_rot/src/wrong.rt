@@ -1,6 +1,6 @@
 // Which of the lists that are to make a rotation system is the first wrong one.
 ghost use Rattle.std.specs.Prelude.{◌≡◌, ℕ, ◌<◌, ◌≤◌, ◌↔◌, ◌==◌, ◌≢◌, Bool, true, false, IsTrue, IfOk, MatchOption, length, slice_index, slice_index_or};
-ghost use Rattle.cp_counting.specs.Count.{count};
+ghost use Rattle.cp_lists.specs.Count.{count};
 ghost use Rattle.cp_rot.specs.Systems.{Arranges};
 ghost use Rattle.cp_rot.specs.Tables.{IsUnmarked};
 ghost use Rattle.cp_rot.specs.FirstWrong.{IsRightList, IsFirstWrong};

@@ -2,20 +2,22 @@
 use Rattle.std.proofs.Common.{◌≡◌, ℕ, ◌+◌, ◌-◌, ◌*◌, ◌/◌, ◌%◌, ◌<◌, ◌≤◌, ◌⊎◌, ◌≢◌, ◌↔◌, not, List, reverse, eqb, sym, refl, ap, ◌∙◌, subst, inl, inr, ⊎_elim, arith}
 use Rattle.std.proofs.lemmas.Bool.{cases_eq, eq-eqb, ne_eqb, not_from_true}
 use Rattle.std.proofs.lemmas.List.{reverse-reverse}
-use Rattle.cp_counting.specs.Classes.{labels, classes, orbits}
-use Rattle.cp_counting.specs.CyclicLists.{Has, Distinct, follow}
-use Rattle.cp_counting.specs.Faces.{ends_upto, face_upto, stands, bare}
-use Rattle.cp_counting.proofs.Counting.{count_none, count_yes, count_no}
-use Rattle.cp_counting.proofs.ClassLabels.{labels-le, labels-respects}
-use Rattle.cp_counting.proofs.Faces.{stands_at, face_upto-Permutes}
-use Rattle.cp_counting.proofs.Renaming.{ends-respects}
+use Rattle.cp_orbits.specs.Classes.{labels, classes, orbits}
+use Rattle.cp_lists.specs.CyclicLists.{Has, Distinct, follow}
+use Rattle.cp_faces.specs.Faces.{ends_upto, face_upto, stands, bare}
+use Rattle.cp_lists.proofs.Counting.{count_none, count_yes, count_no}
+use Rattle.cp_orbits.proofs.ClassLabels.{labels-le, labels-respects}
+use Rattle.cp_faces.proofs.Faces.{stands_at, face_upto-Permutes}
+use Rattle.cp_faces.proofs.Renaming.{ends-respects}
 use Rattle.cp_rot.specs.Systems.{System, darts, edges, twin, vertex_of, list_of, next, IsRotation}
 use Rattle.cp_rot.specs.Genus.{face_step, HasGenusZero}
 use Rattle.cp_rot.proofs.Rotations.{twin_even, twin_odd, twin-below, next_stands, face_step-Permutes}
 use Rattle.cp_rot.proofs.Functions.{next-follow, Turns-system, components_of, face_step-upto, zero_counts, HasGenusZero-from}
 use Rattle.cp_rot.proofs.ListSystems.{Listed, Listed-system}
 use Rattle.cp_rotlaw.specs.Dipoles.{IsDipole, AreReverse, edges_round}
-use Rattle.cp_rotlaw.proofs.MappedLists.{Has-reverse, reverse-Has, Distinct-reverse, follow-reverse, turn-follow, turn_from, Has-map_on, map_on-Has, follow-map_on, Distinct-map_on}
+use Rattle.cp_lists.proofs.ReversedLists.{Has-reverse, reverse-Has, Distinct-reverse, follow-reverse}
+use Rattle.cp_lists.proofs.TurnedLists.{turn-follow, turn_from}
+use Rattle.cp_lists.proofs.MappedLists.{Has-map_on, map_on-Has, follow-map_on, Distinct-map_on}
 use Rattle.cp_rotlaw.proofs.ShortOrbits.{orbits_of_two, two_of_orbits}
 
 -- twins are of one edge

@@ -2,15 +2,15 @@
 -- these, the faces and twice the components add up as in the plane. Exchanges of two values keep it flat.
 use Rattle.std.proofs.Common.{◌≡◌, ℕ, zero, suc, ◌+◌, ◌*◌, ◌<◌, ◌≤◌, ◌≢◌, List, ◌∷◌, sym, refl, ap, ◌∙◌, ⊎_elim, arith, lt-suc_self}
 use Rattle.std.proofs.lemmas.Bool.{cases_eq}
-use Rattle.cp_counting.specs.Classes.{labels, classes, graph, orbits, Respects}
-use Rattle.cp_counting.specs.Orbits.{Permutes, exchange}
-use Rattle.cp_counting.specs.Faces.{face_upto, partner}
-use Rattle.cp_counting.proofs.ClassLabels.{labels-respects, same_labels, classes_coarser, classes_equal, classes_joined}
-use Rattle.cp_counting.proofs.OrbitLaws.{Respects-graph, graph-respects, graph_agree, orbits_agree, exchange_case, exchange-below, exchange-exchange, Permutes-exchange}
-use Rattle.cp_counting.proofs.Exchanges.{joined_labels, orbits_joined, orbits_split, orbits_exchanged-ge}
-use Rattle.cp_counting.proofs.Faces.{face_upto-Permutes}
-use Rattle.cp_counting.proofs.Merges.{face_upto-partner, face_upto-merged}
-use Rattle.cp_counting.proofs.Renaming.{ends_upto-partner, Respects-ends, partner-within}
+use Rattle.cp_orbits.specs.Classes.{labels, classes, graph, orbits, Respects}
+use Rattle.cp_orbits.specs.Orbits.{Permutes, exchange}
+use Rattle.cp_faces.specs.Faces.{face_upto, partner}
+use Rattle.cp_orbits.proofs.ClassLabels.{labels-respects, same_labels, classes_coarser, classes_equal, classes_joined}
+use Rattle.cp_orbits.proofs.OrbitLaws.{Respects-graph, graph-respects, graph_agree, orbits_agree, exchange_case, exchange-below, exchange-exchange, Permutes-exchange}
+use Rattle.cp_orbits.proofs.Exchanges.{joined_labels, orbits_joined, orbits_split, orbits_exchanged-ge}
+use Rattle.cp_faces.proofs.Faces.{face_upto-Permutes}
+use Rattle.cp_faces.proofs.Merges.{face_upto-partner, face_upto-merged}
+use Rattle.cp_faces.proofs.Renaming.{ends_upto-partner, Respects-ends, partner-within}
 
 -- the pairs of darts of one edge, of the first i edges, and of darts that follow each other
 abbrev pub linked : (ℕ → ℕ) → ℕ → ℕ → List (ℕ × ℕ)

@@ -1,14 +1,14 @@
 -- A rotation is flat by its darts exactly where Euler's formula holds.
 use Rattle.std.proofs.Common.{◌≡◌, ℕ, zero, suc, ◌+◌, ◌*◌, ◌<◌, ◌≤◌, Bool, true, false, cond, not, ◌&&◌, eqb, sym, refl, ap, ap₂, ◌∙◌, subst, ⊎_elim, arith}
 use Rattle.std.proofs.lemmas.Bool.{cases_eq, cases_Bool, eq-eqb, ne_eqb, eqb-true, cond-true, cond-false, and_parts, and_from, not_from_false, not_from_true, not-true, false≢true}
-use Rattle.cp_counting.specs.Count.{count}
-use Rattle.cp_counting.specs.Classes.{labels, graph, Respects}
-use Rattle.cp_counting.specs.Faces.{Turns, ends_upto, stands, bare, faces, components}
-use Rattle.cp_counting.proofs.Counting.{count_agree, count_inject, count_yes, count_no}
-use Rattle.cp_counting.proofs.ClassLabels.{labels-le, labels-respects, labels-keeps, labels-labels, same_labels}
-use Rattle.cp_counting.proofs.OrbitLaws.{Respects-graph}
-use Rattle.cp_counting.proofs.Faces.{stands_at, stands_some, orbits-bare, vertex-orbit, euler_bound}
-use Rattle.cp_counting.proofs.Renaming.{Respects-ends, ends-respects}
+use Rattle.cp_lists.specs.Count.{count}
+use Rattle.cp_orbits.specs.Classes.{labels, graph, Respects}
+use Rattle.cp_faces.specs.Faces.{Turns, ends_upto, stands, bare, faces, components}
+use Rattle.cp_lists.proofs.Counting.{count_agree, count_inject, count_yes, count_no}
+use Rattle.cp_orbits.proofs.ClassLabels.{labels-le, labels-respects, labels-keeps, labels-labels, same_labels}
+use Rattle.cp_orbits.proofs.OrbitLaws.{Respects-graph}
+use Rattle.cp_faces.proofs.Faces.{stands_at, stands_some, orbits-bare, vertex-orbit, euler_bound}
+use Rattle.cp_faces.proofs.Renaming.{Respects-ends, ends-respects}
 use Rattle.cp_rotlaw.proofs.FlatMaps.{linked, linked-from, linked-graph, linked-edges, parts, IsFlat}
 
 -- those that pass a test, by a second test

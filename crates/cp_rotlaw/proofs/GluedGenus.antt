@@ -2,17 +2,17 @@
 use Rattle.std.proofs.Common.{◌≡◌, ℕ, suc, ◌+◌, ◌-◌, ◌*◌, ◌/◌, ◌%◌, ◌<◌, ◌≤◌, ◌≢◌, Bool, true, false, cond, eqb, ltb, List, length, map, reverse, slice_index, sym, refl, ap, ap₂, ◌∙◌, subst, ⊎_elim, arith}
 use Rattle.std.proofs.lemmas.Bool.{cases_eq, cases_lt, eq-eqb, ne_eqb, eqb-true, eqb-false, cond-true, cond-false, lt-ltb, le-ltb, false≢true}
 use Rattle.std.proofs.lemmas.List.{get_or-map, length-map, length-reverse}
-use Rattle.cp_counting.specs.Count.{count}
-use Rattle.cp_counting.specs.Classes.{labels}
-use Rattle.cp_counting.specs.Orbits.{Permutes}
-use Rattle.cp_counting.specs.CyclicLists.{Has, Distinct, follow}
-use Rattle.cp_counting.specs.Faces.{partner, on_edges}
-use Rattle.cp_counting.proofs.ClassLabels.{same_labels}
-use Rattle.cp_counting.proofs.OrbitLaws.{Respects-graph}
-use Rattle.cp_counting.proofs.Merges.{partner-twin}
-use Rattle.cp_counting.proofs.Parts.{partner_more, partner_shift}
-use Rattle.cp_counting.proofs.DistinctLists.{Has_at, Has-place, Distinct-from}
-use Rattle.cp_counting.proofs.ListRotations.{follow_at, follow_last}
+use Rattle.cp_lists.specs.Count.{count}
+use Rattle.cp_orbits.specs.Classes.{labels}
+use Rattle.cp_orbits.specs.Orbits.{Permutes}
+use Rattle.cp_lists.specs.CyclicLists.{Has, Distinct, follow}
+use Rattle.cp_faces.specs.Faces.{partner, on_edges}
+use Rattle.cp_orbits.proofs.ClassLabels.{same_labels}
+use Rattle.cp_orbits.proofs.OrbitLaws.{Respects-graph}
+use Rattle.cp_faces.proofs.Merges.{partner-twin}
+use Rattle.cp_faces.proofs.Parts.{partner_more, partner_shift}
+use Rattle.cp_lists.proofs.DistinctLists.{Has_at, Has-place, Distinct-from}
+use Rattle.cp_lists.proofs.FollowedLists.{follow_at, follow_last}
 use Rattle.cp_rot.specs.Systems.{System, darts, edges, twin, vertex_of, list_of, next, place_after, IsRotation}
 use Rattle.cp_rot.specs.Genus.{HasGenusZero}
 use Rattle.cp_rot.proofs.Rotations.{twin-twin, twin-below, twin_even, twin_odd, place_after_last, place_after_other, item_stands, next_stands, next_of_item}
@@ -20,7 +20,8 @@ use Rattle.cp_rot.proofs.Functions.{next-follow, Turns-system, zero_counts, HasG
 use Rattle.cp_rot.proofs.ListSystems.{Listed-system}
 use Rattle.cp_rotlaw.specs.Systems.{HasNoLoopAt}
 use Rattle.cp_rotlaw.specs.Glue.{ArePartners, AreReversed, partner_of_first, partner_of_second, edge_avoids, IsGlued}
-use Rattle.cp_rotlaw.proofs.MappedLists.{reverse_at, turn-follow}
+use Rattle.cp_lists.proofs.ReversedLists.{reverse_at}
+use Rattle.cp_lists.proofs.TurnedLists.{turn-follow}
 use Rattle.cp_rotlaw.proofs.GluedPairs.{partner_first, partner_second}
 use Rattle.cp_rotlaw.proofs.GluedDarts.{number, kept, number_joined, number_kept, number-below, number-apart, number-other, origin, size, IsRotation-glued, next_first, next_second}
 use Rattle.cp_rotlaw.proofs.FlatMaps.{linked, linked-from, IsFlat}

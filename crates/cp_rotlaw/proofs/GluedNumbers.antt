@@ -3,8 +3,8 @@ use Rattle.std.proofs.Common.{◌≡◌, ℕ, zero, suc, ◌+◌, ◌-◌, ◌<�
 use Rattle.std.proofs.lemmas.List.{map-append}
 use Rattle.std.proofs.lemmas.Bool.{cases_eq, cases_lt, eq-eqb, ne_eqb, lt-ltb, le-ltb, cond-true, cond-false, false≢true}
 use Rattle.std.proofs.lemmas.List.{get_or-set_same, get_or-set_other, take_more}
-use Rattle.cp_counting.specs.Count.{count}
-use Rattle.cp_counting.proofs.Counting.{count_yes, count_no}
+use Rattle.cp_lists.specs.Count.{count}
+use Rattle.cp_lists.proofs.Counting.{count_yes, count_no}
 use Rattle.cp_rotlaw.specs.Systems.{is_other}
 use Rattle.cp_rotlaw.specs.GlueTables.{old_vertex}
 

@@ -2,11 +2,11 @@
 use Rattle.std.proofs.Common.{◌≡◌, ℕ, zero, suc, ◌<◌, Bool, true, cond, ◌&&◌, eqb, List, [], ◌∷◌, length, map, get_or, sym, refl, ap, ap₂, ◌∙◌, subst, ⊎_elim, arith}
 use Rattle.std.proofs.lemmas.Bool.{cases_eq, cases_Bool, cases_lt, eq-eqb, ne_eqb, eqb-true, cond-true, cond-false}
 use Rattle.std.proofs.lemmas.List.{get_or-map, length-map}
-use Rattle.cp_counting.specs.Count.{count, Exactly}
-use Rattle.cp_counting.specs.CyclicLists.{Has, Distinct}
-use Rattle.cp_counting.proofs.Counting.{count_yes, count_no, count_higher}
-use Rattle.cp_counting.proofs.ExactLists.{place_of}
-use Rattle.cp_counting.proofs.DistinctLists.{has_other, Has_at, Exactly-Distinct}
+use Rattle.cp_lists.specs.Count.{count, Exactly}
+use Rattle.cp_lists.specs.CyclicLists.{Has, Distinct}
+use Rattle.cp_lists.proofs.Counting.{count_yes, count_no, count_higher}
+use Rattle.cp_lists.proofs.ExactLists.{place_of}
+use Rattle.cp_lists.proofs.DistinctLists.{has_other, Has_at, Exactly-Distinct}
 use Rattle.cp_rot.specs.Systems.{System, darts, vertex_of}
 use Rattle.cp_rotlaw.specs.Glue.{ArePartners, partner_of_first, partner_of_second}
 

@@ -1,9 +1,9 @@
 -- What the code of gluing needs of its tables.
 use Rattle.std.proofs.Common.{◌≡◌, ℕ, ◌+◌, ◌-◌, ◌*◌, ◌/◌, ◌%◌, ◌<◌, ◌≤◌, ◌≢◌, eqb, List, [], ◌∷◌, ◌++◌, length, map, slice_index, sym, ap, ap₂, ◌∙◌, ⊎_elim, arith}
 use Rattle.std.proofs.lemmas.Bool.{cases_eq, eq-eqb, ne_eqb, eqb-true, cond-true, cond-false}
-use Rattle.cp_counting.specs.Count.{count, Exactly}
-use Rattle.cp_counting.specs.Faces.{on_edges}
-use Rattle.cp_counting.proofs.Counting.{count-le}
+use Rattle.cp_lists.specs.Count.{count, Exactly}
+use Rattle.cp_faces.specs.Faces.{on_edges}
+use Rattle.cp_lists.proofs.Counting.{count-le}
 use Rattle.cp_rot.specs.Systems.{System, darts, edges, twin, vertex_of, IsRotation}
 use Rattle.cp_rot.specs.Rewrites.{values}
 use Rattle.cp_rot.proofs.Rotations.{twin-twin, twin-below}

@@ -1,4 +1,3 @@
-pub mod MappedLists
 pub mod ShortOrbits
 pub mod DipoleGenus
 pub mod GluedNumbers

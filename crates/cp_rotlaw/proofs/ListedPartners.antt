@@ -1,13 +1,14 @@
 -- Pairs of the darts at two vertices in the order of the lists.
 use Rattle.std.proofs.Common.{◌≡◌, ℕ, ◌<◌, eqb, List, length, map, reverse, take, drop, sym, ap, ◌∙◌, subst, arith, take-append-drop, ext_get_or}
 use Rattle.std.proofs.lemmas.List.{get_or-map, length-map, reverse-reverse}
-use Rattle.cp_base.specs.Turns.{IsTurn}
-use Rattle.cp_counting.specs.Count.{Exactly}
-use Rattle.cp_counting.specs.CyclicLists.{Distinct}
-use Rattle.cp_counting.proofs.DistinctLists.{Distinct-turn, Exactly-from, Exactly-Distinct, Exactly-Has}
+use Rattle.cp_lists.specs.Turns.{IsTurn}
+use Rattle.cp_lists.specs.Count.{Exactly}
+use Rattle.cp_lists.specs.CyclicLists.{Distinct}
+use Rattle.cp_lists.proofs.DistinctLists.{Distinct-turn, Exactly-from, Exactly-Distinct, Exactly-Has}
 use Rattle.cp_rot.specs.Systems.{System, darts, vertex_of, list_of, IsRotation}
 use Rattle.cp_rotlaw.specs.Glue.{ArePartners, AreReversed, partner_of_first}
-use Rattle.cp_rotlaw.proofs.MappedLists.{Has-reverse, reverse-Has, Distinct-reverse, turn-Has, Has-of_turn}
+use Rattle.cp_lists.proofs.ReversedLists.{Has-reverse, reverse-Has, Distinct-reverse}
+use Rattle.cp_lists.proofs.TurnedLists.{turn-Has, Has-of_turn}
 use Rattle.cp_rotlaw.proofs.GluedPairs.{partner-first}
 
 -- the seconds of pairs are the partners of the firsts

@@ -1,15 +1,15 @@
 -- Vertices of two darts left out, where the two edges at each become one: a flat map stays flat.
 use Rattle.std.proofs.Common.{◌≡◌, ℕ, ◌*◌, ◌<◌, ◌≤◌, ◌≢◌, Bool, true, false, cond, not, ◌&&◌, eqb, sym, refl, ap, ◌∙◌, subst, ⊎_elim, arith}
 use Rattle.std.proofs.lemmas.Bool.{cases_Bool, eq-eqb, ne_eqb, eqb-true, cond-true, cond-false, and_parts, and_from, not_from_false, not-true}
-use Rattle.cp_counting.specs.Count.{count}
-use Rattle.cp_counting.specs.Classes.{labels, graph, orbits, Respects}
-use Rattle.cp_counting.specs.Orbits.{Permutes}
-use Rattle.cp_counting.specs.Faces.{face_upto, partner}
-use Rattle.cp_counting.proofs.Counting.{count_all, count_both, count_inject, count_weaker}
-use Rattle.cp_counting.proofs.ClassLabels.{labels-le, labels-respects, labels-labels, same_labels, classes_transport-le}
-use Rattle.cp_counting.proofs.OrbitLaws.{Respects-graph, graph-respects, label_step}
-use Rattle.cp_counting.proofs.Merges.{face_upto-partner, partner-partner, partner_even}
-use Rattle.cp_counting.proofs.Renaming.{partner-within}
+use Rattle.cp_lists.specs.Count.{count}
+use Rattle.cp_orbits.specs.Classes.{labels, graph, orbits, Respects}
+use Rattle.cp_orbits.specs.Orbits.{Permutes}
+use Rattle.cp_faces.specs.Faces.{face_upto, partner}
+use Rattle.cp_lists.proofs.Counting.{count_all, count_both, count_inject, count_weaker}
+use Rattle.cp_orbits.proofs.ClassLabels.{labels-le, labels-respects, labels-labels, same_labels, classes_transport-le}
+use Rattle.cp_orbits.proofs.OrbitLaws.{Respects-graph, graph-respects, label_step}
+use Rattle.cp_faces.proofs.Merges.{face_upto-partner, partner-partner, partner_even}
+use Rattle.cp_faces.proofs.Renaming.{partner-within}
 use Rattle.cp_rotlaw.proofs.FlatMaps.{linked, linked-from, linked-graph, linked-partner, parts, rounds, IsFlat}
 use Rattle.cp_rotlaw.proofs.FlatRotations.{count_parts}
 

@@ -2,12 +2,12 @@
 use Rattle.std.proofs.Common.{◌≡◌, ℕ, zero, suc, ◌*◌, ◌<◌, ◌≤◌, ◌⊎◌, ◌≢◌, Bool, true, not, eqb, sym, refl, ap, ◌∙◌, subst, inl, inr, ⊎_elim, arith}
 use Rattle.std.specs.Fn.{iterate}
 use Rattle.std.proofs.lemmas.Bool.{cases_eq, eq-eqb, ne_eqb, eqb-true, eqb-false, not_from_false, not-true}
-use Rattle.cp_counting.specs.Count.{count, without}
-use Rattle.cp_counting.specs.Classes.{labels, graph, orbits}
-use Rattle.cp_counting.specs.Orbits.{Permutes}
-use Rattle.cp_counting.proofs.Counting.{count_inject, count_both, count_without, without_other}
-use Rattle.cp_counting.proofs.ClassLabels.{labels-le, labels-labels}
-use Rattle.cp_counting.proofs.OrbitLaws.{label_step, Reaches-label, label-reached}
+use Rattle.cp_lists.specs.Count.{count, without}
+use Rattle.cp_orbits.specs.Classes.{labels, graph, orbits}
+use Rattle.cp_orbits.specs.Orbits.{Permutes}
+use Rattle.cp_lists.proofs.Counting.{count_inject, count_both, count_without, without_other}
+use Rattle.cp_orbits.proofs.ClassLabels.{labels-le, labels-labels}
+use Rattle.cp_orbits.proofs.OrbitLaws.{label_step, Reaches-label, label-reached}
 
 -- a walk from a number of an orbit of two stays in it
 iterate_two : (f : ℕ → ℕ) (k x : ℕ) → f (f x) ≡ x → (iterate f k x ≡ x) ⊎ (iterate f k x ≡ f x)

@@ -1,8 +1,8 @@
 -- A vertex that is split into parts leaves the blocks as they are.
 use Rattle.std.proofs.Common.{◌≡◌, ℕ, suc, ◌+◌, ◌-◌, ◌*◌, ◌/◌, ◌%◌, ◌<◌, List, length, slice_index, slice_index_or, sym, refl, ap, ◌∙◌, subst₂, inl, inr, ⊎_elim, arith}
 use Rattle.std.proofs.lemmas.Bool.{cases_eq}
-use Rattle.cp_counting.specs.Connected.{Joins}
-use Rattle.cp_counting.proofs.ClassLabels.{connected_labels}
+use Rattle.cp_orbits.specs.Connected.{Joins}
+use Rattle.cp_orbits.proofs.ClassLabels.{connected_labels}
 use Rattle.cp_conn.specs.CutVertex.{without_vertex}
 use Rattle.cp_conn.specs.Darts.{start, finish}
 use Rattle.cp_conn.specs.Blocks.{IsSimpleCycle, AreInOneBlock}

@@ -6,10 +6,10 @@ use Rattle.std.proofs.lemmas.Bool.{cases_eq, cases_lt, cases_order, eq-eqb, ne_e
 use Rattle.std.proofs.lemmas.List.{get_or-set_same, get_or-set_other, length-set, get_or-replicate, length-replicate, get_or_past, take_more, get_or_default, get_or-map, length-map}
 use Rattle.std.proofs.lemmas.List.Elements.{filter_more}
 use Rattle.cp_base.specs.Graphs.{AreWithin}
-use Rattle.cp_counting.specs.Count.{count, IsCount}
-use Rattle.cp_counting.specs.Connected.{Connected}
-use Rattle.cp_counting.proofs.Counting.{IsCount-unique, IsCount-le, IsCount-next_yes, count_higher}
-use Rattle.cp_counting.proofs.ClassLabels.{Connected-sym, Connected-trans, Connected-closed}
+use Rattle.cp_lists.specs.Count.{count, IsCount}
+use Rattle.cp_orbits.specs.Connected.{Connected}
+use Rattle.cp_lists.proofs.Counting.{IsCount-unique, IsCount-le, IsCount-next_yes, count_higher}
+use Rattle.cp_orbits.proofs.ClassLabels.{Connected-sym, Connected-trans, Connected-closed}
 use Rattle.cp_conn.specs.CutVertex.{avoids, without_vertex}
 use Rattle.cp_conn.specs.Numbering.{IsLeast, HasNumber, AreNumbered}
 use Rattle.cp_conn.proofs.CutVertices.{kept_pair, avoided}

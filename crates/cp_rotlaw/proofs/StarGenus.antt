@@ -3,15 +3,15 @@ use Rattle.std.proofs.Common.{◌≡◌, ◌≢◌, ℕ, zero, suc, ◌+◌, ◌
 use Rattle.std.specs.List.{filter}
 use Rattle.std.proofs.lemmas.Bool.{cases_eq, cases_lt, cases_Bool, eq-eqb, ne_eqb, eqb-true, le-ltb, lt-ltb, false≢true}
 use Rattle.std.proofs.lemmas.List.{get_or_default}
-use Rattle.cp_counting.specs.CyclicLists.{Has}
-use Rattle.cp_counting.proofs.Counting.{same_tests}
+use Rattle.cp_lists.specs.CyclicLists.{Has}
+use Rattle.cp_lists.proofs.Counting.{same_tests}
 use Rattle.cp_rot.specs.Systems.{System, darts, edges, twin, vertex_of, list_of, IsRotation}
 use Rattle.cp_rot.specs.Genus.{HasGenusZero}
 use Rattle.cp_rot.specs.Rewrites.{values, system, split_vertex, split_list, split_off}
 use Rattle.cp_rot.specs.Laws.{MeetAt}
 use Rattle.cp_rot.proofs.ListEdits.{length-values}
 use Rattle.cp_rot.proofs.ListSystems.{Listed-system, system_at, system_list, system-edges}
-use Rattle.cp_rot.proofs.FilteredLists.{filter_agree, filter_all}
+use Rattle.cp_lists.proofs.FilteredLists.{filter_agree, filter_all}
 use Rattle.cp_rot.proofs.SplitVertices.{IsRotation-split}
 use Rattle.cp_rot.proofs.RestrictionLaws.{split_keeps_zero}
 use Rattle.cp_rotlaw.specs.Stars.{IsDartOf, star_vertex}

@@ -3,8 +3,8 @@ use Rattle.std.proofs.Common.{◌≡◌, ℕ, zero, suc, ◌+◌, ◌-◌, ◌*�
 use Rattle.std.specs.List.{Contains}
 use Rattle.std.proofs.lemmas.Bool.{cases_eq, cases_lt, eq-eqb, ne_eqb, lt-ltb, le-ltb}
 use Rattle.std.proofs.lemmas.List.{same_lists}
-use Rattle.cp_counting.specs.Connected.{Connected, here, step}
-use Rattle.cp_counting.proofs.ClassLabels.{Respects-from, Connected-keeps}
+use Rattle.cp_orbits.specs.Connected.{Connected, here, step}
+use Rattle.cp_orbits.proofs.ClassLabels.{Respects-from, Connected-keeps}
 use Rattle.cp_conn.specs.CutVertex.{without_vertex, avoids}
 use Rattle.cp_conn.proofs.CutVertices.{kept_of, avoids_of}
 use Rattle.cp_rot.specs.Systems.{System, darts, edges, twin, vertex_of, list_of, IsRotation}

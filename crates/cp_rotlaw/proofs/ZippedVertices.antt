@@ -1,9 +1,9 @@
 -- Two vertices of different components whose lists are reverse: made one and split into pairs, they leave a map flat.
 use Rattle.std.proofs.Common.{◌≡◌, ℕ, zero, suc, ◌*◌, ◌<◌, ◌≤◌, ◌≢◌, sym, refl, ap, ◌∙◌, ⊎_elim, arith}
 use Rattle.std.proofs.lemmas.Bool.{cases_eq}
-use Rattle.cp_counting.specs.Classes.{labels, graph}
-use Rattle.cp_counting.specs.Orbits.{Permutes}
-use Rattle.cp_counting.proofs.OrbitLaws.{label_step, exchange_left, exchange_right, exchange_other, Permutes-exchange}
+use Rattle.cp_orbits.specs.Classes.{labels, graph}
+use Rattle.cp_orbits.specs.Orbits.{Permutes}
+use Rattle.cp_orbits.proofs.OrbitLaws.{label_step, exchange_left, exchange_right, exchange_other, Permutes-exchange}
 use Rattle.cp_rotlaw.proofs.FlatMaps.{linked, exchanged, IsFlat, joined-IsFlat, split-IsFlat}
 
 -- the lists of the two vertices are x m .. x 0 and y 0 .. y m

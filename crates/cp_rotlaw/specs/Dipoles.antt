@@ -1,6 +1,6 @@
 -- Dipoles: two vertices, and edges from one to the other.
 use Rattle.std.specs.Prelude.{◌≡◌, ◌≢◌, ℕ, ◌/◌, ◌<◌, List, map, reverse}
-use Rattle.cp_base.specs.Turns.{IsTurn}
+use Rattle.cp_lists.specs.Turns.{IsTurn}
 use Rattle.cp_rot.specs.Systems.{System, darts, edges, twin, vertex_of, list_of}
 
 -- two vertices, at least one edge, and no loop

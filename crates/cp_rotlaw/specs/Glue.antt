@@ -1,8 +1,8 @@
 -- Gluing: a vertex of one rotation system and a vertex of another go, and their edges are joined in pairs.
 use Rattle.std.specs.Prelude.{◌≡◌, ◌≢◌, ℕ, ◌+◌, ◌-◌, ◌*◌, ◌<◌, ◌==◌, Bool, cond, ◌&&◌, List, [], ◌∷◌, map, reverse}
-use Rattle.cp_base.specs.Turns.{IsTurn}
-use Rattle.cp_counting.specs.Count.{count, Exactly}
-use Rattle.cp_counting.specs.Faces.{on_edges}
+use Rattle.cp_lists.specs.Turns.{IsTurn}
+use Rattle.cp_lists.specs.Count.{count, Exactly}
+use Rattle.cp_faces.specs.Faces.{on_edges}
 use Rattle.cp_rot.specs.Systems.{System, darts, edges, twin, vertex_of, list_of}
 use Rattle.cp_rotlaw.specs.Systems.{is_other}
 

@@ -1,6 +1,6 @@
 -- What gluing writes: the vertex of each number, and the list of each vertex.
 use Rattle.std.specs.Prelude.{◌≡◌, ◌≢◌, ℕ, ◌+◌, ◌-◌, ◌*◌, ◌<◌, ltb, cond, List, length, map, slice_index}
-use Rattle.cp_counting.specs.Count.{count}
+use Rattle.cp_lists.specs.Count.{count}
 use Rattle.cp_rot.specs.Systems.{System, darts, edges, vertex_of, list_of}
 use Rattle.cp_rotlaw.specs.Glue.{edge_avoids, first_vertex, second_vertex, second_dart}
 

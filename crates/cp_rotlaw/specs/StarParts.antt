@@ -1,7 +1,7 @@
 -- How a vertex is split: which part each vertex lies in, where the darts stand, and the lists.
 use Rattle.std.specs.Prelude.{◌≡◌, ℕ, suc, ◌+◌, ◌-◌, ◌<◌, ◌≤◌, ◌==◌, ltb, Bool, true, cond, List, [], length, slice_index, slice_index_or}
 use Rattle.std.specs.List.{filter}
-use Rattle.cp_counting.specs.Connected.{Connected}
+use Rattle.cp_orbits.specs.Connected.{Connected}
 use Rattle.cp_conn.specs.CutVertex.{without_vertex}
 use Rattle.cp_rot.specs.Systems.{System, darts, twin, vertex_of, list_of}
 use Rattle.cp_rot.specs.Genus.{end_pairs}

@@ -1,7 +1,7 @@
 -- Splitting a vertex: one vertex for each component that an edge of it enters once it is removed.
 use Rattle.std.specs.Prelude.{◌≡◌, ◌≢◌, ◌↔◌, ℕ, zero, suc, ◌+◌, ◌/◌, ◌<◌, ◌≤◌, ◌==◌, cond}
 use Rattle.std.specs.List.{filter}
-use Rattle.cp_counting.specs.Connected.{Connected}
+use Rattle.cp_orbits.specs.Connected.{Connected}
 use Rattle.cp_conn.specs.CutVertex.{without_vertex}
 use Rattle.cp_conn.specs.Blocks.{AreInOneBlock}
 use Rattle.cp_rot.specs.Systems.{System, darts, edges, twin, vertex_of, list_of}

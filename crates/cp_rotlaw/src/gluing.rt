@@ -1,6 +1,6 @@
 // Two rotation systems glued at a vertex of each.
 ghost use Rattle.std.specs.Prelude.{◌≡◌, ◌≢◌, ℕ, ◌+◌, ◌*◌, ◌/◌, ◌<◌, ◌≤◌, ◌==◌, IfOk, List, length, map, slice_index};
-ghost use Rattle.cp_counting.specs.Count.{Exactly};
+ghost use Rattle.cp_lists.specs.Count.{Exactly};
 ghost use Rattle.cp_rot.specs.Systems.{IsRotation, darts, edges, vertex_of};
 ghost use Rattle.cp_rot.specs.Genus.{HasGenusZero};
 ghost use Rattle.cp_rot.specs.Tables.{system_of};

@@ -1,7 +1,7 @@
 // The tables of two rotation systems that are glued.
 ghost use Rattle.std.specs.Prelude.{◌≡◌, ◌≢◌, ℕ, ◌+◌, ◌-◌, ◌*◌, ◌/◌, ◌^◌, ◌<◌, ◌≤◌, ◌↔◌, IfOk, IsTrue, length, map, slice_index, slice_index_or};
-ghost use Rattle.cp_counting.specs.Count.{count};
-ghost use Rattle.cp_counting.specs.Faces.{on_edges};
+ghost use Rattle.cp_lists.specs.Count.{count};
+ghost use Rattle.cp_faces.specs.Faces.{on_edges};
 ghost use Rattle.cp_rot.specs.Systems.{darts, edges, twin, vertex_of, list_of};
 ghost use Rattle.cp_rot.specs.Rewrites.{values};
 ghost use Rattle.cp_rotlaw.specs.Systems.{is_other};

@@ -1,7 +1,7 @@
 // The components that the edges of a vertex enter once it is removed, numbered by their least edges.
 ghost use Rattle.std.specs.Prelude.{◌≡◌, ℕ, ◌+◌, ◌*◌, ◌<◌, ◌≤◌, ◌^◌, length, map, slice_index, IfOk};
 ghost use Rattle.cp_base.specs.Graphs.{AreWithin};
-ghost use Rattle.cp_counting.specs.Connected.{Connected};
+ghost use Rattle.cp_orbits.specs.Connected.{Connected};
 ghost use Rattle.cp_conn.specs.CutVertex.{without_vertex};
 ghost use Rattle.cp_conn.specs.Numbering.{AreNumbered};
 ghost use Rattle.cp_rot.specs.Systems.{darts, twin, vertex_of};

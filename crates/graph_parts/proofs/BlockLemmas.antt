@@ -3,7 +3,7 @@ use Rattle.std.proofs.Common.{IsTrue, ◌≡◌, ◌==◌, ℕ, zero, suc, ◌+�
 use Rattle.std.proofs.lemmas.Bool.{cases_eq}
 use Rattle.std.proofs.lemmas.List.{get_or-set_same, get_or-set_other}
 use Rattle.cp_base.specs.Graphs.{AreWithin}
-use Rattle.cp_counting.specs.Count.{count}
+use Rattle.cp_lists.specs.Count.{count}
 use Rattle.cp_conn.specs.Blocks.{AreInOneBlock}
 use Rattle.cp_conn.specs.Numbering.{HasNumber, AreNumbered}
 use Rattle.cp_ears.specs.Bipolar.{IsOneBlock, HaveEdges}

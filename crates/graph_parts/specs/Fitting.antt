@@ -1,7 +1,7 @@
 -- What is printed of a graph, and which graphs have it.
 use Rattle.std.specs.Prelude.{◌≡◌, ℕ, ◌<◌, ◌↔◌, Bool, true, false, List, [], ◌∷◌, length, slice_index_or}
 use Rattle.cp_base.specs.Graphs.{PlainGraph}
-use Rattle.cp_counting.specs.Connected.{Connected}
+use Rattle.cp_orbits.specs.Connected.{Connected}
 use Rattle.cp_conn.specs.Blocks.{HaveNoLoop, AreInOneBlock, Touches}
 use Rattle.cp_conn.specs.Numbering.{AreNumbered}
 use Rattle.cp_ears.specs.Bipolar.{IsOneBlock, HaveEdges, IsBipolar}

@@ -1,6 +1,6 @@
 -- no turn by fewer items gives the other list
 use Rattle.std.proofs.Common.{ℕ, ◌<◌}
-use Rattle.cp_base.specs.Turns.{IsTurnBy}
+use Rattle.cp_lists.specs.Turns.{IsTurnBy}
 use Rattle.cp_base.proofs.turns.is_turn.Given as goal
 
 abbrev pub invariant-loop-i : goal.invariant-loop-i

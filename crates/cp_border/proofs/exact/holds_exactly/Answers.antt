@@ -1,6 +1,6 @@
 use Rattle.std.proofs.Common.{arith, sym, ◌∙◌}
 use Rattle.std.proofs.lemmas.Bool.{eqb-true, eq-eqb}
-use Rattle.cp_counting.proofs.ExactLists.{Exactly-length}
+use Rattle.cp_lists.proofs.ExactLists.{Exactly-length}
 use Rattle.cp_border.proofs.exact.holds_exactly.Goals as goal
 
 pub returns-then-marked-items-clause-exact : goal.returns-then-marked-items-clause-exact

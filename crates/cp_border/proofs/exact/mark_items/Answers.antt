@@ -1,5 +1,5 @@
 use Rattle.std.proofs.Common.{◌≡◌, length, subst, arith}
-use Rattle.cp_counting.proofs.ExactLists.{SoFar, SoFar-all}
+use Rattle.cp_lists.proofs.ExactLists.{SoFar, SoFar-all}
 use Rattle.cp_border.proofs.exact.mark_items.Goals as goal
 
 pub returns-clause-all : goal.returns-clause-all

@@ -1,4 +1,4 @@
-use Rattle.cp_counting.proofs.ExactLists.{SoFar}
+use Rattle.cp_lists.proofs.ExactLists.{SoFar}
 use Rattle.cp_border.proofs.exact.mark_items.Given as goal
 
 abbrev pub invariant-loop-i : goal.invariant-loop-i

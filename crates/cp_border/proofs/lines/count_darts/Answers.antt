@@ -1,6 +1,6 @@
 use Rattle.std.proofs.Common.{arith}
 use Rattle.std.specs.Prelude.{◌==◌}
-use Rattle.cp_counting.proofs.Counting.{count-le}
+use Rattle.cp_lists.proofs.Counting.{count-le}
 use Rattle.cp_cgraph.specs.Clustered.{node_of}
 use Rattle.cp_border.proofs.lines.count_darts.Goals as goal
 

@@ -1,6 +1,6 @@
 use Rattle.std.proofs.Common.{◌≡◌, ℕ, ◌<◌, slice_index}
 use Rattle.std.specs.Prelude.{◌==◌}
-use Rattle.cp_counting.specs.Count.{count}
+use Rattle.cp_lists.specs.Count.{count}
 use Rattle.cp_cgraph.specs.Clustered.{nodes, node_of}
 use Rattle.cp_border.proofs.lines.count_darts.Given as goal
 

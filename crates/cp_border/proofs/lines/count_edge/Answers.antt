@@ -1,5 +1,5 @@
 use Rattle.std.proofs.Common.{arith}
-use Rattle.cp_counting.proofs.Counting.{count-le}
+use Rattle.cp_lists.proofs.Counting.{count-le}
 use Rattle.cp_cgraph.specs.Crossings.{leaves}
 use Rattle.cp_border.proofs.Occurrences.{HasRisen-begin, HasRisen-left, HasRisen-entered, HasRisen-le, HasRisen-end}
 use Rattle.cp_border.proofs.lines.count_edge.Goals as goal

@@ -1,5 +1,5 @@
 use Rattle.std.proofs.Common.{◌≡◌, ℕ, ◌<◌, slice_index}
-use Rattle.cp_counting.specs.Count.{count}
+use Rattle.cp_lists.specs.Count.{count}
 use Rattle.cp_cgraph.specs.Clustered.{clusters}
 use Rattle.cp_cgraph.specs.Crossings.{leaves}
 use Rattle.cp_border.proofs.lines.count_leaving.Given as goal

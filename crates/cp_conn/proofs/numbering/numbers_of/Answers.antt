@@ -1,5 +1,5 @@
 use Rattle.std.proofs.Common.{eqb, get_or, arith}
-use Rattle.cp_counting.proofs.Counting.{count-le}
+use Rattle.cp_lists.proofs.Counting.{count-le}
 use Rattle.cp_conn.proofs.numbering.numbers_of.Goals as goal
 
 pub overflow_add-classes : goal.overflow_add-classes

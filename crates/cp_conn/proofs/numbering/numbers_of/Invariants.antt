@@ -1,6 +1,6 @@
 -- The numbers below the next one have the numbers of their classes.
 use Rattle.std.proofs.Common.{◌≡◌, ℕ, ◌<◌, length, get_or, eqb}
-use Rattle.cp_counting.specs.Count.{count}
+use Rattle.cp_lists.specs.Count.{count}
 use Rattle.cp_conn.proofs.numbering.numbers_of.Given as goal
 
 abbrev pub invariant-loop-x : goal.invariant-loop-x

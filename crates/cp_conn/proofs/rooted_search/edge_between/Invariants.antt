@@ -1,6 +1,6 @@
 -- None of the edges so far joins the two.
 use Rattle.std.proofs.Common.{ℕ, ◌<◌, slice_index_or}
-use Rattle.cp_counting.specs.Connected.{Joins}
+use Rattle.cp_orbits.specs.Connected.{Joins}
 use Rattle.cp_conn.proofs.rooted_search.edge_between.Given as goal
 
 abbrev pub invariant-loop-edge : goal.invariant-loop-edge

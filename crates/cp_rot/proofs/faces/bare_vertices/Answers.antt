@@ -1,7 +1,7 @@
 use Rattle.std.proofs.Common.{arith, sym, ◌∙◌, ap, length, subst, ◌+◌}
 use Rattle.std.proofs.lemmas.List.{nil_from_length}
-use Rattle.cp_counting.specs.Count.{IsCount}
-use Rattle.cp_counting.proofs.Counting.{IsCount-none, IsCount-more_yes, IsCount-more_no}
+use Rattle.cp_lists.specs.Count.{IsCount}
+use Rattle.cp_lists.proofs.Counting.{IsCount-none, IsCount-more_yes, IsCount-more_no}
 use Rattle.cp_rot.specs.Systems.{list_of}
 use Rattle.cp_rot.specs.Genus.{IsBare}
 use Rattle.cp_rot.proofs.faces.bare_vertices.Goals as goal

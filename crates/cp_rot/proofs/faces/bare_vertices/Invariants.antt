@@ -1,5 +1,5 @@
 use Rattle.std.proofs.Common.{◌≤◌}
-use Rattle.cp_counting.specs.Count.{IsCount}
+use Rattle.cp_lists.specs.Count.{IsCount}
 use Rattle.cp_rot.specs.Genus.{IsBare}
 use Rattle.cp_rot.proofs.faces.bare_vertices.Given as goal
 

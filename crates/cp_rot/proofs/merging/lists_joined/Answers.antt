@@ -1,6 +1,6 @@
 use Rattle.std.proofs.Common.{arith, List, ℕ, ◌≡◌, ◌<◌, ◌-◌, ◌∙◌, [], length}
 use Rattle.std.proofs.lemmas.List.{get_or_default}
-use Rattle.cp_counting.proofs.OrbitLaws.{exchange-below}
+use Rattle.cp_orbits.proofs.OrbitLaws.{exchange-below}
 use Rattle.cp_rot.specs.RewriteTables.{joined_list}
 use Rattle.cp_rot.proofs.RewriteCode.{joined_list_first, joined_list_other}
 use Rattle.cp_rot.proofs.ListEdits.{values_more}

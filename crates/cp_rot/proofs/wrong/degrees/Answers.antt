@@ -1,6 +1,6 @@
 use Rattle.std.proofs.Common.{arith, ◌≡◌, ◌<◌, length, slice_index, ◌∙◌}
 use Rattle.std.proofs.lemmas.List.{get_or_default}
-use Rattle.cp_counting.proofs.Counting.{count-le}
+use Rattle.cp_lists.proofs.Counting.{count-le}
 use Rattle.cp_rot.specs.Tables.{stands_at}
 use Rattle.cp_rot.proofs.wrong.degrees.Goals as goal
 

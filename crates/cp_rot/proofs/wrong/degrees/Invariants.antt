@@ -1,5 +1,5 @@
 use Rattle.std.proofs.Common.{ℕ, ◌≡◌, ◌<◌, length, slice_index}
-use Rattle.cp_counting.specs.Count.{count}
+use Rattle.cp_lists.specs.Count.{count}
 use Rattle.cp_rot.specs.Tables.{stands_at}
 use Rattle.cp_rot.proofs.wrong.degrees.Given as goal
 

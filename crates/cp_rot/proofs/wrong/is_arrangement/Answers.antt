@@ -1,7 +1,7 @@
 use Rattle.std.proofs.Common.{arith, sym, ◌∙◌, subst, length, ◌≡◌, ◌≤◌, refl}
 use Rattle.std.proofs.lemmas.Bool.{false≢true}
-use Rattle.cp_counting.specs.Count.{count}
-use Rattle.cp_counting.proofs.ExactLists.{SoFar, SoFar-all, stopped_length}
+use Rattle.cp_lists.specs.Count.{count}
+use Rattle.cp_lists.proofs.ExactLists.{SoFar, SoFar-all, stopped_length}
 use Rattle.cp_rot.specs.Tables.{stands_at}
 use Rattle.cp_rot.proofs.wrong.is_arrangement.Goals as goal
 

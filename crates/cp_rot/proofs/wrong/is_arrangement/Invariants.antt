@@ -1,5 +1,5 @@
 use Rattle.std.proofs.Common.{length}
-use Rattle.cp_counting.proofs.ExactLists.{SoFar}
+use Rattle.cp_lists.proofs.ExactLists.{SoFar}
 use Rattle.cp_rot.specs.Tables.{stands_at}
 use Rattle.cp_rot.proofs.wrong.is_arrangement.Given as goal
 

@@ -1,6 +1,6 @@
 use Rattle.std.proofs.Common.{◌≡◌, ◌∙◌, ◌+◌, ◌/◌, List, ℕ, length, slice_index, sym, ap, ap₂, subst, arith, take_at}
 use Rattle.std.proofs.lemmas.List.{get_or_default}
-use Rattle.cp_counting.specs.Faces.{on_edges}
+use Rattle.cp_faces.specs.Faces.{on_edges}
 use Rattle.cp_rot.specs.Systems.{darts, edges}
 use Rattle.cp_rot.specs.Rewrites.{values}
 use Rattle.cp_rot.proofs.ListEdits.{length-values}

@@ -1,6 +1,6 @@
 use Rattle.std.proofs.Common.{arith}
-use Rattle.cp_counting.specs.Count.{count}
-use Rattle.cp_counting.proofs.Counting.{count-le}
+use Rattle.cp_lists.specs.Count.{count}
+use Rattle.cp_lists.proofs.Counting.{count-le}
 use Rattle.cp_rot.specs.Systems.{edges}
 use Rattle.cp_rotlaw.specs.Glue.{edge_avoids}
 use Rattle.cp_rotlaw.proofs.GluedTables.{values_last}

@@ -1,5 +1,5 @@
 use Rattle.std.proofs.Common.{◌≡◌}
-use Rattle.cp_counting.specs.Count.{count}
+use Rattle.cp_lists.specs.Count.{count}
 use Rattle.cp_rot.specs.Rewrites.{values}
 use Rattle.cp_rotlaw.specs.Glue.{edge_avoids}
 use Rattle.cp_rotlaw.proofs.gluing_tables.kept_before.Given as goal

@@ -1,5 +1,5 @@
 use Rattle.std.proofs.Common.{◌≡◌, ◌+◌, slice_index}
-use Rattle.cp_counting.specs.Faces.{on_edges}
+use Rattle.cp_faces.specs.Faces.{on_edges}
 use Rattle.cp_rot.specs.Rewrites.{values}
 use Rattle.cp_rotlaw.proofs.gluing_tables.numbers_from.Given as goal
 

@@ -1,5 +1,5 @@
 use Rattle.std.proofs.Common.{arith}
-use Rattle.cp_counting.proofs.Counting.{count-le}
+use Rattle.cp_lists.proofs.Counting.{count-le}
 use Rattle.cp_rotlaw.specs.Systems.{is_other}
 use Rattle.cp_rotlaw.proofs.gluing_tables.write_second.Goals as goal
 

@@ -1,5 +1,5 @@
 use Rattle.std.proofs.Common.{slice_index, ◌+◌}
-use Rattle.cp_counting.specs.Count.{count}
+use Rattle.cp_lists.specs.Count.{count}
 use Rattle.cp_rot.specs.Systems.{vertex_of}
 use Rattle.cp_rotlaw.specs.Systems.{is_other}
 use Rattle.cp_rotlaw.proofs.GluedNumbers.{Written}

@@ -1,5 +1,5 @@
 use Rattle.std.proofs.Common.{◌∙◌, sym, subst}
-use Rattle.cp_base.specs.Turns.{IsTurn}
+use Rattle.cp_lists.specs.Turns.{IsTurn}
 use Rattle.cp_rot.specs.Systems.{list_of}
 use Rattle.cp_rotlaw.proofs.ListedPartners.{partners_listed, reversed_listed}
 use Rattle.cp_rotlaw.proofs.tests_glue.fit.Goals as goal

@@ -1,0 +1,9 @@
+pub mod Counting
+pub mod ExactLists
+pub mod DistinctLists
+pub mod CyclicLists
+pub mod FollowedLists
+pub mod FilteredLists
+pub mod MappedLists
+pub mod ReversedLists
+pub mod TurnedLists

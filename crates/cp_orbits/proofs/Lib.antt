@@ -1,0 +1,3 @@
+pub mod ClassLabels
+pub mod OrbitLaws
+pub mod Exchanges
