@@ -1,5 +1,5 @@
 -- Some edges of a rotation system alone, and a vertex split where two sets of edges meet.
-use Rattle.std.specs.Prelude.{◌≡◌, ◌≢◌, ◌==◌, ℕ, zero, suc, ◌+◌, ◌/◌, ◌<◌, Bool, true, false, not, ◌&&◌, cond, map, eqb, List, []}
+use Rattle.std.specs.Prelude.{◌≡◌, ◌≢◌, ◌==◌, ℕ, zero, suc, ◌+◌, ◌/◌, ◌<◌, Bool, true, false, not, ◌&&◌, cond, map, List}
 use Rattle.std.specs.List.{filter}
 use Rattle.cp_faces.specs.Faces.{on_edges}
 use Rattle.cp_rot.specs.Systems.{System, darts, edges, vertex_of, list_of, next}
