@@ -80,14 +80,16 @@ impl Rot {
         match first_wrong(alloc, vertices, at, lists)? {
             Some(vertex) => Err(RotFault::NotARotation { vertex }),
             None => {
-                let rot = Rot::stored(alloc, at, lists)?;
+                let rot = Rot::from_rotation(alloc, at, lists)?;
                 Ok(rot)
             }
         }
     }
 
-    // The stored system of lists that make one.
-    fn stored(alloc: Global, at: &[usize], lists: &[CycList]) -> Result<Rot, Memory>
+    /// The system of lists that are known to make one, with as many vertices as there are lists:
+    /// nothing is tested again. `at` tells for each dart the number of its vertex. Linear in the
+    /// numbers of vertices, darts and items.
+    pub fn from_rotation(alloc: Global, at: &[usize], lists: &[CycList]) -> Result<Rot, Memory>
         requires { IsRotation (system_of at.now lists.now) }
         ensures { IfOk result (λ rot. rot ≡ system_of at.now lists.now) }
     {

@@ -7,8 +7,8 @@ use Rattle.cp_faces.specs.Faces.{stands}
 use Rattle.cp_lists.proofs.CyclicLists.{follow-Has}
 use Rattle.cp_faces.proofs.Faces.{stands_at, stands_some}
 use Rattle.cp_rot.specs.Systems.{System, next, edges, vertex_of, list_of, IsRotation}
-use Rattle.cp_rot.specs.Rewrites.{split_vertex, split_list, split_off}
-use Rattle.cp_rot.specs.Laws.{MeetAt}
+use Rattle.cp_rotlaw.specs.Restrictions.{split_vertex, split_list, split_off}
+use Rattle.cp_rotlaw.specs.Restrictions.{MeetAt}
 use Rattle.cp_rot.proofs.ListSystems.{Listed, turn, Listed-edges, system-edges, IsRotation-system}
 use Rattle.cp_lists.proofs.FilteredLists.{Has-filter, filter-Has, filter-Distinct, filter_all, follow_kept}
 use Rattle.cp_rot.proofs.Functions.{next-follow}

@@ -14,14 +14,14 @@ use Rattle.cp_faces.proofs.Renaming.{Respects-ends, Renames-vertices, faces-rena
 use Rattle.cp_faces.proofs.Rewrites.{merged_vertices_between-zero}
 use Rattle.cp_rot.specs.Systems.{System, IsRotation, edges, vertex_of, next}
 use Rattle.cp_rot.specs.Genus.{HasGenusZero}
-use Rattle.cp_rot.specs.Rewrites.{split_off}
-use Rattle.cp_rot.proofs.SplitParts.{split_by_parts}
-use Rattle.cp_rot.specs.Laws.{IsRestricted, MeetAt, IsLastTaken, IsRun}
+use Rattle.cp_rotlaw.specs.Restrictions.{split_off}
+use Rattle.cp_rotlaw.proofs.SplitParts.{split_by_parts}
+use Rattle.cp_rotlaw.specs.Restrictions.{IsRestricted, MeetAt, IsLastTaken, IsRun}
 use Rattle.cp_rot.proofs.Functions.{Turns-system, HasGenusZero-from}
 use Rattle.cp_rot.proofs.ListSystems.{turn, Listed-Rotates, system_zero}
-use Rattle.cp_rot.proofs.BareVertices.{Rotates-more, faces-more_vertices, components-more_vertices}
-use Rattle.cp_rot.proofs.SplitVertices.{at_split, lists_split, split_moved, split_left, split_other, Listed-split, of_taken, of_taken_yes, of_taken_u, of_taken_no, split_turn_kind, split_turn_same}
-use Rattle.cp_rot.proofs.RestrictionLaws.{split_keeps_zero}
+use Rattle.cp_rotlaw.proofs.BareVertices.{Rotates-more, faces-more_vertices, components-more_vertices}
+use Rattle.cp_rotlaw.proofs.SplitVertices.{at_split, lists_split, split_moved, split_left, split_other, Listed-split, of_taken, of_taken_yes, of_taken_u, of_taken_no, split_turn_kind, split_turn_same}
+use Rattle.cp_rotlaw.proofs.RestrictionLaws.{split_keeps_zero}
 
 -- each number below n is the image of one
 pub image_of : (n : ℕ) (f : ℕ → ℕ) → Permutes n f → (y : ℕ) → y < n → (x : ℕ) × (x < n) × (f x ≡ y)

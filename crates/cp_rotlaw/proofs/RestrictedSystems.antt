@@ -1,11 +1,15 @@
 -- Rotation systems restricted to some of their edges.
-use Rattle.std.proofs.Common.{◌≡◌, ℕ, ◌+◌, ◌*◌, ◌/◌, ◌%◌, ◌<◌, Bool, true, List, sym, refl, ap, ap₂, ◌∙◌, arith}
+use Rattle.std.proofs.Common.{◌≡◌, ℕ, zero, suc, ◌+◌, ◌*◌, ◌/◌, ◌%◌, ◌<◌, ◌≤◌, Bool, true, List, sym, refl, ap, ap₂, ◌∙◌, subst, ⊎_elim, arith}
+use Rattle.std.proofs.lemmas.Bool.{cases_Bool, cond-true, cond-false}
 use Rattle.std.specs.List.{filter}
 use Rattle.cp_lists.specs.CyclicLists.{Has, follow}
 use Rattle.cp_faces.specs.Faces.{on_edges}
 use Rattle.cp_lists.proofs.CyclicLists.{follow-Has}
 use Rattle.cp_rot.specs.Systems.{System, IsRotation, edges, vertex_of, list_of, next}
-use Rattle.cp_rot.specs.Laws.{IsRestricted}
+use Rattle.cp_rot.specs.Genus.{HasGenusZero}
+use Rattle.cp_rot.specs.Rewrites.{deleted}
+use Rattle.cp_rot.proofs.DeletedEdges.{IsRotation-deleted, deleted-edges, deleted-HasGenusZero}
+use Rattle.cp_rotlaw.specs.Restrictions.{IsRestricted, restricted}
 use Rattle.cp_rot.proofs.Functions.{next-follow}
 use Rattle.cp_rot.proofs.ListSystems.{Listed, Listed-edges}
 use Rattle.cp_lists.proofs.FilteredLists.{Has-filter, filter-Has}
@@ -89,3 +93,12 @@ module _ (r s : System) (is : IsRotation r) (is' : IsRotation s) (keeps : ℕ �
       ∙ follow-map_on (on_edges number) x (kept_list x)
       (λ f h e. let i = kept_item x f lt h in sym (new_kept f i.0 i.2).1 ∙ ap old e ∙ new.1)
       (Has-filter (λ d. keeps (d / 2)) x (list_of r (vertex_of r x)) (before.own x lt) t)
+
+-- a system of genus zero of which some edges are deleted is one
+pub restricted_zero : (n : ℕ) (keeps : ℕ → Bool) (r : System) → IsRotation r → n ≤ edges r → HasGenusZero r → IsRotation (restricted n keeps r) × HasGenusZero (restricted n keeps r)
+restricted_zero zero keeps r is le z = (is, z)
+restricted_zero (suc n) keeps r is le z = ⊎_elim
+    (λ t. subst (λ s. IsRotation (restricted n keeps s) × HasGenusZero (restricted n keeps s)) (sym (cond-true (keeps n) r (deleted r n) t)) (restricted_zero n keeps r is (omega arith) z))
+    (λ f. subst (λ s. IsRotation (restricted n keeps s) × HasGenusZero (restricted n keeps s)) (sym (cond-false (keeps n) r (deleted r n) f))
+    (restricted_zero n keeps (deleted r n) (IsRotation-deleted r is n (omega arith)) (omega (arith, deleted-edges r is n (omega arith))) (deleted-HasGenusZero r is n (omega arith) z)))
+    (cases_Bool (keeps n))

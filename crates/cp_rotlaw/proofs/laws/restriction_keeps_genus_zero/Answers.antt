@@ -1,8 +1,8 @@
 use Rattle.std.proofs.Common.{arith}
 use Rattle.cp_rot.specs.Systems.{edges}
-use Rattle.cp_rot.proofs.LawCounts.{restricted_zero}
-use Rattle.cp_rot.proofs.RestrictionLaws.{restriction_exists, restriction_zero}
-use Rattle.cp_rot.proofs.laws.restriction_keeps_genus_zero.Goals as goal
+use Rattle.cp_rotlaw.proofs.RestrictedSystems.{restricted_zero}
+use Rattle.cp_rotlaw.proofs.RestrictionLaws.{restriction_exists, restriction_zero}
+use Rattle.cp_rotlaw.proofs.laws.restriction_keeps_genus_zero.Goals as goal
 
 pub returns-clause-edges_deleted : goal.returns-clause-edges_deleted
 returns-clause-edges_deleted c = λ r is zero keeps. restricted_zero (edges r) keeps r is (omega arith) zero

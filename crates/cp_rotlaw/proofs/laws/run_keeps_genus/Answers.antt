@@ -1,5 +1,5 @@
-use Rattle.cp_rot.proofs.SplitRuns.{run_zero, run_by_parts}
-use Rattle.cp_rot.proofs.laws.run_keeps_genus.Goals as goal
+use Rattle.cp_rotlaw.proofs.SplitRuns.{run_zero, run_by_parts}
+use Rattle.cp_rotlaw.proofs.laws.run_keeps_genus.Goals as goal
 
 pub returns-clause-split : goal.returns-clause-split
 returns-clause-split c = λ r is u lt takes meet run. run_zero r is u lt takes meet run
