@@ -11,6 +11,7 @@ mod faces;
 mod laws;
 mod merging;
 mod rot;
+mod storing;
 mod system;
 #[cfg(test)]
 mod tests;

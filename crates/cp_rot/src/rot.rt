@@ -13,6 +13,7 @@ use crate::deleting::without_edge;
 use crate::expanding::with_new_vertex;
 use crate::faces::in_one_face;
 use crate::merging::with_one_vertex;
+use crate::storing::{lists_of, vertices_of_darts};
 use crate::system::RotationSystem;
 use crate::wrong::first_wrong;
 use cp_base::{CycList, Memory};
@@ -95,6 +96,16 @@ impl Rot {
     {
         let at = Vec::from_slice(alloc, at)?;
         let lists = copied_lists(alloc, lists)?;
+        Rot::build(alloc, at, lists)
+    }
+
+    /// The same system as the value tells, stored. Linear in the numbers of vertices and darts where
+    /// each call of the trait takes constant time.
+    pub fn stored<T: RotationSystem>(alloc: Global, t: &T) -> Result<Rot, Memory>
+        ensures { IfOk result (λ rot. rot ≡ T.system t.now) }
+    {
+        let at = vertices_of_darts(alloc, t)?;
+        let lists = lists_of(alloc, t)?;
         Rot::build(alloc, at, lists)
     }
 
