@@ -1,4 +1,5 @@
 pub mod Counting
+pub mod Choices
 pub mod ExactLists
 pub mod DistinctLists
 pub mod CyclicLists
