@@ -1,6 +1,6 @@
 // The stored table of whatever tells a rotation system.
 ghost use Rattle.std.specs.Prelude.{◌≡◌, ◌<◌, IfOk};
-ghost use Rattle.cp_rot.specs.Systems.{darts, list_of};
+ghost use Rattle.cp_rot.specs.Systems.{IsRotation, darts, list_of};
 
 use crate::system::RotationSystem;
 use cp_base::{CycList, Memory};
@@ -35,7 +35,8 @@ fn list_at<T: RotationSystem>(alloc: Global, t: &T, v: usize) -> Result<CycList,
 
 // The lists of all vertices.
 pub(crate) fn lists_of<T: RotationSystem>(alloc: Global, t: &T) -> Result<Vec<CycList>, Memory>
-    ensures { IfOk result (λ lists. lists.items ≡ (T.system t.now).lists) }
+    ensures lists { IfOk result (λ lists. lists.items ≡ (T.system t.now).lists) }
+    ensures rotation { IfOk result (λ _. IsRotation (T.system t.now)) }
 {
     let mut lists = Vec::new(alloc);
     for v in 0..t.vertices() {
