@@ -7,12 +7,9 @@ use Rattle.cp_orbits.proofs.ClassLabels.{Connected-trans}
 use Rattle.cp_conn.specs.Darts.{start, finish}
 use Rattle.cp_conn.specs.Blocks.{HaveNoLoop, IsSimpleCycle, HasEdge, AreInOneBlock}
 use Rattle.cp_conn.proofs.DartChains.{dart_joins, Joins-sym}
+use Rattle.cp_conn.proofs.EdgeEnds.{ends_differ}
 use Rattle.cp_conn.proofs.OneBlock.{one_block_at}
 use Rattle.cp_conn.proofs.BlockSteps.{block_step}
-
--- without loops the two ends of an edge differ
-pub ends_differ : (es : List (ℕ × ℕ)) (e v x : ℕ) → HaveNoLoop es → e < length es → Joins (get_or es e (0, 0)) v x → x ≡ v → ⊥
-ends_differ es e v x none lt j same = ⊎_elim (λ h. none e lt (h.0 ∙ sym same ∙ sym h.1)) (λ h. none e lt (h.0 ∙ same ∙ sym h.1)) j
 
 -- in one block with f, and so with an edge of its block that shares a vertex with it
 through : (es : List (ℕ × ℕ)) (e f g v x y : ℕ) → HaveNoLoop es → f < length es → g < length es → Joins (get_or es f (0, 0)) v x → Joins (get_or es g (0, 0)) v y → AreInOneBlock es f g → AreInOneBlock es e f → AreInOneBlock es e g

@@ -8,10 +8,10 @@ use Rattle.cp_orbits.proofs.ClassLabels.{connected_labels}
 use Rattle.cp_conn.specs.Darts.{start, finish}
 use Rattle.cp_conn.specs.CutVertex.{avoids, without_vertex}
 use Rattle.cp_conn.specs.Blocks.{IsSimpleCycle, HasEdge, AreInOneBlock}
-use Rattle.cp_conn.proofs.DartChains.{dart_of, start_even, start_odd, finish_even, finish_odd, Joins-sym, dart_joins}
+use Rattle.cp_conn.proofs.DartChains.{dart_at, dart_of, start_even, start_odd, finish_even, finish_odd, Joins-sym, dart_joins}
 use Rattle.cp_conn.proofs.CutVertices.{kept_pair, avoided}
 use Rattle.cp_conn.proofs.Paths.{Leads, Misses, Apart, Leads-append, Misses-last, Misses_at, Apart-last, Leads-first}
-use Rattle.cp_conn.proofs.OneBlock.{cycle_of, dart_at, Joins_cases, one_block_at}
+use Rattle.cp_conn.proofs.OneBlock.{cycle_of, Joins_cases, one_block_at}
 
 -- no dart of the one list starts where a dart of the other does
 abbrev pub Disjoint : List (ℕ × ℕ) → List ℕ → List ℕ → Type 0

@@ -7,56 +7,9 @@ use Rattle.cp_orbits.specs.Connected.{Joins}
 use Rattle.cp_conn.specs.CutVertex.{without_vertex}
 use Rattle.cp_conn.specs.Grouping.{touches, other_end, key_of, AreGrouped, IsPlaced, IsPut}
 use Rattle.cp_conn.specs.Blocks.{HaveNoLoop, AreInOneBlock, Touches, AreBlocksAt, item}
-use Rattle.cp_conn.proofs.DartChains.{Contains-at, within_joined}
+use Rattle.cp_conn.proofs.EdgeEnds.{touches_true, touches_of, other_joins, other_differs, other_within}
 use Rattle.cp_conn.proofs.OneBlock.{one_block_at}
 use Rattle.cp_conn.proofs.Grouping.{AreGrouped-put, IsPlaced-put, place-le}
-
-or_cases : (a b : Bool) → (a || b) ≡ true → (a ≡ true) ⊎ (b ≡ true)
-or_cases true b t = inl refl
-or_cases false b t = inr t
-
-or_left : (a b : Bool) → a ≡ true → (a || b) ≡ true
-or_left true b t = refl
-or_left false b t = absurd (false≢true t)
-
-or_right : (a b : Bool) → b ≡ true → (a || b) ≡ true
-or_right true b t = refl
-or_right false b t = t
-
--- the test tells whether the edge touches the vertex
-touches_true : (es : List (ℕ × ℕ)) (v e : ℕ) → touches es v e ≡ true → Touches es v e
-touches_true es v e t =
-    ⊎_elim
-    (λ h. inl (eqb-true (get_or es e (0, 0)).0 v h))
-    (λ h. inr (eqb-true (get_or es e (0, 0)).1 v h))
-    (or_cases (eqb (get_or es e (0, 0)).0 v) (eqb (get_or es e (0, 0)).1 v) t)
-
--- an edge that touches the vertex passes the test
-touches_of : (es : List (ℕ × ℕ)) (v e : ℕ) → Touches es v e → touches es v e ≡ true
-touches_of es v e t =
-    ⊎_elim
-    (λ h. or_left (eqb (get_or es e (0, 0)).0 v) (eqb (get_or es e (0, 0)).1 v) (eq-eqb (get_or es e (0, 0)).0 v h))
-    (λ h. or_right (eqb (get_or es e (0, 0)).0 v) (eqb (get_or es e (0, 0)).1 v) (eq-eqb (get_or es e (0, 0)).1 v h))
-    t
-
--- an edge that touches v joins v and its other end
-pub other_joins : (es : List (ℕ × ℕ)) (v e : ℕ) → touches es v e ≡ true → Joins (get_or es e (0, 0)) v (other_end es v e)
-other_joins es v e t =
-    ⊎_elim
-    (λ h. inl (h, sym (rw (eq-eqb (get_or es e (0, 0)).0 v h) refl)))
-    (λ nh. ⊎_elim
-    (λ k. absurd (nh k))
-    (λ k. inr (sym (rw (ne_eqb (get_or es e (0, 0)).0 v nh) refl), k))
-    (touches_true es v e t))
-    (cases_eq (get_or es e (0, 0)).0 v)
-
--- without loops the other end is another vertex
-other_differs : (es : List (ℕ × ℕ)) (v e : ℕ) → HaveNoLoop es → e < length es → touches es v e ≡ true → other_end es v e ≡ v → ⊥
-other_differs es v e none lt t same = ⊎_elim (λ h. none e lt (h.0 ∙ sym (h.1 ∙ same))) (λ h. none e lt (h.0 ∙ same ∙ sym h.1)) (other_joins es v e t)
-
--- the other end is a vertex
-pub other_within : (es : List (ℕ × ℕ)) (n v e : ℕ) → AreWithin n es → e < length es → touches es v e ≡ true → other_end es v e < n
-other_within es n v e w lt t = within_joined n es (get_or es e (0, 0)) v (other_end es v e) w (Contains-at es e lt) (other_joins es v e t)
 
 -- parts by component are parts by block
 pub blocks_at : (es : List (ℕ × ℕ)) (n v : ℕ) (least : List ℕ) (parts : List (List ℕ)) → AreWithin n es → HaveNoLoop es → ((x : ℕ) → x < n → get_or least x 0 ≡ labels (without_vertex v es) x) → AreGrouped (touches es v) (key_of es v least) (length es) parts → AreBlocksAt es v parts

@@ -36,14 +36,17 @@ pub labelled_leads : (es : List (ℕ × ℕ)) (n : ℕ) (least : List ℕ) → l
 labelled_leads es n least size labelled x lt =
     ap (λ (k : ℕ). get_or least k 0) (labelled x (omega arith)) ∙ labelled (labels es x) (omega (arith, labels-le es x)) ∙ labels-labels es x ∙ sym (labelled x (omega arith))
 
--- the same, as a program reads the graph and the list
-pub numbered_parts : (es read : List (ℕ × ℕ)) (n bound : ℕ) (least seen numbers : List ℕ) → read ≡ es → bound ≡ n → seen ≡ least → length least ≡ bound → ((x : ℕ) → x < bound → get_or least x 0 ≡ labels read x) → length numbers ≡ length seen
-    → ((x : ℕ) → x < length seen → get_or numbers x 0 ≡ count (get_or seen x 0) (λ y. eqb (get_or seen y 0) y)) → AreNumbered (Connected es) n numbers
-numbered_parts es read n bound least seen numbers read_is bound_is seen_is size labelled same counted =
-    subst (λ (fs : List (ℕ × ℕ)). AreNumbered (Connected fs) n numbers) read_is
-    (subst (λ (m : ℕ). AreNumbered (Connected read) m numbers) bound_is
-    (numbered_components read bound least numbers size labelled (same ∙ ap length seen_is)
-    (subst (λ (xs : List ℕ). (x : ℕ) → x < length xs → get_or numbers x 0 ≡ count (get_or xs x 0) (λ y. eqb (get_or xs y 0) y)) seen_is counted)))
+-- the same, as a program reads the list
+pub numbered_parts : (es : List (ℕ × ℕ)) (n : ℕ) (least seen numbers : List ℕ) → seen ≡ least → length least ≡ n
+    → ((x : ℕ) → x < n → get_or least x 0 ≡ labels es x) → length numbers ≡ length seen
+    → ((x : ℕ) → x < length seen → get_or numbers x 0 ≡ count (get_or seen x 0) (λ y. eqb (get_or seen y 0) y))
+    → AreNumbered (Connected es) n numbers
+numbered_parts es n least seen numbers seen_is size labelled same counted =
+    numbered_components es n least numbers size labelled (same ∙ ap length seen_is)
+    (subst
+    (λ (xs : List ℕ). (x : ℕ) → x < length xs
+    → get_or numbers x 0 ≡ count (get_or xs x 0) (λ y. eqb (get_or xs y 0) y))
+    seen_is counted)
 
 -- a label is below the number of vertices
 pub labelled-lt : (es : List (ℕ × ℕ)) (n : ℕ) (least : List ℕ) → length least ≡ n → ((x : ℕ) → x < n → get_or least x 0 ≡ labels es x) → (x : ℕ) → x < length least → get_or least x 0 < length least

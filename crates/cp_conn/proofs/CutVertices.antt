@@ -41,9 +41,15 @@ pub kept_of : {X : Type 0} (p : X → Bool) (es : List X) (e : X) → Contains e
 kept_of p [] e c t = absurd (omega (arith, c.1))
 kept_of p (x ∷ es) e c t = keeps_first p x e es (p x) refl t (Contains-split x e es c) (λ d. kept_of p es e d t)
 
--- the edges that are left are between vertices
+-- edges that pass a test are between vertices, where all edges are
+pub AreWithin-filter : (p : ℕ × ℕ → Bool) (n : ℕ) (es : List (ℕ × ℕ)) → AreWithin n es → AreWithin n (filter p es)
+AreWithin-filter p n es w k lt =
+    within_pair n es (get_or (filter p es) k (0, 0)) w
+    (kept_pair p es (get_or (filter p es) k (0, 0)) (Contains-at (filter p es) k lt)).0
+
+-- the edges that are left where a vertex is removed are between vertices
 pub AreWithin-without : (n v : ℕ) (es : List (ℕ × ℕ)) → AreWithin n es → AreWithin n (without_vertex v es)
-AreWithin-without n v es w k lt = within_pair n es (get_or (without_vertex v es) k (0, 0)) w (kept_pair (avoids v) es (get_or (without_vertex v es) k (0, 0)) (Contains-at (without_vertex v es) k lt)).0
+AreWithin-without n v es w = AreWithin-filter (avoids v) n es w
 
 -- a neighbour is a vertex
 pub near_within : (n : ℕ) (es : List (ℕ × ℕ)) (v x : ℕ) → AreWithin n es → IsNeighbour es v x → x < n

@@ -38,22 +38,43 @@ dart_joins es d lt =
     (λ ne. inr (sym (finish_odd es d ne), sym (start_odd es d ne)))
     (cases_eq (d % 2) 0)
 
--- a pair that joins two vertices has a dart from the one to the other
-pub dart_of : (es : List (ℕ × ℕ)) (e : ℕ × ℕ) (x y : ℕ) → Contains es e → Joins e x y → (d : ℕ) × (d < 2 * length es) × (start es d ≡ x) × (finish es d ≡ y)
-dart_of es e x y c j =
+-- an edge has a dart from either of its ends to the other
+pub dart_at : (es : List (ℕ × ℕ)) (e x y : ℕ) → e < length es → Joins (get_or es e (0, 0)) x y
+    → (d : ℕ) × (d < 2 * length es) × (d / 2 ≡ e) × (start es d ≡ x) × (finish es d ≡ y)
+dart_at es e x y lt j =
     ⊎_elim
-    (λ h. (2 * c.0, omega (arith, c.1), start_even es (2 * c.0) (omega arith) ∙ ap (λ (p : ℕ × ℕ). p.0) even ∙ h.0, finish_even es (2 * c.0) (omega arith) ∙ ap (λ (p : ℕ × ℕ). p.1) even ∙ h.1))
-    (λ h. (2 * c.0 + 1, omega (arith, c.1), start_odd es (2 * c.0 + 1) (λ f. omega arith) ∙ ap (λ (p : ℕ × ℕ). p.1) odd ∙ h.1, finish_odd es (2 * c.0 + 1) (λ f. omega arith) ∙ ap (λ (p : ℕ × ℕ). p.0) odd ∙ h.0))
+    (λ h. (
+      2 * e,
+      omega arith,
+      omega arith,
+      start_even es (2 * e) (omega arith) ∙ ap (λ (p : ℕ × ℕ). p.0) even ∙ h.0,
+      finish_even es (2 * e) (omega arith) ∙ ap (λ (p : ℕ × ℕ). p.1) even ∙ h.1,
+    ))
+    (λ h. (
+      2 * e + 1,
+      omega arith,
+      omega arith,
+      start_odd es (2 * e + 1) (λ f. omega arith) ∙ ap (λ (p : ℕ × ℕ). p.1) odd ∙ h.1,
+      finish_odd es (2 * e + 1) (λ f. omega arith) ∙ ap (λ (p : ℕ × ℕ). p.0) odd ∙ h.0,
+    ))
     j
   where
-    here_is : get_or es c.0 (0, 0) ≡ e
-    here_is = get_or_default es c.0 (0, 0) e c.1 ∙ c.2
+    even : get_or es (2 * e / 2) (0, 0) ≡ get_or es e (0, 0)
+    even = let at : 2 * e / 2 ≡ e = omega arith in ap (λ (k : ℕ). get_or es k (0, 0)) at
 
-    even : get_or es (2 * c.0 / 2) (0, 0) ≡ e
-    even = let at : 2 * c.0 / 2 ≡ c.0 = omega arith in ap (λ (k : ℕ). get_or es k (0, 0)) at ∙ here_is
+    odd : get_or es ((2 * e + 1) / 2) (0, 0) ≡ get_or es e (0, 0)
+    odd = let at : (2 * e + 1) / 2 ≡ e = omega arith in ap (λ (k : ℕ). get_or es k (0, 0)) at
 
-    odd : get_or es ((2 * c.0 + 1) / 2) (0, 0) ≡ e
-    odd = let at : (2 * c.0 + 1) / 2 ≡ c.0 = omega arith in ap (λ (k : ℕ). get_or es k (0, 0)) at ∙ here_is
+-- a pair of the list is what stands at its place
+pub pair_at : (es : List (ℕ × ℕ)) (e : ℕ × ℕ) (c : Contains es e) → get_or es c.0 (0, 0) ≡ e
+pair_at es e c = get_or_default es c.0 (0, 0) e c.1 ∙ c.2
+
+-- a pair that joins two vertices has a dart from the one to the other
+pub dart_of : (es : List (ℕ × ℕ)) (e : ℕ × ℕ) (x y : ℕ) → Contains es e → Joins e x y
+    → (d : ℕ) × (d < 2 * length es) × (start es d ≡ x) × (finish es d ≡ y)
+dart_of es e x y c j =
+    let d = dart_at es c.0 x y c.1 (subst (λ (p : ℕ × ℕ). Joins p x y) (sym (pair_at es e c)) j) in
+    (d.0, d.1, d.3, d.4)
 
 -- the ends of a pair of a graph are vertices of it
 pub within_pair : (n : ℕ) (es : List (ℕ × ℕ)) (e : ℕ × ℕ) → AreWithin n es → Contains es e → (e.0 < n) × (e.1 < n)

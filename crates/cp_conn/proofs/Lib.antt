@@ -15,3 +15,9 @@ pub mod TreeLinks
 pub mod Deepening
 pub mod LowPoints
 pub mod SearchTrees
+pub mod NumberedClasses
+pub mod EdgeEnds
+pub mod CutBlocks
+pub mod BlockLabels
+pub mod BlockPaths
+pub mod NamedGraphs

@@ -8,7 +8,7 @@ use Rattle.cp_orbits.proofs.ClassLabels.{connected_labels}
 use Rattle.cp_conn.specs.Darts.{start, finish}
 use Rattle.cp_conn.specs.CutVertex.{avoids, without_vertex}
 use Rattle.cp_conn.specs.Blocks.{IsSimpleCycle, HasEdge, AreInOneBlock}
-use Rattle.cp_conn.proofs.DartChains.{Contains-at, dart_joins, start_even, start_odd, finish_even, finish_odd, Joins-sym, labels_joined}
+use Rattle.cp_conn.proofs.DartChains.{Contains-at, dart_at, dart_joins, start_even, start_odd, finish_even, finish_odd, Joins-sym, labels_joined}
 use Rattle.cp_conn.proofs.CutVertices.{kept_of, avoids_of}
 use Rattle.cp_conn.proofs.Paths.{Leads, Misses, Apart, SimplePath, simple_path, Leads-append, Misses-last, Apart-last, Leads-within, Leads-first, Leads-linked, Leads-last, Apart-same}
 
@@ -70,27 +70,13 @@ cycle_of es x ds l a two differ = record {
         differ (omega (arith, p.3, q.3)) (ap (λ (k : ℕ). get_or ds k 0 / 2) (sym first) ∙ e ∙ ap (λ (k : ℕ). get_or ds k 0 / 2) second))
         (one_edge es (get_or ds i 0) (get_or ds j 0) e)
 
--- an edge has a dart from either of its ends to the other
-pub dart_at : (es : List (ℕ × ℕ)) (e x y : ℕ) → e < length es → Joins (get_or es e (0, 0)) x y → (d : ℕ) × (d < 2 * length es) × (d / 2 ≡ e) × (start es d ≡ x) × (finish es d ≡ y)
-dart_at es e x y lt j =
-    ⊎_elim
-    (λ h. (2 * e, omega arith, omega arith, start_even es (2 * e) (omega arith) ∙ ap (λ (p : ℕ × ℕ). p.0) even ∙ h.0, finish_even es (2 * e) (omega arith) ∙ ap (λ (p : ℕ × ℕ). p.1) even ∙ h.1))
-    (λ h. (2 * e + 1, omega arith, omega arith, start_odd es (2 * e + 1) (λ f. omega arith) ∙ ap (λ (p : ℕ × ℕ). p.1) odd ∙ h.1, finish_odd es (2 * e + 1) (λ f. omega arith) ∙ ap (λ (p : ℕ × ℕ). p.0) odd ∙ h.0))
-    j
-  where
-    even : get_or es (2 * e / 2) (0, 0) ≡ get_or es e (0, 0)
-    even = let at : 2 * e / 2 ≡ e = omega arith in ap (λ (k : ℕ). get_or es k (0, 0)) at
-
-    odd : get_or es ((2 * e + 1) / 2) (0, 0) ≡ get_or es e (0, 0)
-    odd = let at : (2 * e + 1) / 2 ≡ e = omega arith in ap (λ (k : ℕ). get_or es k (0, 0)) at
-
 -- edges at v whose other ends are connected without v are in one block
 pub one_block_of : (es : List (ℕ × ℕ)) (v e f x y : ℕ) → e < length es → f < length es → (e ≡ f → ⊥) → Joins (get_or es e (0, 0)) v x → Joins (get_or es f (0, 0)) v y → (y ≡ v → ⊥) → Connected (without_vertex v es) y x → AreInOneBlock es e f
 one_block_of es v e f x y lte ltf differ je jf ney c =
     inr (ds, cycle_of es v ds leads apart (omega (arith, size)) two, (0, omega (arith, size), first.2), (suc (length p.darts), omega (arith, size), ap (λ (k : ℕ). k / 2) (get_or_push p.darts last.0 0 (length p.darts) refl) ∙ last.2))
   where
     p : SimplePath es v x y
-    p = simple_path es v y x ney c
+    p = simple_path es v y x c
 
     first : (d : ℕ) × (d < 2 * length es) × (d / 2 ≡ e) × (start es d ≡ v) × (finish es d ≡ x)
     first = dart_at es e v x lte je

@@ -18,7 +18,7 @@ use Rattle.cp_conn.specs.TreeLinks.{AreEdgeLinks, AddsTreeLinks, LinksUp, deeper
 use Rattle.cp_conn.proofs.DartChains.{Contains-at, dart_joins, dart_of, Joins-sym, labels_joined, within_joined, start_within, finish_within}
 use Rattle.cp_conn.proofs.CutVertices.{Contains-split, kept_pair, kept_of, avoided, avoids_of}
 use Rattle.cp_conn.proofs.OneBlock.{one_block_at}
-use Rattle.cp_conn.proofs.BlockClasses.{ends_differ}
+use Rattle.cp_conn.proofs.EdgeEnds.{ends_differ}
 use Rattle.cp_conn.proofs.Forests.{ArePlaced, above_up, Above-trans, above_both, above_root, above_number, above-le, above_cases, Branch, branch, low_above}
 
 -- the links of the first edges and vertices: each edge with the tree edge of its deeper end, and the tree edges of
