@@ -5,7 +5,7 @@ use Rattle.std.proofs.lemmas.Bool.{cases_eq, false≢true, not_from_true, eq-eqb
 use Rattle.std.proofs.lemmas.List.{get_or_read}
 use Rattle.cp_base.specs.Graphs.{AreWithin}
 use Rattle.cp_orbits.specs.Classes.{labels}
-use Rattle.cp_orbits.specs.Connected.{Joins}
+use Rattle.cp_orbits.specs.Connected.{Joins, Connected, here, step}
 use Rattle.cp_orbits.proofs.ClassLabels.{labels_connected, connected_labels, Contains-head, Contains-tail}
 use Rattle.cp_conn.specs.CutVertex.{avoids, without_vertex, IsNeighbour, HasNeighbourApart, IsCutVertex}
 use Rattle.cp_conn.proofs.DartChains.{Contains-at, within_pair, within_joined}
@@ -115,3 +115,8 @@ avoided v e x y t j is =
 -- an edge that does not lead to v or from v avoids it
 pub avoids_of : (v : ℕ) (e : ℕ × ℕ) → (e.0 ≡ v → ⊥) → (e.1 ≡ v → ⊥) → avoids v e ≡ true
 avoids_of v e one two = rw (ne_eqb e.0 v one, ne_eqb e.1 v two) refl
+
+-- what is removed is connected to nothing
+pub removed_alone : (v : ℕ) (es : List (ℕ × ℕ)) (x : ℕ) → Connected (without_vertex v es) x v → x ≡ v
+removed_alone v es x here = refl
+removed_alone v es x (step {y = y} c e k j) = absurd (avoided v e y v (kept_pair (avoids v) es e k).1 j refl)

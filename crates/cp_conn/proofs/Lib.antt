@@ -21,3 +21,6 @@ pub mod CutBlocks
 pub mod BlockLabels
 pub mod BlockPaths
 pub mod NamedGraphs
+pub mod DistinctSubsets
+pub mod Bonds
+pub mod EqualBonds
