@@ -24,3 +24,5 @@ pub mod NamedGraphs
 pub mod DistinctSubsets
 pub mod Bonds
 pub mod EqualBonds
+pub mod BlockBonds
+pub mod BlockParts
