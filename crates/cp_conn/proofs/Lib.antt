@@ -26,3 +26,4 @@ pub mod Bonds
 pub mod EqualBonds
 pub mod BlockBonds
 pub mod BlockParts
+pub mod Removed
