@@ -167,7 +167,8 @@ module _ (g : NamedGraph) (b u v : ℕ) (inside : ℕ → Bool) (once : Distinct
         bond.one_each e f (only-edges_at g inside u e ce (all e ce)) (only-edges_at g inside u f cf (all f cf)) off
         (connected_inside e f ce cf c);
     reach = λ e c off.
-        let f : (f : ℕ) × Contains (edges_at (only inside g) v) f × ConnectedWithout (only inside g) u v (far g u e) (far g v f) =
+        let f : (f : ℕ) × Contains (edges_at (only inside g) v) f × ConnectedWithout (only inside g) u v (far g u e)
+        (far g v f) =
         bond.reach e (only-edges_at g inside u e c (all e c)) off in (
           f.0,
           edges_at-only g inside v f.0 f.1,

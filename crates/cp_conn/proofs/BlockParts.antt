@@ -7,7 +7,8 @@ use Rattle.cp_conn.specs.Darts.{start, finish}
 use Rattle.cp_conn.proofs.DartChains.{dart_at, dart_joins, finish_within, Joins-sym, start_within}
 use Rattle.cp_conn.proofs.OneBlock.{Joins_cases}
 
--- fs, a graph of n vertices, stands in es: each edge as the edge that original tells, each vertex as the one that h tells
+-- fs, a graph of n vertices, stands in es: each edge as the edge that original tells, each vertex as the one that h
+-- tells
 pub record StandsIn (n : ℕ) (fs es : List (ℕ × ℕ)) (original h : ℕ → ℕ) : Type 0 where
   pub within : AreWithin n fs
   pub edge_within : (i : ℕ) → i < length fs → original i < length es
@@ -82,7 +83,8 @@ module _ (n : ℕ) (fs es : List (ℕ × ℕ)) (original h : ℕ → ℕ) (stand
       (subst₂ (λ (x y : ℕ). Joins (get_or es (original (d / 2)) (0, 0)) (h x) (h y)) k.0 k.1
       (stands.ends (d / 2) edge)))
       (dart_joins fs d lt) in
-      let c = dart_at es (original (d / 2)) (h (start fs d)) (h (finish fs d)) (stands.edge_within (d / 2) edge) joins in
+      let c = dart_at es (original (d / 2)) (h (start fs d)) (h (finish fs d))
+      (stands.edge_within (d / 2) edge) joins in
       (c.0, record { below = lt; within = c.1; edge = c.2; starts = c.3; finishes = c.4 })
 
   -- a dart of an edge that stands somewhere is where a dart stands
@@ -147,7 +149,8 @@ module _ (n : ℕ) (fs es : List (ℕ × ℕ)) (original h : ℕ → ℕ) (stand
       ⊎_elim
       (λ same. inl (ap original same))
       (λ q.
-      let c : (cs : List ℕ) × (length cs ≡ length q.0) × ((k : ℕ) → k < length q.0 → IsCopy fs es original h (get_or q.0 k 0) (get_or cs k 0)) =
+      let c : (cs : List ℕ) × (length cs ≡ length q.0) × ((k : ℕ) → k < length q.0 → IsCopy fs es original h
+      (get_or q.0 k 0) (get_or cs k 0)) =
       chosen (IsCopy fs es original h) q.0 (λ k lt. copy_there (get_or q.0 k 0) (q.1.within k lt)) in
       inr (
         c.0,
@@ -164,15 +167,26 @@ module _ (n : ℕ) (fs es : List (ℕ × ℕ)) (original h : ℕ → ℕ) (stand
       ⊎_elim
       (λ same. inl (stands.edges_apart i j lti ltj same))
       (λ q.
-      let d : (ds : List ℕ) × (length ds ≡ length q.0) × ((k : ℕ) → k < length q.0 → IsCopy fs es original h (get_or ds k 0) (get_or q.0 k 0)) =
+      let d : (ds : List ℕ) × (length ds ≡ length q.0) × ((k : ℕ) → k < length q.0 → IsCopy fs es original h
+      (get_or ds k 0) (get_or q.0 k 0)) =
       chosen (λ c d. IsCopy fs es original h d c) q.0 (λ k lt.
       let from = whole i (get_or q.0 k 0 / 2) lti (inr (q.0, q.1, q.2, (k, lt, refl))) in
       copy_back (get_or q.0 k 0) from.0 (q.1.within k lt) from.1 from.2) in
       inr (
         d.0,
         cycle_back q.0 d.0 q.1 d.1 d.2,
-        (q.2.0, omega (arith, q.2.1, d.1), edge_back i lti (get_or d.0 q.2.0 0) (get_or q.0 q.2.0 0) (d.2 q.2.0 q.2.1) q.2.2),
-        (q.3.0, omega (arith, q.3.1, d.1), edge_back j ltj (get_or d.0 q.3.0 0) (get_or q.0 q.3.0 0) (d.2 q.3.0 q.3.1) q.3.2),
+        (
+          q.2.0,
+          omega (arith, q.2.1, d.1),
+          edge_back i lti (get_or d.0 q.2.0 0) (get_or q.0 q.2.0 0)
+              (d.2 q.2.0 q.2.1) q.2.2,
+        ),
+        (
+          q.3.0,
+          omega (arith, q.3.1, d.1),
+          edge_back j ltj (get_or d.0 q.3.0 0) (get_or q.0 q.3.0 0)
+              (d.2 q.3.0 q.3.1) q.3.2,
+        ),
       ))
       block
     where

@@ -119,10 +119,12 @@ module _ (g : NamedGraph) (u v : ℕ) (bond : IsBond g u v) where
       ⊎_elim
       (λ h. ⊎_elim
       (λ i. sym h.1 ∙ i.1)
-      (λ i. absurd (ends_there e f ce cf h.0 (subst (λ (z : ℕ). ConnectedWithout g u v (far g u f) (far g v z)) h.1 i.2)))
+      (λ i. absurd (ends_there e f ce cf h.0
+      (subst (λ (z : ℕ). ConnectedWithout g u v (far g u f) (far g v z)) h.1 i.2)))
       on_f)
       (λ h. ⊎_elim
-      (λ i. absurd (ends_there f e cf ce i.0 (subst (λ (z : ℕ). ConnectedWithout g u v (far g u e) (far g v z)) i.1 h.2)))
+      (λ i. absurd (ends_there f e cf ce i.0
+      (subst (λ (z : ℕ). ConnectedWithout g u v (far g u e) (far g v z)) i.1 h.2)))
       (λ i. bond.one_each e f ce cf h.0
       (ConnectedWithout-trans g u v (far g u e) (far g v k) (far g u f) h.2
       (ConnectedWithout-sym g u v (far g u f) (far g v k) i.2)))

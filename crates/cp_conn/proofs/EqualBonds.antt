@@ -64,13 +64,15 @@ module _ (g : NamedGraph) (u v : ℕ) (bond : IsBond g u v) (once : Distinct g.e
   bond_back = record {
     differ = λ same. bond.differ (sym same);
     no_loop = λ f c loop.
-        let through : (e : ℕ) × Contains (edges_at g u) e × (far g u e ≢ v) × ConnectedWithout g u v (far g u e) (far g v f) =
+        let through : (e : ℕ) × Contains (edges_at g u) e × (far g u e ≢ v) × ConnectedWithout g u v (far g u e)
+        (far g v f) =
         comes_through f c (λ at. bond.differ (sym at ∙ loop)) in
         through.2
         (ConnectedWithout-second g u v (far g u through.0)
         (subst (ConnectedWithout g u v (far g u through.0)) loop through.3));
     one_each = λ f k cf ck off c.
-        let through : (e : ℕ) × Contains (edges_at g u) e × (far g u e ≢ v) × ConnectedWithout g u v (far g u e) (far g v f) =
+        let through : (e : ℕ) × Contains (edges_at g u) e × (far g u e ≢ v) × ConnectedWithout g u v (far g u e)
+        (far g v f) =
         comes_through f cf off in
         let along : ℕ → ℕ = first_onward g u v in
         let is : IsAlong g u v along = IsAlong-first_onward g u v bond in
@@ -82,7 +84,8 @@ module _ (g : NamedGraph) (u v : ℕ) (bond : IsBond g u v) (once : Distinct g.e
               (ConnectedWithout-swap g v u (far g v f) (far g v k) c),
         ));
     reach = λ f c off.
-        let through : (e : ℕ) × Contains (edges_at g u) e × (far g u e ≢ v) × ConnectedWithout g u v (far g u e) (far g v f) =
+        let through : (e : ℕ) × Contains (edges_at g u) e × (far g u e ≢ v) × ConnectedWithout g u v (far g u e)
+        (far g v f) =
         comes_through f c off in (
           through.0,
           through.1,

@@ -45,7 +45,8 @@ module _ (es : List (ℕ × ℕ)) (n : ℕ) (numbers : List ℕ) (are : AreNumbe
   -- vertices of one number are connected
   pub connected_by_number : (x y : ℕ) → x < n → y < n → get_or numbers x 0 ≡ get_or numbers y 0 → Connected es x y
   connected_by_number x y ltx lty same =
-      let l : (l : ℕ) × Connected es l x × Connected es l y = same_number (Connected es) n numbers x y are ltx lty same in
+      let l : (l : ℕ) × Connected es l x × Connected es l y =
+      same_number (Connected es) n numbers x y are ltx lty same in
       Connected-trans es x l.0 y (Connected-sym es l.0 x l.1) l.2
 
   -- connected vertices have one number

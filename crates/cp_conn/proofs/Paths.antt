@@ -107,61 +107,72 @@ simple_path es v x y c =
     }
 
 -- darts one after the other
-pub Leads-append : (es : List (ℕ × ℕ)) (x y z : ℕ) (ds fs : List ℕ) → Leads es x ds y → Leads es y fs z → Leads es x (ds ++ fs) z
+pub Leads-append : (es : List (ℕ × ℕ)) (x y z : ℕ) (ds fs : List ℕ) → Leads es x ds y → Leads es y fs z
+    → Leads es x (ds ++ fs) z
 Leads-append es x y z [] fs l m = subst (λ (w : ℕ). Leads es w fs z) (sym l) m
 Leads-append es x y z (d ∷ ds) fs l m = (l.0, l.1, Leads-append es (finish es d) y z ds fs l.2 m)
 
 -- one dart more that starts elsewhere
-pub Misses-last : (es : List (ℕ × ℕ)) (z f : ℕ) (ds : List ℕ) → Misses es z ds → (start es f ≡ z → ⊥) → Misses es z (ds ++ f ∷ [])
+pub Misses-last : (es : List (ℕ × ℕ)) (z f : ℕ) (ds : List ℕ) → Misses es z ds → (start es f ≡ z → ⊥)
+    → Misses es z (ds ++ f ∷ [])
 Misses-last es z f [] m ne = (ne, tt)
 Misses-last es z f (d ∷ ds) m ne = (m.0, Misses-last es z f ds m.1 ne)
 
 -- one dart more that starts where none starts
-pub Apart-last : (es : List (ℕ × ℕ)) (f : ℕ) (ds : List ℕ) → Apart es ds → Misses es (start es f) ds → Apart es (ds ++ f ∷ [])
+pub Apart-last : (es : List (ℕ × ℕ)) (f : ℕ) (ds : List ℕ) → Apart es ds → Misses es (start es f) ds
+    → Apart es (ds ++ f ∷ [])
 Apart-last es f [] a m = (tt, tt)
 Apart-last es f (d ∷ ds) a m = (Misses-last es (start es d) f ds a.0 (λ e. m.0 (sym e)), Apart-last es f ds a.1 m.1)
 
 -- a dart that is missed at its place
-pub Misses_at : (es : List (ℕ × ℕ)) (z : ℕ) (ds : List ℕ) (i : ℕ) → Misses es z ds → i < length ds → start es (get_or ds i 0) ≡ z → ⊥
+pub Misses_at : (es : List (ℕ × ℕ)) (z : ℕ) (ds : List ℕ) (i : ℕ) → Misses es z ds → i < length ds
+    → start es (get_or ds i 0) ≡ z → ⊥
 Misses_at es z [] i m lt e = omega arith
 Misses_at es z (d ∷ ds) zero m lt e = m.0 e
 Misses_at es z (d ∷ ds) (suc i) m lt e = Misses_at es z ds i m.1 (omega arith) e
 
 -- darts that lead somewhere are darts
-pub Leads-within : (es : List (ℕ × ℕ)) (x y : ℕ) (ds : List ℕ) (i : ℕ) → Leads es x ds y → i < length ds → get_or ds i 0 < 2 * length es
+pub Leads-within : (es : List (ℕ × ℕ)) (x y : ℕ) (ds : List ℕ) (i : ℕ) → Leads es x ds y → i < length ds
+    → get_or ds i 0 < 2 * length es
 Leads-within es x y [] i l lt = absurd (omega arith)
 Leads-within es x y (d ∷ ds) zero l lt = l.0
 Leads-within es x y (d ∷ ds) (suc i) l lt = Leads-within es (finish es d) y ds i l.2 (omega arith)
 
 -- the first dart starts at the first vertex
-pub Leads-first : (es : List (ℕ × ℕ)) (x y : ℕ) (ds : List ℕ) → Leads es x ds y → 0 < length ds → start es (get_or ds 0 0) ≡ x
+pub Leads-first : (es : List (ℕ × ℕ)) (x y : ℕ) (ds : List ℕ) → Leads es x ds y → 0 < length ds
+    → start es (get_or ds 0 0) ≡ x
 Leads-first es x y [] l lt = absurd (omega arith)
 Leads-first es x y (d ∷ ds) l lt = l.1
 
 -- each dart ends where the next starts
-pub Leads-linked : (es : List (ℕ × ℕ)) (x y : ℕ) (ds : List ℕ) (i : ℕ) → Leads es x ds y → suc i < length ds → finish es (get_or ds i 0) ≡ start es (get_or ds (suc i) 0)
+pub Leads-linked : (es : List (ℕ × ℕ)) (x y : ℕ) (ds : List ℕ) (i : ℕ) → Leads es x ds y → suc i < length ds
+    → finish es (get_or ds i 0) ≡ start es (get_or ds (suc i) 0)
 Leads-linked es x y [] i l lt = absurd (omega arith)
 Leads-linked es x y (d ∷ ds) zero l lt = sym (Leads-first es (finish es d) y ds l.2 (omega arith))
 Leads-linked es x y (d ∷ ds) (suc i) l lt = Leads-linked es (finish es d) y ds i l.2 (omega arith)
 
 -- the last dart ends at the last vertex
-pub Leads-last : (es : List (ℕ × ℕ)) (x y : ℕ) (ds : List ℕ) (i : ℕ) → Leads es x ds y → suc i ≡ length ds → finish es (get_or ds i 0) ≡ y
+pub Leads-last : (es : List (ℕ × ℕ)) (x y : ℕ) (ds : List ℕ) (i : ℕ) → Leads es x ds y → suc i ≡ length ds
+    → finish es (get_or ds i 0) ≡ y
 Leads-last es x y [] i l e = absurd (omega arith)
 Leads-last es x y (d ∷ []) zero l e = l.2
 Leads-last es x y (d ∷ f ∷ ds) zero l e = absurd (omega arith)
 Leads-last es x y (d ∷ ds) (suc i) l e = Leads-last es (finish es d) y ds i l.2 (omega arith)
 
 -- of darts that start apart the later does not start where the earlier does
-apart_at : (es : List (ℕ × ℕ)) (ds : List ℕ) (i j : ℕ) → Apart es ds → i < j → j < length ds → start es (get_or ds j 0) ≡ start es (get_or ds i 0) → ⊥
+apart_at : (es : List (ℕ × ℕ)) (ds : List ℕ) (i j : ℕ) → Apart es ds → i < j → j < length ds
+    → start es (get_or ds j 0) ≡ start es (get_or ds i 0) → ⊥
 apart_at es [] i j a l lt e = omega arith
 apart_at es (d ∷ ds) zero (suc j) a l lt e = Misses_at es (start es d) ds j a.0 (omega arith) e
 apart_at es (d ∷ ds) (suc i) (suc j) a l lt e = apart_at es ds i j a.1 (omega arith) (omega arith) e
 apart_at es (d ∷ ds) i zero a l lt e = omega arith
 
 -- darts that start apart start at one vertex only if they are one
-pub Apart-same : (es : List (ℕ × ℕ)) (ds : List ℕ) (i j : ℕ) → Apart es ds → i < length ds → j < length ds → start es (get_or ds i 0) ≡ start es (get_or ds j 0) → i ≡ j
+pub Apart-same : (es : List (ℕ × ℕ)) (ds : List ℕ) (i j : ℕ) → Apart es ds → i < length ds → j < length ds
+    → start es (get_or ds i 0) ≡ start es (get_or ds j 0) → i ≡ j
 Apart-same es ds i j a lti ltj e =
     ⊎_elim
     (λ f. f)
-    (λ ne. ⊎_elim (λ l. absurd (apart_at es ds i j a l ltj (sym e))) (λ g. absurd (apart_at es ds j i a (omega arith) lti e)) (cases_lt i j))
+    (λ ne. ⊎_elim (λ l. absurd (apart_at es ds i j a l ltj (sym e)))
+    (λ g. absurd (apart_at es ds j i a (omega arith) lti e)) (cases_lt i j))
     (cases_eq i j)
