@@ -13,7 +13,7 @@ pub record NamedGraph : Type 0 where
 
 -- the place of n among some names, or their number where it is none of them
 abbrev pub rank : List ℕ → ℕ → ℕ
-rank names n = position_or_len (eqb n) names
+rank names n = position_or_len (λ name. eqb name n) names
 
 -- the two ends of each edge, in the order of the edges
 abbrev pub pairs : NamedGraph → List (ℕ × ℕ)
