@@ -1,21 +1,16 @@
--- A permutation of the darts of edges, as the rotation of a map: its vertices are its orbits, and it is flat where
--- these, the faces and twice the components add up as in the plane. Exchanges of two values keep it flat.
-use Rattle.std.proofs.Common.{◌≡◌, ℕ, zero, suc, ◌+◌, ◌*◌, ◌<◌, ◌≤◌, ◌≢◌, List, ◌∷◌, sym, refl, ap, ◌∙◌, ⊎_elim, arith, lt-suc_self}
+-- Links of darts, and maps whose values at two darts are exchanged: what is flat stays flat.
+use Rattle.std.proofs.Common.{◌≡◌, ℕ, ◌<◌, ◌≢◌, List, ◌∷◌, sym, refl, ap, ◌∙◌, ⊎_elim, suc, ◌+◌, ◌*◌, ◌≤◌, arith, lt-suc_self, zero}
 use Rattle.std.proofs.lemmas.Bool.{cases_eq}
-use Rattle.cp_orbits.specs.Classes.{labels, classes, graph, orbits, Respects}
+use Rattle.cp_orbits.specs.Classes.{Respects, classes, graph, labels, orbits}
 use Rattle.cp_orbits.specs.Orbits.{Permutes, exchange}
+use Rattle.cp_orbits.proofs.ClassLabels.{classes_coarser, classes_equal, classes_joined, labels-respects, same_labels}
+use Rattle.cp_orbits.proofs.Exchanges.{joined_labels, orbits_exchanged-ge, orbits_joined, orbits_split}
+use Rattle.cp_orbits.proofs.OrbitLaws.{Permutes-exchange, Respects-graph, exchange-below, exchange-exchange, exchange_case, graph-respects, graph_agree, orbits_agree}
 use Rattle.cp_faces.specs.Faces.{face_upto, partner}
-use Rattle.cp_orbits.proofs.ClassLabels.{labels-respects, same_labels, classes_coarser, classes_equal, classes_joined}
-use Rattle.cp_orbits.proofs.OrbitLaws.{Respects-graph, graph-respects, graph_agree, orbits_agree, exchange_case, exchange-below, exchange-exchange, Permutes-exchange}
-use Rattle.cp_orbits.proofs.Exchanges.{joined_labels, orbits_joined, orbits_split, orbits_exchanged-ge}
 use Rattle.cp_faces.proofs.Faces.{face_upto-Permutes}
-use Rattle.cp_faces.proofs.Merges.{face_upto-partner, face_upto-merged}
-use Rattle.cp_faces.proofs.Renaming.{ends_upto-partner, Respects-ends, partner-within}
-
--- the pairs of darts of one edge, of the first i edges, and of darts that follow each other
-abbrev pub linked : (ℕ → ℕ) → ℕ → ℕ → List (ℕ × ℕ)
-linked f n zero = graph f n
-linked f n (suc i) = (2 * i, 2 * i + 1) ∷ linked f n i
+use Rattle.cp_faces.proofs.Merges.{face_upto-merged, face_upto-partner}
+use Rattle.cp_faces.proofs.Renaming.{Respects-ends, ends_upto-partner, partner-within}
+use Rattle.cp_maps.specs.Genus.{IsFlat, linked, parts, rounds}
 
 -- what has one value on the darts of each edge and on darts that follow each other respects them
 pub linked-from : {A : Type 0} (g : ℕ → A) (f : ℕ → ℕ) (n i : ℕ) → Respects g (graph f n) → ((k : ℕ) → k < i → g (2 * k) ≡ g (2 * k + 1)) → Respects g (linked f n i)
@@ -46,18 +41,6 @@ pub linked_agree : (f g : ℕ → ℕ) (n i : ℕ) → ((x : ℕ) → x < n → 
 linked_agree f g n zero same = graph_agree f g n same
 linked_agree f g n (suc i) same = ap (λ es. (2 * i, 2 * i + 1) ∷ es) (linked_agree f g n i same)
 
--- how many components the darts make
-abbrev pub parts : ℕ → (ℕ → ℕ) → ℕ
-parts e f = classes (2 * e) (linked f (2 * e) e)
-
--- how many faces
-abbrev pub rounds : ℕ → (ℕ → ℕ) → ℕ
-rounds e f = orbits (2 * e) (face_upto f e)
-
--- the counts add up as in the plane
-abbrev pub IsFlat : ℕ → (ℕ → ℕ) → Type 0
-IsFlat e f = e + 2 * parts e f ≤ orbits (2 * e) f + rounds e f
-
 -- f with its values at a and b exchanged
 abbrev pub exchanged : (ℕ → ℕ) → ℕ → ℕ → ℕ → ℕ
 exchanged f a b x = f (exchange a b x)
@@ -67,8 +50,8 @@ pub IsFlat-agree : (e : ℕ) (f g : ℕ → ℕ) → Permutes (2 * e) f → ((x 
 IsFlat-agree e f g perm same flat =
     let one : parts e g ≡ parts e f = ap (classes (2 * e)) (sym (linked_agree f g (2 * e) e same)) in
     let two : orbits (2 * e) f ≡ orbits (2 * e) g = orbits_agree f g (2 * e) same in
-    let three : rounds e f ≡ rounds e g = orbits_agree (face_upto f e) (face_upto g e) (2 * e) (λ d lt. face_upto-partner e f d ∙ same (partner e d) (partner-within e d lt) ∙ sym (face_upto-partner e g d)) in
-    omega (arith, one, two, three, flat)
+    let three_exchanges : rounds e f ≡ rounds e g = orbits_agree (face_upto f e) (face_upto g e) (2 * e) (λ d lt. face_upto-partner e f d ∙ same (partner e d) (partner-within e d lt) ∙ sym (face_upto-partner e g d)) in
+    omega (arith, one, two, three_exchanges, flat)
 
 module _ (e : ℕ) (f : ℕ → ℕ) (perm : Permutes (2 * e) f) (a b : ℕ) (lta : a < 2 * e) (ltb : b < 2 * e) where
   -- f with the two values exchanged

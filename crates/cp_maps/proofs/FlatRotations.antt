@@ -1,15 +1,16 @@
 -- A rotation is flat by its darts exactly where Euler's formula holds.
-use Rattle.std.proofs.Common.{◌≡◌, ℕ, zero, suc, ◌+◌, ◌*◌, ◌<◌, ◌≤◌, Bool, true, false, cond, not, ◌&&◌, eqb, sym, refl, ap, ap₂, ◌∙◌, subst, ⊎_elim, arith}
-use Rattle.std.proofs.lemmas.Bool.{cases_eq, cases_Bool, eq-eqb, ne_eqb, eqb-true, cond-true, cond-false, and_parts, and_from, not_from_false, not_from_true, not-true, false≢true}
+use Rattle.std.proofs.Common.{◌≡◌, ℕ, ◌<◌, true, false, eqb, sym, refl, ap, ◌∙◌, subst, ⊎_elim, suc, ◌+◌, ◌*◌, ◌≤◌, Bool, arith, zero, not, ◌&&◌, ap₂, cond}
+use Rattle.std.proofs.lemmas.Bool.{cases_eq, eq-eqb, ne_eqb, false≢true, cond-true, cond-false, eqb-true, cases_Bool, not-true, not_from_true, not_from_false, and_parts, and_from}
 use Rattle.cp_lists.specs.Count.{count}
-use Rattle.cp_orbits.specs.Classes.{labels, graph, Respects}
-use Rattle.cp_faces.specs.Faces.{Turns, ends_upto, stands, bare, faces, components}
-use Rattle.cp_lists.proofs.Counting.{count_agree, count_inject, count_yes, count_no}
-use Rattle.cp_orbits.proofs.ClassLabels.{labels-le, labels-respects, labels-keeps, labels-labels, same_labels}
+use Rattle.cp_lists.proofs.Counting.{count_agree, count_inject, count_no, count_yes}
+use Rattle.cp_orbits.specs.Classes.{Respects, graph, labels}
+use Rattle.cp_orbits.proofs.ClassLabels.{labels-keeps, labels-labels, labels-le, labels-respects, same_labels}
 use Rattle.cp_orbits.proofs.OrbitLaws.{Respects-graph}
-use Rattle.cp_faces.proofs.Faces.{stands_at, stands_some, orbits-bare, vertex-orbit, euler_bound}
+use Rattle.cp_faces.specs.Faces.{Turns, bare, components, ends_upto, faces, stands}
+use Rattle.cp_faces.proofs.Faces.{euler_bound, orbits-bare, stands_at, stands_some, vertex-orbit}
 use Rattle.cp_faces.proofs.Renaming.{Respects-ends, ends-respects}
-use Rattle.cp_rotlaw.proofs.FlatMaps.{linked, linked-from, linked-graph, linked-edges, parts, IsFlat}
+use Rattle.cp_maps.specs.Genus.{IsFlat, linked, parts}
+use Rattle.cp_maps.proofs.FlatMaps.{linked-edges, linked-from, linked-graph}
 
 -- those that pass a test, by a second test
 pub count_parts : (n : ℕ) (p q : ℕ → Bool) → count n (λ x. p x && q x) + count n (λ x. p x && not (q x)) ≡ count n p

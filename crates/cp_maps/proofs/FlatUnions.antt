@@ -1,15 +1,16 @@
 -- Two flat maps side by side are flat.
-use Rattle.std.proofs.Common.{◌≡◌, ℕ, ◌+◌, ◌-◌, ◌*◌, ◌<◌, sym, ap, ◌∙◌, subst, ⊎_elim, arith}
+use Rattle.std.proofs.Common.{◌≡◌, ℕ, ◌<◌, sym, ap, ◌∙◌, subst, ⊎_elim, ◌+◌, ◌*◌, arith, ◌-◌}
 use Rattle.std.proofs.lemmas.Bool.{cases_lt}
-use Rattle.cp_orbits.specs.Classes.{beside, labels, classes, orbits, Respects}
+use Rattle.cp_orbits.specs.Classes.{Respects, beside, classes, labels, orbits}
 use Rattle.cp_orbits.specs.Orbits.{Permutes}
-use Rattle.cp_faces.specs.Faces.{face_upto, partner}
 use Rattle.cp_orbits.proofs.ClassLabels.{labels-respects}
 use Rattle.cp_orbits.proofs.OrbitLaws.{Respects-graph, graph-respects, orbits_agree}
+use Rattle.cp_faces.specs.Faces.{face_upto, partner}
 use Rattle.cp_faces.proofs.Merges.{face_upto-partner}
+use Rattle.cp_faces.proofs.Parts.{beside_high, beside_low, classes_beside, orbits_beside, partner_more, partner_shift}
 use Rattle.cp_faces.proofs.Renaming.{partner-within}
-use Rattle.cp_faces.proofs.Parts.{beside_low, beside_high, classes_beside, orbits_beside, partner_more, partner_shift}
-use Rattle.cp_rotlaw.proofs.FlatMaps.{linked, linked-from, linked-graph, linked-edges, parts, rounds, IsFlat}
+use Rattle.cp_maps.specs.Genus.{IsFlat, linked, parts, rounds}
+use Rattle.cp_maps.proofs.FlatMaps.{linked-edges, linked-from, linked-graph}
 
 module _ (e k : ℕ) (f g h : ℕ → ℕ) (perm_f : Permutes (2 * e) f) (perm_g : Permutes (2 * k) g) (low : (d : ℕ) → d < 2 * e → h d ≡ f d) (high : (d : ℕ) → d < 2 * k → h (2 * e + d) ≡ 2 * e + g d) where
   -- all darts
