@@ -17,7 +17,8 @@ use Rattle.cp_maps.proofs.Names.{named_lists-OneGenus}
 use Rattle.cp_maplaw.specs.Systems.{rows_of, rows_upto}
 
 -- darts at vertices with lists
-module _ (v n : ℕ) (at : ℕ → ℕ) (lists : ℕ → List ℕ) (l : Listed v n at lists) (f : ℕ → ℕ) (behind : (d : ℕ) → d < n → f d ≡ follow (lists (at d)) d) where
+module _ (v n : ℕ) (at : ℕ → ℕ) (lists : ℕ → List ℕ) (l : Listed v n at lists) (f : ℕ → ℕ) (behind : (d : ℕ) → d < n
+    → f d ≡ follow (lists (at d)) d) where
   -- an item of the lists of some vertices stands there
   item_upto : (w : ℕ) → w ≤ v → (d : ℕ) → Has d (flat (rows_upto lists w)) → (d < n) × (at d < w)
   item_upto zero le d h = absurd h
@@ -37,14 +38,20 @@ module _ (v n : ℕ) (at : ℕ → ℕ) (lists : ℕ → List ℕ) (l : Listed v
   -- no dart stands twice
   once_upto : (w : ℕ) → w ≤ v → Distinct (flat (rows_upto lists w))
   once_upto zero le = tt
-  once_upto (suc w) le = Distinct-append (lists w) (flat (rows_upto lists w)) (l.distinct w (omega arith)) (once_upto w (omega arith))
-      (λ d h. Lacks-from d (flat (rows_upto lists w)) (λ k. let i = l.item w d (omega arith) h in let j = item_upto w (omega arith) d k in omega (arith, i.1, j.1)))
+  once_upto (suc w) le =
+      Distinct-append (lists w) (flat (rows_upto lists w)) (l.distinct w (omega arith)) (once_upto w (omega arith))
+      (λ d h. Lacks-from d (flat (rows_upto lists w)) (λ k. let i = l.item w d (omega arith) h in
+      let j = item_upto w (omega arith) d k in omega (arith, i.1, j.1)))
 
   -- the lists are rings
   rings_upto : (w : ℕ) → w ≤ v → Rings f (rows_upto lists w)
   rings_upto zero le = tt
   rings_upto (suc w) le = (
-    record { distinct = l.distinct w (omega arith); along = λ d h. let i = l.item w d (omega arith) h in behind d i.0 ∙ ap (λ x. follow (lists x) d) i.1 },
+    record {
+      distinct = l.distinct w (omega arith);
+      along = λ d h. let i = l.item w d (omega arith) h in
+          behind d i.0 ∙ ap (λ x. follow (lists x) d) i.1;
+    },
     rings_upto w (omega arith),
   )
 
@@ -54,12 +61,16 @@ module _ (v n : ℕ) (at : ℕ → ℕ) (lists : ℕ → List ℕ) (l : Listed v
     once = once_upto v (omega arith);
     below = Below-from n (flat (rows_upto lists v)) (λ d h. (item_upto v (omega arith) d h).0);
     rings = rings_upto v (omega arith);
-    loose = λ d lt lacks. absurd (has_lacks d (flat (rows_upto lists v)) (own_upto v (omega arith) d lt (l.placed d lt)) lacks);
+    loose =
+        λ d lt lacks. absurd (has_lacks d (flat (rows_upto lists v))
+        (own_upto v (omega arith) d lt (l.placed d lt)) lacks);
   }
 
 -- they are those of its next darts
 pub IsMapOf-system : (r : System) → IsRotation r → IsMapOf (2 * edges r) (next r) (rows_of r)
-IsMapOf-system r is = subst (λ n. IsMapOf n (next r) (rows_of r)) is.paired (IsMapOf-Listed r.vertices (darts r) (vertex_of r) (list_of r) (Listed-system r is) (next r) (next-follow r is))
+IsMapOf-system r is =
+    subst (λ n. IsMapOf n (next r) (rows_of r)) is.paired
+    (IsMapOf-Listed r.vertices (darts r) (vertex_of r) (list_of r) (Listed-system r is) (next r) (next-follow r is))
 
 -- a system has genus zero where its map is flat
 pub system_flat : (r : System) → IsRotation r → HasGenusZero r ↔ IsFlat (edges r) (next r)
@@ -69,9 +80,11 @@ system_flat r is = (
 )
 
 -- a system has genus zero where its lists, under whatever names, are those of a flat map
-pub system_names : (r : System) (e : ℕ) (j g : ℕ → ℕ) → IsRotation r → edges r ≤ e → Names (edges r) e j → IsMapOf (2 * e) g (map (map j) (rows_of r)) → HasGenusZero r ↔ IsFlat e g
+pub system_names : (r : System) (e : ℕ) (j g : ℕ → ℕ) → IsRotation r → edges r ≤ e → Names (edges r) e j
+    → IsMapOf (2 * e) g (map (map j) (rows_of r)) → HasGenusZero r ↔ IsFlat e g
 system_names r e j g is le names is_g =
-    let one : OneGenus (edges r) (next r) e g = named_lists-OneGenus (edges r) e j (next r) g (rows_of r) le names (IsMapOf-system r is) is_g in (
+    let one : OneGenus (edges r) (next r) e g =
+    named_lists-OneGenus (edges r) e j (next r) g (rows_of r) le names (IsMapOf-system r is) is_g in (
       λ z. OneGenus-IsFlat (edges r) (next r) e g one ((system_flat r is).0 z),
       λ z. (system_flat r is).1 (OneGenus-IsFlat e g (edges r) (next r) (OneGenus-sym (edges r) (next r) e g one) z),
     )

@@ -22,7 +22,8 @@ use Rattle.cp_maps.proofs.Rings.{Rings-append_right}
 use Rattle.cp_maps.proofs.Swaps.{vertex-OnePart}
 
 -- its items are theirs
-assembled_item : (row : List ℕ) (copies : List (List ℕ)) (d : ℕ) → IsAssembled row copies → Has d row → Has d (flat copies)
+assembled_item : (row : List ℕ) (copies : List (List ℕ)) (d : ℕ) → IsAssembled row copies → Has d row
+    → Has d (flat copies)
 assembled_item row [] d is h = subst (Has d) is h
 assembled_item row (xs ∷ copies) d is h = ⊎_elim
     (λ k. Has-append_left d xs (flat copies) k)
@@ -42,31 +43,44 @@ module _ (e : ℕ) (f : ℕ → ℕ) (perm : Permutes (2 * e) f) (c : ℕ) where
     λ a b ha hb.
         let r = follow-reaches xs a b rings.0.distinct ha hb in
         let lt : a < 2 * e = below_item (2 * e) a (xs ++ flat rows) below (Has-append_left a xs (flat rows) ha) in
-        ap (λ y. eqb y (labels (linked f (2 * e) e) c)) (vertex-OnePart e f perm a a lt lt a b (labels_reached (2 * e) f perm a b lt (r.0, iterate_in_list xs f rings.0.along r.0 a ha ∙ r.1))),
-    rings_even rows rings.1 (Below-from (2 * e) (flat rows) (λ d h. below_item (2 * e) d (xs ++ flat rows) below (Has-append_right d xs (flat rows) h))),
+        ap (λ y. eqb y (labels (linked f (2 * e) e) c))
+        (vertex-OnePart e f perm a a lt lt a b
+        (labels_reached (2 * e) f perm a b lt (r.0, iterate_in_list xs f rings.0.along r.0 a ha ∙ r.1))),
+    rings_even rows rings.1 (Below-from (2 * e) (flat rows)
+        (λ d h. below_item (2 * e) d (xs ++ flat rows) below (Has-append_right d xs (flat rows) h))),
   )
 
 -- copies of a vertex in different components made one
-pub assembled-Becomes : (e : ℕ) (f : ℕ → ℕ) (row : List ℕ) (copies rows : List (List ℕ)) → IsMapOf (2 * e) f (copies ++ rows) → AllApart e f copies → IsAssembled row copies → Becomes e f (row ∷ rows)
-assembled-Becomes e f row [] rows is apart made = (f, subst (λ xs. IsMapOf (2 * e) f (xs ∷ rows)) (sym made) (IsMapOf-bare (2 * e) f rows is), refl)
+pub assembled-Becomes : (e : ℕ) (f : ℕ → ℕ) (row : List ℕ) (copies rows : List (List ℕ))
+    → IsMapOf (2 * e) f (copies ++ rows) → AllApart e f copies → IsAssembled row copies → Becomes e f (row ∷ rows)
+assembled-Becomes e f row [] rows is apart made =
+    (f, subst (λ xs. IsMapOf (2 * e) f (xs ∷ rows)) (sym made) (IsMapOf-bare (2 * e) f rows is), refl)
 assembled-Becomes e f row (xs ∷ copies) rows is apart made =
-    let g : Becomes e f (made.0 ∷ xs ∷ rows) = assembled-Becomes e f made.0 copies (xs ∷ rows) (IsMapOf-among (2 * e) f xs copies rows is) apart.1 made.2 in
+    let g : Becomes e f (made.0 ∷ xs ∷ rows) =
+    assembled-Becomes e f made.0 copies (xs ∷ rows) (IsMapOf-among (2 * e) f xs copies rows is) apart.1 made.2 in
     let perm : Permutes (2 * e) f = IsMapOf-Permutes (2 * e) f (xs ∷ (copies ++ rows)) is in
     let is' : IsMapOf (2 * e) f (xs ∷ (copies ++ rows)) = is in
-    let one : Becomes e g.0 ((xs ++ made.0) ∷ rows) = concatenated-Becomes e g.0 xs made.0 rows (IsMapOf-swap (2 * e) g.0 made.0 xs rows g.1) (λ c d hc hd same.
+    let one : Becomes e g.0 ((xs ++ made.0) ∷ rows) =
+    concatenated-Becomes e g.0 xs made.0 rows (IsMapOf-swap (2 * e) g.0 made.0 xs rows g.1) (λ c d hc hd same.
     Evenly-two_parts e g.0 (made.0 ∷ xs ∷ rows) (with_c e f perm c) c d g.1 (
       (λ a b ha hb. outside c hc a ha ∙ sym (outside c hc b hb)),
       inner perm c,
     )
     (λ y lt. ap (λ z. eqb z (labels (linked f (2 * e) e) c)) (sym (twin-OnePart e f perm y lt)))
-    (λ h. false≢true (sym (outside c hc d hd) ∙ sym h ∙ eq-eqb (labels (linked f (2 * e) e) c) (labels (linked f (2 * e) e) c) refl)) same) in
+    (λ h. false≢true (sym (outside c hc d hd) ∙ sym h
+    ∙ eq-eqb (labels (linked f (2 * e) e) c) (labels (linked f (2 * e) e) c) refl)) same) in
     (one.0, IsMapOf-turn (2 * e) one.0 (xs ++ made.0) row rows made.1 one.1, SameGenus-trans e f g.0 one.0 g.2 one.2)
   where
-    outside : (c : ℕ) → Has c xs → (y : ℕ) → Has y made.0 → eqb (labels (linked f (2 * e) e) y) (labels (linked f (2 * e) e) c) ≡ false
-    outside c hc y hy = ne_eqb (labels (linked f (2 * e) e) y) (labels (linked f (2 * e) e) c) (λ h. apart.0 c y hc (assembled_item made.0 copies y made.2 hy) (sym h))
+    outside : (c : ℕ) → Has c xs → (y : ℕ) → Has y made.0
+        → eqb (labels (linked f (2 * e) e) y) (labels (linked f (2 * e) e) c) ≡ false
+    outside c hc y hy =
+        ne_eqb (labels (linked f (2 * e) e) y) (labels (linked f (2 * e) e) c)
+        (λ h. apart.0 c y hc (assembled_item made.0 copies y made.2 hy) (sym h))
 
     inner : (perm : Permutes (2 * e) f) (c : ℕ) → Evenly (with_c e f perm c) (xs ∷ rows)
     inner perm c =
         let last : IsMapOf (2 * e) f (copies ++ xs ∷ rows) = IsMapOf-among (2 * e) f xs copies rows is in
         rings_even e f perm c (xs ∷ rows) (Rings-append_right f copies (xs ∷ rows) last.rings)
-        (Below-from (2 * e) (flat (xs ∷ rows)) (λ d h. below_item (2 * e) d (flat (copies ++ xs ∷ rows)) last.below (subst (Has d) (sym (flat-append copies (xs ∷ rows))) (Has-append_right d (flat copies) (flat (xs ∷ rows)) h))))
+        (Below-from (2 * e) (flat (xs ∷ rows))
+        (λ d h. below_item (2 * e) d (flat (copies ++ xs ∷ rows)) last.below
+        (subst (Has d) (sym (flat-append copies (xs ∷ rows))) (Has-append_right d (flat copies) (flat (xs ∷ rows)) h))))

@@ -18,19 +18,30 @@ use Rattle.cp_maps.proofs.Swaps.{vertex-OnePart}
 use Rattle.cp_maps.proofs.Twins.{twin-twin}
 
 -- a loop cut open
-pub cut_loop-SameGenus : (e : ℕ) (f g : ℕ → ℕ) (x : ℕ) (xs ys : List ℕ) (rows : List (List ℕ)) → IsMapOf (2 * e) f ((x ∷ (xs ++ twin x ∷ ys)) ∷ rows) → IsMapOf (2 * e) g (xs ∷ ys ∷ rows) → Apart e g xs ys → SameGenus e g f
-cut_loop-SameGenus e f g x [] ys rows is_f is_g apart = trivial_loop-SameGenus e g f x ys rows (IsMapOf-unbare (2 * e) g (ys ∷ rows) is_g) is_f
-cut_loop-SameGenus e f g x (a ∷ xs) [] rows is_f is_g apart = trivial_loop-SameGenus e g f (twin x) (a ∷ xs) rows (IsMapOf-unbare (2 * e) g ((a ∷ xs) ∷ rows) (IsMapOf-swap (2 * e) g (a ∷ xs) [] rows is_g))
-    (subst (λ y. IsMapOf (2 * e) f ((twin x ∷ y ∷ a ∷ xs) ∷ rows)) (sym (twin-twin x)) (IsMapOf-turn (2 * e) f (x ∷ (a ∷ xs ++ twin x ∷ [])) (twin x ∷ x ∷ a ∷ xs) rows (turn_parts (x ∷ a ∷ xs) (twin x ∷ [])) is_f))
+pub cut_loop-SameGenus : (e : ℕ) (f g : ℕ → ℕ) (x : ℕ) (xs ys : List ℕ) (rows : List (List ℕ))
+    → IsMapOf (2 * e) f ((x ∷ (xs ++ twin x ∷ ys)) ∷ rows) → IsMapOf (2 * e) g (xs ∷ ys ∷ rows) → Apart e g xs ys
+    → SameGenus e g f
+cut_loop-SameGenus e f g x [] ys rows is_f is_g apart =
+    trivial_loop-SameGenus e g f x ys rows (IsMapOf-unbare (2 * e) g (ys ∷ rows) is_g) is_f
+cut_loop-SameGenus e f g x (a ∷ xs) [] rows is_f is_g apart =
+    trivial_loop-SameGenus e g f (twin x) (a ∷ xs) rows
+    (IsMapOf-unbare (2 * e) g ((a ∷ xs) ∷ rows) (IsMapOf-swap (2 * e) g (a ∷ xs) [] rows is_g))
+    (subst (λ y. IsMapOf (2 * e) f ((twin x ∷ y ∷ a ∷ xs) ∷ rows)) (sym (twin-twin x))
+    (IsMapOf-turn (2 * e) f (x ∷ (a ∷ xs ++ twin x ∷ [])) (twin x ∷ x ∷ a ∷ xs) rows
+    (turn_parts (x ∷ a ∷ xs) (twin x ∷ [])) is_f))
 cut_loop-SameGenus e f g x (a ∷ xs) (b ∷ ys) rows is_f is_g apart =
     let h : ℕ → ℕ = swapped x (twin x) f in
-    let is_h : IsMapOf (2 * e) h ((x ∷ a ∷ xs) ∷ (twin x ∷ b ∷ ys) ∷ rows) = IsMapOf-split (2 * e) f x (twin x) (a ∷ xs) (b ∷ ys) rows is_f in
+    let is_h : IsMapOf (2 * e) h ((x ∷ a ∷ xs) ∷ (twin x ∷ b ∷ ys) ∷ rows) =
+    IsMapOf-split (2 * e) f x (twin x) (a ∷ xs) (b ∷ ys) rows is_f in
     let two : OnePart e g a b → ⊥ = apart a b (inl refl) (inl refl) in
     SameGenus-trans e g h f (edge_between-SameGenus e g h x a b xs ys rows is_g is_h two)
-    (merged_within-SameGenus e h f x (twin x) (a ∷ xs) (b ∷ ys) rows is_h is_f (edge_between-one_face e g h x a b xs ys rows is_g is_h two))
+    (merged_within-SameGenus e h f x (twin x) (a ∷ xs) (b ∷ ys) rows is_h is_f
+    (edge_between-one_face e g h x a b xs ys rows is_g is_h two))
 
 -- two darts of two lists are not of one component if two others are not
-module _ (e : ℕ) (f g : ℕ → ℕ) (x a b : ℕ) (xs ys : List ℕ) (rows : List (List ℕ)) (is_f : IsMapOf (2 * e) f ((x ∷ ((a ∷ xs) ++ twin x ∷ b ∷ ys)) ∷ rows)) (is_g : IsMapOf (2 * e) g ((a ∷ xs) ∷ (b ∷ ys) ∷ rows)) (z : IsFlat e f) where
+module _ (e : ℕ) (f g : ℕ → ℕ) (x a b : ℕ) (xs ys : List ℕ) (rows : List (List ℕ))
+    (is_f : IsMapOf (2 * e) f ((x ∷ ((a ∷ xs) ++ twin x ∷ b ∷ ys)) ∷ rows))
+    (is_g : IsMapOf (2 * e) g ((a ∷ xs) ∷ (b ∷ ys) ∷ rows)) (z : IsFlat e f) where
   -- the loop as an edge between two vertices
   abbrev h : ℕ → ℕ
   h = swapped x (twin x) f
@@ -51,16 +62,23 @@ module _ (e : ℕ) (f g : ℕ → ℕ) (x a b : ℕ) (xs ys : List ℕ) (rows : 
   pub cut_loop-two_parts : OnePart e g a b → ⊥
   cut_loop-two_parts one = ⊎_elim
       (λ (face : OneFace e h x (twin x)).
-      let flat_h : IsFlat e h = SameGenus-IsFlat e f h (SameGenus-sym e h f (merged_within-SameGenus e h f x (twin x) (a ∷ xs) (b ∷ ys) rows is_h is_f face)) z in
+      let flat_h : IsFlat e h =
+      SameGenus-IsFlat e f h (SameGenus-sym e h f
+      (merged_within-SameGenus e h f x (twin x) (a ∷ xs) (b ∷ ys) rows is_h is_f face)) z in
       ⊎_elim
       (λ (within : OneFace e g a b). edge_within-two_faces e g h x a b xs ys rows is_g is_h within face)
-      (λ (between : OneFace e g a b → ⊥). RaisesGenus-not_flat e g h perm_g (edge-RaisesGenus e g h x a b xs ys rows is_g is_h one between) flat_h)
+      (λ (between : OneFace e g a b → ⊥). RaisesGenus-not_flat e g h perm_g
+      (edge-RaisesGenus e g h x a b xs ys rows is_g is_h one between) flat_h)
       (cases_eq (labels (graph (face_upto g e) (2 * e)) a) (labels (graph (face_upto g e) (2 * e)) b)))
-      (λ (faces : OneFace e h x (twin x) → ⊥). RaisesGenus-not_flat e h f perm_h (merged-RaisesGenus e h f x (twin x) (a ∷ xs) (b ∷ ys) rows is_h is_f (sym (twin-OnePart e h perm_h x is_h.below.0)) faces) z)
+      (λ (faces : OneFace e h x (twin x) → ⊥). RaisesGenus-not_flat e h f perm_h
+      (merged-RaisesGenus e h f x (twin x) (a ∷ xs) (b ∷ ys) rows is_h is_f
+      (sym (twin-OnePart e h perm_h x is_h.below.0)) faces) z)
       (cases_eq (labels (graph (face_upto h e) (2 * e)) x) (labels (graph (face_upto h e) (2 * e)) (twin x)))
 
 -- a loop of a flat map encloses what is of other components than the rest
-pub cut_loop-Apart : (e : ℕ) (f g : ℕ → ℕ) (x : ℕ) (xs ys : List ℕ) (rows : List (List ℕ)) → IsMapOf (2 * e) f ((x ∷ (xs ++ twin x ∷ ys)) ∷ rows) → IsMapOf (2 * e) g (xs ∷ ys ∷ rows) → IsFlat e f → Apart e g xs ys
+pub cut_loop-Apart : (e : ℕ) (f g : ℕ → ℕ) (x : ℕ) (xs ys : List ℕ) (rows : List (List ℕ))
+    → IsMapOf (2 * e) f ((x ∷ (xs ++ twin x ∷ ys)) ∷ rows) → IsMapOf (2 * e) g (xs ∷ ys ∷ rows) → IsFlat e f
+    → Apart e g xs ys
 cut_loop-Apart e f g x [] ys rows is_f is_g z c d hc hd one = hc
 cut_loop-Apart e f g x (a ∷ xs) [] rows is_f is_g z c d hc hd one = hd
 cut_loop-Apart e f g x (a ∷ xs) (b ∷ ys) rows is_f is_g z c d hc hd one =

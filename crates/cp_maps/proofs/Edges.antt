@@ -17,8 +17,11 @@ use Rattle.cp_maps.proofs.Swaps.{Permutes-swapped, face-OnePart, swapped-RaisesG
 use Rattle.cp_maps.proofs.Twins.{half_twin, same_half, twin-below, twin-other}
 
 -- a fixed number is of no other's orbit
-pub fixed_alone : (n : ℕ) (f : ℕ → ℕ) (c d : ℕ) → Permutes n f → c < n → f c ≡ c → d ≢ c → labels (graph f n) c ≢ labels (graph f n) d
-fixed_alone n f c d perm lt e ne h = false≢true (sym (ne_eqb d c ne) ∙ sym (same_labels (λ z. eqb z c) (graph f n) c d (Respects-graph (λ z. eqb z c) f n (λ z ltz.
+pub fixed_alone : (n : ℕ) (f : ℕ → ℕ) (c d : ℕ) → Permutes n f → c < n → f c ≡ c → d ≢ c
+    → labels (graph f n) c ≢ labels (graph f n) d
+fixed_alone n f c d perm lt e ne h =
+    false≢true (sym (ne_eqb d c ne)
+    ∙ sym (same_labels (λ z. eqb z c) (graph f n) c d (Respects-graph (λ z. eqb z c) f n (λ z ltz.
     ⊎_elim
     (λ same. ap (λ w. eqb w c) (same ∙ sym e ∙ ap f (sym same)))
     (λ other. ne_eqb z c other ∙ sym (ne_eqb (f z) c (λ back. other (perm.apart z c ltz lt (back ∙ sym e)))))
@@ -27,8 +30,11 @@ fixed_alone n f c d perm lt e ne h = false≢true (sym (ne_eqb d c ne) ∙ sym (
 -- three exchanges round
 three_exchanges : (a b c y : ℕ) → a ≢ b → b ≢ c → a ≢ c → exchange a c (exchange b c y) ≡ exchange a b (exchange a c y)
 three_exchanges a b c y ab bc ac = exchange_case (λ z. exchange a c z ≡ exchange a b (exchange a c y)) b c y
-    (λ e. exchange_right a c c refl ∙ sym (ap (exchange a b) (ap (exchange a c) e ∙ exchange_other a c b (λ h. ab (sym h)) bc) ∙ exchange_right a b b refl))
-    (λ nb e. exchange_other a c b (λ h. ab (sym h)) bc ∙ sym (ap (exchange a b) (ap (exchange a c) e ∙ exchange_right a c c refl) ∙ exchange_left a b a refl))
+    (λ e. exchange_right a c c refl
+    ∙ sym (ap (exchange a b) (ap (exchange a c) e ∙ exchange_other a c b (λ h. ab (sym h)) bc)
+    ∙ exchange_right a b b refl))
+    (λ nb e. exchange_other a c b (λ h. ab (sym h)) bc
+    ∙ sym (ap (exchange a b) (ap (exchange a c) e ∙ exchange_right a c c refl) ∙ exchange_left a b a refl))
     (λ nb nc. exchange_case (λ w. w ≡ exchange a b w) a c y
     (λ e. sym (exchange_other a b c (λ h. ac (sym h)) (λ h. bc (sym h))))
     (λ na e. absurd (nc e))
@@ -42,11 +48,13 @@ module _ (e : ℕ) (f : ℕ → ℕ) (perm : Permutes (2 * e) f) (x : ℕ) (ltx 
 
   -- both darts are of one component
   pub twin-OnePart : labels (linked f (2 * e) e) (twin x) ≡ labels (linked f (2 * e) e) x
-  twin-OnePart = ap (labels (linked f (2 * e) e)) (sym (partner-twin e x ltx)) ∙ linked-partner (labels (linked f (2 * e) e)) f (2 * e) e (labels-respects (linked f (2 * e) e)) x
+  twin-OnePart = ap (labels (linked f (2 * e) e)) (sym (partner-twin e x ltx))
+      ∙ linked-partner (labels (linked f (2 * e) e)) f (2 * e) e (labels-respects (linked f (2 * e) e)) x
 
   -- a dart is in the face of the dart behind its twin
   pub step-OneFace : labels (graph (face_upto f e) (2 * e)) x ≡ labels (graph (face_upto f e) (2 * e)) (f (twin x))
-  step-OneFace = label_step (face_upto f e) (2 * e) x ltx ∙ ap (labels (graph (face_upto f e) (2 * e))) (face_upto-twin e f x ltx)
+  step-OneFace = label_step (face_upto f e) (2 * e) x ltx
+      ∙ ap (labels (graph (face_upto f e) (2 * e))) (face_upto-twin e f x ltx)
 
   -- a loose edge is a component
   module _ (loose : f x ≡ x) (loose_twin : f (twin x) ≡ twin x) where
@@ -62,10 +70,12 @@ module _ (e : ℕ) (f : ℕ → ℕ) (perm : Permutes (2 * e) f) (x : ℕ) (ltx 
         (same_half x (f z) (sym s))
 
     -- other darts are of other components
-    pub loose_edge-two_parts : (d : ℕ) → d ≢ x → d ≢ twin x → labels (linked f (2 * e) e) x ≢ labels (linked f (2 * e) e) d
+    pub loose_edge-two_parts : (d : ℕ) → d ≢ x → d ≢ twin x
+        → labels (linked f (2 * e) e) x ≢ labels (linked f (2 * e) e) d
     loose_edge-two_parts d nx nt h = false≢true (
         sym (ne_eqb (d / 2) (x / 2) (λ s. ⊎_elim (λ k. nx (sym k)) nt (same_half x d (sym s))))
-        ∙ sym (same_labels (λ z. eqb (z / 2) (x / 2)) (linked f (2 * e) e) x d (linked-from (λ z. eqb (z / 2) (x / 2)) f (2 * e) e
+        ∙ sym (same_labels (λ z. eqb (z / 2) (x / 2)) (linked f (2 * e) e) x d
+        (linked-from (λ z. eqb (z / 2) (x / 2)) f (2 * e) e
         (Respects-graph (λ z. eqb (z / 2) (x / 2)) f (2 * e) (λ z lt. ⊎_elim
         (λ s. ap (λ (w : ℕ). eqb (w / 2) (x / 2)) (sym (stays_half z s)))
         (λ ns. ne_eqb (z / 2) (x / 2) ns ∙ sym (ne_eqb (f z / 2) (x / 2) (λ s. ns (half_from z lt s))))
@@ -79,7 +89,8 @@ module _ (e : ℕ) (f : ℕ → ℕ) (perm : Permutes (2 * e) f) (x : ℕ) (ltx 
     swapped_pendant-SameGenus a lta nx nt = swapped_apart-SameGenus e f perm x a ltx lta (loose_edge-two_parts a nx nt)
 
     -- an edge put in, its darts before a and b
-    module _ (a b : ℕ) (lta : a < 2 * e) (ltb : b < 2 * e) (ax : a ≢ x) (at : a ≢ twin x) (bx : b ≢ x) (bt : b ≢ twin x) where
+    module _ (a b : ℕ) (lta : a < 2 * e) (ltb : b < 2 * e) (ax : a ≢ x) (at : a ≢ twin x) (bx : b ≢ x)
+        (bt : b ≢ twin x) where
       -- with its first dart alone
       abbrev hung : ℕ → ℕ
       hung = swapped x a f
@@ -106,46 +117,67 @@ module _ (e : ℕ) (f : ℕ → ℕ) (perm : Permutes (2 * e) f) (x : ℕ) (ltx 
 
       -- its component is that of a
       second_part : labels (linked hung (2 * e) e) (twin x) ≡ labels (linked hung (2 * e) e) a
-      second_part = ap (labels (linked hung (2 * e) e)) (sym (partner-twin e x ltx)) ∙ linked-partner (labels (linked hung (2 * e) e)) hung (2 * e) e (labels-respects (linked hung (2 * e) e)) x ∙ swapped_apart-one_part e f perm x a ltx lta away
+      second_part = ap (labels (linked hung (2 * e) e)) (sym (partner-twin e x ltx))
+          ∙ linked-partner (labels (linked hung (2 * e) e)) hung (2 * e) e (labels-respects (linked hung (2 * e) e)) x
+          ∙ swapped_apart-one_part e f perm x a ltx lta away
 
       -- its face is that of a
       second_face : labels (graph (face_upto hung e) (2 * e)) (twin x) ≡ labels (graph (face_upto hung e) (2 * e)) a
-      second_face = sym (label_step (face_upto hung e) (2 * e) x ltx ∙ ap (labels (graph (face_upto hung e) (2 * e))) (face_upto-twin e hung x ltx ∙ still_loose)) ∙ swapped_apart-one_face e f perm x a ltx lta away
+      second_face =
+          sym (label_step (face_upto hung e) (2 * e) x ltx
+          ∙ ap (labels (graph (face_upto hung e) (2 * e))) (face_upto-twin e hung x ltx ∙ still_loose))
+          ∙ swapped_apart-one_face e f perm x a ltx lta away
 
       -- within a face: the genus stays
-      pub put_within-SameGenus : labels (graph (face_upto f e) (2 * e)) a ≡ labels (graph (face_upto f e) (2 * e)) b → SameGenus e f put_in
+      pub put_within-SameGenus : labels (graph (face_upto f e) (2 * e)) a ≡ labels (graph (face_upto f e) (2 * e)) b
+          → SameGenus e f put_in
       put_within-SameGenus one = SameGenus-trans e f hung put_in (swapped_apart-SameGenus e f perm x a ltx lta away)
-          (swapped_within_face-SameGenus e hung perm_hung (twin x) b lt_twin ltb alone (second_face ∙ swapped_apart-OneFace_kept e f perm x a ltx lta away a b one))
+          (swapped_within_face-SameGenus e hung perm_hung (twin x) b lt_twin ltb alone
+          (second_face ∙ swapped_apart-OneFace_kept e f perm x a ltx lta away a b one))
 
       -- and then its two darts are in different faces
-      pub put_within-two_faces : labels (graph (face_upto f e) (2 * e)) a ≡ labels (graph (face_upto f e) (2 * e)) b → labels (graph (face_upto put_in e) (2 * e)) x ≢ labels (graph (face_upto put_in e) (2 * e)) (twin x)
+      pub put_within-two_faces : labels (graph (face_upto f e) (2 * e)) a ≡ labels (graph (face_upto f e) (2 * e)) b
+          → labels (graph (face_upto put_in e) (2 * e)) x ≢ labels (graph (face_upto put_in e) (2 * e)) (twin x)
       put_within-two_faces one h =
-          swapped_within_face-two_faces e hung perm_hung (twin x) b lt_twin ltb (second_face ∙ swapped_apart-OneFace_kept e f perm x a ltx lta away a b one) (λ k. bt (sym k))
-          (sym h ∙ label_step (face_upto put_in e) (2 * e) x ltx ∙ ap (labels (graph (face_upto put_in e) (2 * e))) (face_upto-twin e put_in x ltx ∙ exchange_left (twin x) b (hung (twin x)) still_loose))
+          swapped_within_face-two_faces e hung perm_hung (twin x) b lt_twin ltb
+          (second_face ∙ swapped_apart-OneFace_kept e f perm x a ltx lta away a b one) (λ k. bt (sym k))
+          (sym h ∙ label_step (face_upto put_in e) (2 * e) x ltx
+          ∙ ap (labels (graph (face_upto put_in e) (2 * e)))
+          (face_upto-twin e put_in x ltx ∙ exchange_left (twin x) b (hung (twin x)) still_loose))
 
       -- between two components: the genus stays
       pub put_between-SameGenus : labels (linked f (2 * e) e) a ≢ labels (linked f (2 * e) e) b → SameGenus e f put_in
       put_between-SameGenus two = SameGenus-trans e f hung put_in (swapped_apart-SameGenus e f perm x a ltx lta away)
-          (swapped_apart-SameGenus e hung perm_hung (twin x) b lt_twin ltb (λ h. two (swapped-other_part e f perm x a ltx lta b a (loose_edge-two_parts b bx bt) two (sym second_part ∙ h))))
+          (swapped_apart-SameGenus e hung perm_hung (twin x) b lt_twin ltb
+          (λ h. two (swapped-other_part e f perm x a ltx lta b a (loose_edge-two_parts b bx bt) two
+          (sym second_part ∙ h))))
 
       -- and then its two darts are in one face
-      pub put_between-one_face : labels (linked f (2 * e) e) a ≢ labels (linked f (2 * e) e) b → labels (graph (face_upto put_in e) (2 * e)) x ≡ labels (graph (face_upto put_in e) (2 * e)) (twin x)
+      pub put_between-one_face : labels (linked f (2 * e) e) a ≢ labels (linked f (2 * e) e) b
+          → labels (graph (face_upto put_in e) (2 * e)) x ≡ labels (graph (face_upto put_in e) (2 * e)) (twin x)
       put_between-one_face two =
           label_step (face_upto put_in e) (2 * e) x ltx
-          ∙ ap (labels (graph (face_upto put_in e) (2 * e))) (face_upto-twin e put_in x ltx ∙ exchange_left (twin x) b (hung (twin x)) still_loose)
-          ∙ sym (swapped_apart-one_face e hung perm_hung (twin x) b lt_twin ltb (λ h. two (swapped-other_part e f perm x a ltx lta b a (loose_edge-two_parts b bx bt) two (sym second_part ∙ h))))
+          ∙ ap (labels (graph (face_upto put_in e) (2 * e)))
+          (face_upto-twin e put_in x ltx ∙ exchange_left (twin x) b (hung (twin x)) still_loose)
+          ∙ sym (swapped_apart-one_face e hung perm_hung (twin x) b lt_twin ltb
+          (λ h. two (swapped-other_part e f perm x a ltx lta b a (loose_edge-two_parts b bx bt) two
+          (sym second_part ∙ h))))
 
       -- between two faces of a component: the genus grows
-      pub put_edge-RaisesGenus : labels (linked f (2 * e) e) a ≡ labels (linked f (2 * e) e) b → labels (graph (face_upto f e) (2 * e)) a ≢ labels (graph (face_upto f e) (2 * e)) b → RaisesGenus e f put_in
+      pub put_edge-RaisesGenus : labels (linked f (2 * e) e) a ≡ labels (linked f (2 * e) e) b
+          → labels (graph (face_upto f e) (2 * e)) a ≢ labels (graph (face_upto f e) (2 * e)) b → RaisesGenus e f put_in
       put_edge-RaisesGenus one two = omega (
         arith,
         swapped_apart-SameGenus e f perm x a ltx lta away,
-        swapped-RaisesGenus e hung perm_hung (twin x) b lt_twin ltb (second_part ∙ swapped_apart-OnePart_kept e f perm x a ltx lta away a b one) alone
-            (λ h. two (swapped-other_face e f perm x a ltx lta b a (λ k. loose_edge-two_parts b bx bt (face-OnePart e f perm x a ltx lta x b k)) two (sym second_face ∙ h))),
+        swapped-RaisesGenus e hung perm_hung (twin x) b lt_twin ltb
+            (second_part ∙ swapped_apart-OnePart_kept e f perm x a ltx lta away a b one) alone
+            (λ h. two (swapped-other_face e f perm x a ltx lta b a
+            (λ k. loose_edge-two_parts b bx bt (face-OnePart e f perm x a ltx lta x b k)) two (sym second_face ∙ h))),
       )
 
   -- the darts behind the twin moved along the edge, to stand before x: the genus stays
-  module _ (b : ℕ) (behind : f (twin x) ≡ b) (more : b ≢ twin x) (two : labels (graph f (2 * e)) x ≢ labels (graph f (2 * e)) (twin x)) where
+  module _ (b : ℕ) (behind : f (twin x) ≡ b) (more : b ≢ twin x)
+      (two : labels (graph f (2 * e)) x ≢ labels (graph f (2 * e)) (twin x)) where
     -- b is a dart
     lt_b : b < 2 * e
     lt_b = subst (λ y. y < 2 * e) behind (perm.below (twin x) lt_twin)
@@ -176,11 +208,20 @@ module _ (e : ℕ) (f : ℕ → ℕ) (perm : Permutes (2 * e) f) (x : ℕ) (ltx 
 
     -- so are x and b
     freed_apart : labels (graph freed (2 * e)) x ≢ labels (graph freed (2 * e)) b
-    freed_apart h = two (subst (λ es. labels es x ≡ labels es b) (graph_agree (swapped (twin x) b freed) f (2 * e) (λ d lt. exchange-exchange (twin x) b (f d))) (swapped_two-orbit_kept (2 * e) freed perm_freed (twin x) b lt_twin lt_b freed_two x b h) ∙ sym label_b)
+    freed_apart h =
+        two (subst (λ es. labels es x ≡ labels es b)
+        (graph_agree (swapped (twin x) b freed) f (2 * e) (λ d lt. exchange-exchange (twin x) b (f d)))
+        (swapped_two-orbit_kept (2 * e) freed perm_freed (twin x) b lt_twin lt_b freed_two x b h) ∙ sym label_b)
 
     -- there are as many vertices
     slid_vertices : orbits (2 * e) f ≡ orbits (2 * e) slid
-    slid_vertices = omega (arith, swapped_one-orbits (2 * e) f perm (twin x) b lt_twin lt_b (λ h. more (sym h)) label_b, swapped_two-orbits (2 * e) freed perm_freed x b ltx lt_b freed_apart)
+    slid_vertices =
+        omega (
+          arith,
+          swapped_one-orbits (2 * e) f perm (twin x) b lt_twin lt_b
+              (λ h. more (sym h)) label_b,
+          swapped_two-orbits (2 * e) freed perm_freed x b ltx lt_b freed_apart,
+        )
 
     -- the step round the faces
     abbrev round : ℕ → ℕ
@@ -205,14 +246,19 @@ module _ (e : ℕ) (f : ℕ → ℕ) (perm : Permutes (2 * e) f) (x : ℕ) (ltx 
     -- x moves from one place of a face to another
     slid_round : (d : ℕ) → d < 2 * e → face_upto slid e d ≡ swapped x (twin x) round_without d
     slid_round d lt =
-        face_upto-partner e slid d ∙ three_exchanges x (twin x) b (f (partner e d)) (λ h. twin-other x (sym h)) (λ h. more (sym h)) other_b ∙ ap (λ (y : ℕ). exchange x (twin x) (exchange x b y)) (sym (face_upto-partner e f d))
+        face_upto-partner e slid d ∙ three_exchanges x (twin x) b (f (partner e d)) (λ h. twin-other x (sym h))
+        (λ h. more (sym h)) other_b ∙ ap (λ (y : ℕ). exchange x (twin x) (exchange x b y))
+        (sym (face_upto-partner e f d))
 
     -- there are as many faces
     slid_rounds : rounds e f ≡ rounds e slid
     slid_rounds = omega (
       arith,
-      swapped_one-orbits (2 * e) round perm_round x b ltx lt_b other_b (label_step round (2 * e) x ltx ∙ ap (labels (graph round (2 * e))) round_x),
-      swapped_two-orbits (2 * e) round_without perm_without x (twin x) ltx lt_twin (fixed_alone (2 * e) round_without x (twin x) perm_without ltx (exchange_right x b (round x) round_x) (twin-other x)),
+      swapped_one-orbits (2 * e) round perm_round x b ltx lt_b other_b
+          (label_step round (2 * e) x ltx ∙ ap (labels (graph round (2 * e))) round_x),
+      swapped_two-orbits (2 * e) round_without perm_without x (twin x) ltx lt_twin
+          (fixed_alone (2 * e) round_without x (twin x) perm_without ltx (exchange_right x b (round x) round_x)
+          (twin-other x)),
       orbits_agree (face_upto slid e) (swapped x (twin x) round_without) (2 * e) slid_round,
     )
 
@@ -227,12 +273,19 @@ module _ (e : ℕ) (f : ℕ → ℕ) (perm : Permutes (2 * e) f) (x : ℕ) (ltx 
     -- there are as many components
     slid_parts : parts e f ≡ parts e slid
     slid_parts =
-        let near : old_part (twin x) ≡ old_part b = vertex-OnePart e f perm (twin x) b lt_twin lt_b (twin x) b label_b in
-        let far : new_part x ≡ new_part b = same_labels new_part (graph slid (2 * e)) x b (linked-graph new_part slid (2 * e) e (labels-respects (linked slid (2 * e) e))) (swapped_two-one_orbit (2 * e) freed perm_freed x b ltx lt_b freed_apart) in
-        let new_twin : new_part (twin x) ≡ new_part x = ap new_part (sym (partner-twin e x ltx)) ∙ linked-partner new_part slid (2 * e) e (labels-respects (linked slid (2 * e) e)) x in
+        let near : old_part (twin x) ≡ old_part b =
+        vertex-OnePart e f perm (twin x) b lt_twin lt_b (twin x) b label_b in
+        let far : new_part x ≡ new_part b =
+        same_labels new_part (graph slid (2 * e)) x b
+        (linked-graph new_part slid (2 * e) e (labels-respects (linked slid (2 * e) e)))
+        (swapped_two-one_orbit (2 * e) freed perm_freed x b ltx lt_b freed_apart) in
+        let new_twin : new_part (twin x) ≡ new_part x = ap new_part (sym (partner-twin e x ltx))
+        ∙ linked-partner new_part slid (2 * e) e (labels-respects (linked slid (2 * e) e)) x in
         classes_equal (2 * e) (linked f (2 * e) e) (linked slid (2 * e) e)
-        (swapped-Respects_back e f perm (twin x) b lt_twin lt_b new_part (new_twin ∙ far) (swapped-Respects_back e freed perm_freed x b ltx lt_b new_part far (labels-respects (linked slid (2 * e) e))))
-        (swapped-Respects e freed perm_freed x b ltx lt_b old_part (sym twin-OnePart ∙ near) (swapped-Respects e f perm (twin x) b lt_twin lt_b old_part near (labels-respects (linked f (2 * e) e))))
+        (swapped-Respects_back e f perm (twin x) b lt_twin lt_b new_part (new_twin ∙ far)
+        (swapped-Respects_back e freed perm_freed x b ltx lt_b new_part far (labels-respects (linked slid (2 * e) e))))
+        (swapped-Respects e freed perm_freed x b ltx lt_b old_part (sym twin-OnePart ∙ near)
+        (swapped-Respects e f perm (twin x) b lt_twin lt_b old_part near (labels-respects (linked f (2 * e) e))))
 
     -- so the genus stays
     pub slid-SameGenus : SameGenus e f slid

@@ -30,7 +30,9 @@ pub SameGenus-agree : (e : ℕ) (f g : ℕ → ℕ) → Permutes (2 * e) f → (
 SameGenus-agree e f g perm same =
     let one : parts e f ≡ parts e g = ap (classes (2 * e)) (linked_agree f g (2 * e) e same) in
     let two : orbits (2 * e) f ≡ orbits (2 * e) g = orbits_agree f g (2 * e) same in
-    let three_exchanges : rounds e f ≡ rounds e g = orbits_agree (face_upto f e) (face_upto g e) (2 * e) (λ d lt. face_upto-partner e f d ∙ same (partner e d) (partner-within e d lt) ∙ sym (face_upto-partner e g d)) in
+    let three_exchanges : rounds e f ≡ rounds e g =
+    orbits_agree (face_upto f e) (face_upto g e) (2 * e)
+    (λ d lt. face_upto-partner e f d ∙ same (partner e d) (partner-within e d lt) ∙ sym (face_upto-partner e g d)) in
     omega (arith, one, two, three_exchanges)
 
 -- so both are flat or none
@@ -42,12 +44,20 @@ pub OneGenus-sym : (e : ℕ) (f : ℕ → ℕ) (m : ℕ) (g : ℕ → ℕ) → O
 OneGenus-sym e f m g same = sym same
 
 -- over a third
-pub OneGenus-trans : (e : ℕ) (f : ℕ → ℕ) (m : ℕ) (g : ℕ → ℕ) (k : ℕ) (h : ℕ → ℕ) → OneGenus e f m g → OneGenus m g k h → OneGenus e f k h
+pub OneGenus-trans : (e : ℕ) (f : ℕ → ℕ) (m : ℕ) (g : ℕ → ℕ) (k : ℕ) (h : ℕ → ℕ) → OneGenus e f m g → OneGenus m g k h
+    → OneGenus e f k h
 OneGenus-trans e f m g k h one two = omega (arith, one, two)
 
 -- Euler's inequality for maps
 pub euler_map : (e : ℕ) (f : ℕ → ℕ) → Permutes (2 * e) f → orbits (2 * e) f + rounds e f ≤ e + 2 * parts e f
-euler_map e f perm = omega (arith, euler_bound (2 * e) e (labels (graph f (2 * e))) f rot, components_linked (2 * e) e (labels (graph f (2 * e))) f rot, orbits-bare (2 * e) (2 * e) (labels (graph f (2 * e))) f rot)
+euler_map e f perm =
+    omega (
+      arith,
+      euler_bound (2 * e) e (labels (graph f (2 * e))) f rot,
+      components_linked (2 * e) e
+          (labels (graph f (2 * e))) f rot,
+      orbits-bare (2 * e) (2 * e) (labels (graph f (2 * e))) f rot,
+    )
   where
     rot : Rotates (2 * e) (2 * e) (labels (graph f (2 * e))) f
     rot = record {
@@ -62,11 +72,16 @@ pub RaisesGenus-not_flat : (e : ℕ) (f g : ℕ → ℕ) → Permutes (2 * e) f 
 RaisesGenus-not_flat e f g perm more z = omega (arith, euler_map e f perm, more, z)
 
 -- darts of one face are of one in a map that agrees
-pub OneFace-agree : (e : ℕ) (f g : ℕ → ℕ) (a b : ℕ) → ((d : ℕ) → d < 2 * e → f d ≡ g d) → OneFace e f a b → OneFace e g a b
-OneFace-agree e f g a b same one = subst (λ es. labels es a ≡ labels es b) (graph_agree (face_upto f e) (face_upto g e) (2 * e) (λ d lt. face_upto-partner e f d ∙ same (partner e d) (partner-within e d lt) ∙ sym (face_upto-partner e g d))) one
+pub OneFace-agree : (e : ℕ) (f g : ℕ → ℕ) (a b : ℕ) → ((d : ℕ) → d < 2 * e → f d ≡ g d) → OneFace e f a b
+    → OneFace e g a b
+OneFace-agree e f g a b same one =
+    subst (λ es. labels es a ≡ labels es b)
+    (graph_agree (face_upto f e) (face_upto g e) (2 * e)
+    (λ d lt. face_upto-partner e f d ∙ same (partner e d) (partner-within e d lt) ∙ sym (face_upto-partner e g d))) one
 
 -- to be in one face is to be reached by the step along an edge and on
-pub OneFace-Reaches : (e : ℕ) (f : ℕ → ℕ) (a b : ℕ) → Permutes (2 * e) (face_upto f e) → a < 2 * e → b < 2 * e → OneFace e f a b ↔ Reaches (face_upto f e) a b
+pub OneFace-Reaches : (e : ℕ) (f : ℕ → ℕ) (a b : ℕ) → Permutes (2 * e) (face_upto f e) → a < 2 * e → b < 2 * e
+    → OneFace e f a b ↔ Reaches (face_upto f e) a b
 OneFace-Reaches e f a b perm lta ltb = walk (2 * e) (face_upto f e) perm a b lta ltb
 
 -- to be of one component is to be connected by steps and edges

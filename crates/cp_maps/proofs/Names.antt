@@ -34,30 +34,42 @@ use Rattle.cp_maps.proofs.Twins.{half_twin, twin-below, twin_even, twin_odd}
 free_number : (m e : ℕ) (p : ℕ → ℕ) → m < e → (y : ℕ) × (y < e) × ((i : ℕ) → i < m → p i ≢ y)
 free_number m e p lt =
     let taken : ℕ → Bool = λ (y : ℕ). stands p m y in
-    let c : (f : ℕ → ℕ) × ((x : ℕ) → x < e → taken x ≡ true → (f x < m) × (p (f x) ≡ x)) = choose e (λ x d. taken x ≡ true → (d < m) × (p d ≡ x)) (λ x l. ⊎_elim
+    let c : (f : ℕ → ℕ) × ((x : ℕ) → x < e → taken x ≡ true → (f x < m) × (p (f x) ≡ x)) =
+    choose e (λ x d. taken x ≡ true → (d < m) × (p d ≡ x)) (λ x l. ⊎_elim
     (λ t. let w = stands_some p m x t in (w.0, λ u. (w.1, w.2)))
     (λ f. (0, λ t. absurd (false≢true (sym f ∙ t))))
     (cases_Bool (taken x))) in
-    let few : count e taken ≤ count m (λ x. true) = count_inject e m taken (λ x. true) c.0 (λ x l t. ((c.1 x l t).0, refl)) (λ x y lx ly tx ty s. sym (c.1 x lx tx).1 ∙ ap p s ∙ (c.1 y ly ty).1) in
-    let w = count_some e (λ x. not (taken x)) (omega (arith, few, count_all m (λ x. true) (λ x l. refl), count_both e taken)) in
+    let few : count e taken ≤ count m (λ x. true) =
+    count_inject e m taken (λ x. true) c.0 (λ x l t. ((c.1 x l t).0, refl))
+    (λ x y lx ly tx ty s. sym (c.1 x lx tx).1 ∙ ap p s ∙ (c.1 y ly ty).1) in
+    let w =
+    count_some e (λ x. not (taken x)) (omega (arith, few, count_all m (λ x. true) (λ x l. refl), count_both e taken)) in
     (w.0, w.1, λ i l h. false≢true (sym (not-true (taken w.0) w.2) ∙ stands_at p m i w.0 l h))
 
 -- as many names as there are
-names_all : (m : ℕ) (j f g : ℕ → ℕ) → Permutes (2 * m) f → Permutes (2 * m) g → Names m m j → Carries m m j f g → OneGenus m f m g
+names_all : (m : ℕ) (j f g : ℕ → ℕ) → Permutes (2 * m) f → Permutes (2 * m) g → Names m m j → Carries m m j f g
+    → OneGenus m f m g
 names_all m j f g perm_f perm_g names carries =
     let perm : Permutes (2 * m) j = record { below = names.below; apart = names.apart } in
-    let c : (u : ℕ → ℕ) × ((y : ℕ) → y < 2 * m → (u y < 2 * m) × (j (u y) ≡ y)) = choose (2 * m) (λ y d. (d < 2 * m) × (j d ≡ y)) (λ y lt. let w = Permutes-onto (2 * m) j perm y lt in (w.0, (w.1, w.2))) in
+    let c : (u : ℕ → ℕ) × ((y : ℕ) → y < 2 * m → (u y < 2 * m) × (j (u y) ≡ y)) =
+    choose (2 * m) (λ y d. (d < 2 * m) × (j d ≡ y)) (λ y lt. let w = Permutes-onto (2 * m) j perm y lt in
+    (w.0, (w.1, w.2))) in
     let ren : Renumbers (2 * m) j c.0 = record {
       there = names.below;
       back = λ y lt. (c.1 y lt).0;
-      there_back = λ d lt. names.apart (c.0 (j d)) d (c.1 (j d) (names.below d lt)).0 lt (c.1 (j d) (names.below d lt)).1;
+      there_back =
+          λ d lt. names.apart (c.0 (j d)) d (c.1 (j d) (names.below d lt)).0 lt (c.1 (j d) (names.below d lt)).1;
       back_there = λ y lt. (c.1 y lt).1;
     } in
-    let same : SameGenus m f g = renumbered-SameGenus m f g perm_f perm_g j c.0 ren (λ d lt. partner-twin m (j d) (names.below d lt) ∙ sym (names.twins d lt) ∙ ap j (sym (partner-twin m d lt))) carries.same in
+    let same : SameGenus m f g =
+    renumbered-SameGenus m f g perm_f perm_g j c.0 ren
+    (λ d lt. partner-twin m (j d) (names.below d lt) ∙ sym (names.twins d lt)
+    ∙ ap j (sym (partner-twin m d lt))) carries.same in
     omega (arith, same)
 
 -- one name more
-module _ (m e : ℕ) (j f g : ℕ → ℕ) (lt : m < e) (perm_g : Permutes (2 * e) g) (names : Names m e j) (carries : Carries m e j f g) (rest : (d : ℕ) → 2 * m ≤ d → f d ≡ d) where
+module _ (m e : ℕ) (j f g : ℕ → ℕ) (lt : m < e) (perm_g : Permutes (2 * e) g) (names : Names m e j)
+    (carries : Carries m e j f g) (rest : (d : ℕ) → 2 * m ≤ d → f d ≡ d) where
   -- an edge whose name is free
   free : (y : ℕ) × (y < e) × ((i : ℕ) → i < m → j (2 * i) / 2 ≢ y)
   free = free_number m e (λ i. j (2 * i) / 2) lt
@@ -65,10 +77,12 @@ module _ (m e : ℕ) (j f g : ℕ → ℕ) (lt : m < e) (perm_g : Permutes (2 * 
   -- its darts are no names
   unused : (d : ℕ) → d < 2 * m → j d / 2 ≢ free.0
   unused d l h = ⊎_elim
-      (λ even. let s : d ≡ 2 * (d / 2) = omega arith in free.2 (d / 2) (omega arith) (ap (λ (x : ℕ). j x / 2) (sym s) ∙ h))
+      (λ even. let s : d ≡ 2 * (d / 2) = omega arith in
+      free.2 (d / 2) (omega arith) (ap (λ (x : ℕ). j x / 2) (sym s) ∙ h))
       (λ odd.
       let s : twin d ≡ 2 * (d / 2) = twin_odd d odd ∙ omega arith in
-      free.2 (d / 2) (omega arith) (ap (λ (x : ℕ). j x / 2) (sym s) ∙ ap (λ (x : ℕ). x / 2) (names.twins d l) ∙ half_twin (j d) ∙ h))
+      free.2 (d / 2) (omega arith) (ap (λ (x : ℕ). j x / 2) (sym s) ∙ ap (λ (x : ℕ). x / 2) (names.twins d l)
+      ∙ half_twin (j d) ∙ h))
       (cases_eq (d % 2) 0)
 
   -- the names with it
@@ -88,7 +102,9 @@ module _ (m e : ℕ) (j f g : ℕ → ℕ) (lt : m < e) (perm_g : Permutes (2 * 
   -- they are names
   pub Names-more : Names (suc m) e more_names
   Names-more = record {
-    below = λ d l. ⊎_elim (λ o. subst (λ y. y < 2 * e) (sym (more_names_old d o)) (names.below d o)) (λ n. omega (arith, more_names_new d n, free.1)) (cases_lt d (2 * m));
+    below =
+        λ d l. ⊎_elim (λ o. subst (λ y. y < 2 * e) (sym (more_names_old d o)) (names.below d o))
+        (λ n. omega (arith, more_names_new d n, free.1)) (cases_lt d (2 * m));
     apart = λ c d lc ld h. ⊎_elim
         (λ oc. ⊎_elim
         (λ od. names.apart c d oc od (sym (more_names_old c oc) ∙ h ∙ more_names_old d od))
@@ -100,7 +116,8 @@ module _ (m e : ℕ) (j f g : ℕ → ℕ) (lt : m < e) (perm_g : Permutes (2 * 
         (cases_lt d (2 * m)))
         (cases_lt c (2 * m));
     twins = λ d l. ⊎_elim
-        (λ o. more_names_old (twin d) (twin-below (2 * m) d (omega arith) o) ∙ names.twins d o ∙ ap twin (sym (more_names_old d o)))
+        (λ o. more_names_old (twin d) (twin-below (2 * m) d (omega arith) o) ∙ names.twins d o
+        ∙ ap twin (sym (more_names_old d o)))
         (λ n. ⊎_elim
         (λ first.
         let t : twin d ≡ d + 1 = twin_even d (omega arith) in
@@ -124,7 +141,8 @@ module _ (m e : ℕ) (j f g : ℕ → ℕ) (lt : m < e) (perm_g : Permutes (2 * 
   Carries-more stays = record {
     same = λ d l. ⊎_elim
         (λ o. ap g (more_names_old d o) ∙ carries.same d o ∙ sym (more_names_old (f d) (stays d o)))
-        (λ n. carries.loose (more_names d) (omega (arith, more_names_new d n, free.1)) (λ c lc h. unused c lc (omega (arith, h, more_names_new d n))) ∙ ap more_names (sym (rest d n)))
+        (λ n. carries.loose (more_names d) (omega (arith, more_names_new d n, free.1))
+        (λ c lc h. unused c lc (omega (arith, h, more_names_new d n))) ∙ ap more_names (sym (rest d n)))
         (cases_lt d (2 * m));
     loose = λ y l none. carries.loose y l (λ d ld h. none d (omega arith) (more_names_old d ld ∙ h));
   }
@@ -134,33 +152,44 @@ Permutes-more : (m k : ℕ) (f : ℕ → ℕ) → Permutes (2 * m) f → ((d : �
 Permutes-more m k f perm rest = record {
   below = λ d l. ⊎_elim (λ o. omega (arith, perm.below d o)) (λ n. omega (arith, rest d n)) (cases_lt d (2 * m));
   apart = λ c d lc ld h. ⊎_elim
-      (λ oc. ⊎_elim (λ od. perm.apart c d oc od h) (λ nd. absurd (omega (arith, perm.below c oc, rest d nd, h))) (cases_lt d (2 * m)))
-      (λ nc. ⊎_elim (λ od. absurd (omega (arith, perm.below d od, rest c nc, h))) (λ nd. omega (arith, rest c nc, rest d nd, h)) (cases_lt d (2 * m)))
+      (λ oc. ⊎_elim (λ od. perm.apart c d oc od h) (λ nd. absurd (omega (arith, perm.below c oc, rest d nd, h)))
+      (cases_lt d (2 * m)))
+      (λ nc. ⊎_elim (λ od. absurd (omega (arith, perm.below d od, rest c nc, h)))
+      (λ nd. omega (arith, rest c nc, rest d nd, h)) (cases_lt d (2 * m)))
       (cases_lt c (2 * m));
 }
 
 -- by induction on how many names are free
-names_some : (k m e : ℕ) (j f g : ℕ → ℕ) → m + k ≡ e → Permutes (2 * m) f → Permutes (2 * e) g → Names m e j → Carries m e j f g → ((d : ℕ) → 2 * m ≤ d → f d ≡ d) → OneGenus m f e g
+names_some : (k m e : ℕ) (j f g : ℕ → ℕ) → m + k ≡ e → Permutes (2 * m) f → Permutes (2 * e) g → Names m e j
+    → Carries m e j f g → ((d : ℕ) → 2 * m ≤ d → f d ≡ d) → OneGenus m f e g
 names_some zero m e j f g size perm_f perm_g names carries rest =
     let same : m ≡ e = omega arith in
-    subst (λ x. OneGenus m f x g) same (names_all m j f g perm_f (subst (λ x. Permutes (2 * x) g) (sym same) perm_g) (subst (λ x. Names m x j) (sym same) names) (subst (λ x. Carries m x j f g) (sym same) carries))
+    subst (λ x. OneGenus m f x g) same
+    (names_all m j f g perm_f (subst (λ x. Permutes (2 * x) g) (sym same) perm_g)
+    (subst (λ x. Names m x j) (sym same) names) (subst (λ x. Carries m x j f g) (sym same) carries))
 names_some (suc k) m e j f g size perm_f perm_g names carries rest =
     let lt : m < e = omega arith in
     let one : m + 1 ≡ suc m = omega arith in
     let perm : Permutes (2 * suc m) f = subst (λ x. Permutes (2 * x) f) one (Permutes-more m 1 f perm_f rest) in
-    OneGenus-trans m f (suc m) f e g (loose_edge-OneGenus m f perm (rest (2 * m) (omega arith)) (rest (2 * m + 1) (omega arith)))
-    (names_some k (suc m) e (more_names m e j f g lt perm_g names carries rest) f g (omega arith) perm perm_g (Names-more m e j f g lt perm_g names carries rest) (Carries-more m e j f g lt perm_g names carries rest perm_f.below) (λ d le. rest d (omega arith)))
+    OneGenus-trans m f (suc m) f e g
+    (loose_edge-OneGenus m f perm (rest (2 * m) (omega arith)) (rest (2 * m + 1) (omega arith)))
+    (names_some k (suc m) e (more_names m e j f g lt perm_g names carries rest) f g (omega arith) perm perm_g
+    (Names-more m e j f g lt perm_g names carries rest)
+    (Carries-more m e j f g lt perm_g names carries rest perm_f.below) (λ d le. rest d (omega arith)))
 
 -- a map under other names in a larger stock
-pub Carries-OneGenus : (m e : ℕ) (j f g : ℕ → ℕ) → m ≤ e → Permutes (2 * m) f → Permutes (2 * e) g → Names m e j → Carries m e j f g → OneGenus m f e g
+pub Carries-OneGenus : (m e : ℕ) (j f g : ℕ → ℕ) → m ≤ e → Permutes (2 * m) f → Permutes (2 * e) g → Names m e j
+    → Carries m e j f g → OneGenus m f e g
 Carries-OneGenus m e j f g le perm_f perm_g names carries =
     let h : ℕ → ℕ = λ (d : ℕ). cond (ltb d (2 * m)) (f d) d in
     let old : (d : ℕ) → d < 2 * m → f d ≡ h d = λ d l. sym (cond-true (ltb d (2 * m)) (f d) d (lt-ltb d (2 * m) l)) in
     let rest : (d : ℕ) → 2 * m ≤ d → h d ≡ d = λ d l. cond-false (ltb d (2 * m)) (f d) d (le-ltb d (2 * m) l) in
     let same : SameGenus m f h = SameGenus-agree m f h perm_f old in
-    let carried : Carries m e j h g = record { same = λ d l. carries.same d l ∙ ap j (old d l); loose = carries.loose } in
+    let carried : Carries m e j h g =
+    record { same = λ d l. carries.same d l ∙ ap j (old d l); loose = carries.loose } in
     let one : OneGenus m f m h = omega (arith, same) in
-    OneGenus-trans m f m h e g one (names_some (e - m) m e j h g (omega arith) (Permutes-agree (2 * m) f h old perm_f) perm_g names carried rest)
+    OneGenus-trans m f m h e g one
+    (names_some (e - m) m e j h g (omega arith) (Permutes-agree (2 * m) f h old perm_f) perm_g names carried rest)
 
 -- rows under other names
 module _ (j : ℕ → ℕ) where
@@ -170,24 +199,34 @@ module _ (j : ℕ → ℕ) where
   flat-names (xs ∷ rows) = ap (λ ys. map j xs ++ ys) (flat-names rows) ∙ sym (map-append j xs (flat rows))
 
   -- where j gives different names, the rings are those under the names
-  rings_names : (f g : ℕ → ℕ) (rows : List (List ℕ)) → ((c d : ℕ) → Has c (flat rows) → Has d (flat rows) → j c ≡ j d → c ≡ d) → Rings f rows → Rings g (map (map j) rows) → (d : ℕ) → Has d (flat rows) → g (j d) ≡ j (f d)
+  rings_names : (f g : ℕ → ℕ) (rows : List (List ℕ))
+      → ((c d : ℕ) → Has c (flat rows) → Has d (flat rows) → j c ≡ j d → c ≡ d) → Rings f rows
+      → Rings g (map (map j) rows) → (d : ℕ) → Has d (flat rows) → g (j d) ≡ j (f d)
   rings_names f g [] apart rf rg d h = absurd h
   rings_names f g (xs ∷ rows) apart rf rg d h = ⊎_elim
       (λ k. rg.0.along (j d) (Has-map_on j d xs k)
-      ∙ follow-map_on j d xs (λ x hx e. apart x d (Has-append_left x xs (flat rows) hx) (Has-append_left d xs (flat rows) k) e) k
+      ∙ follow-map_on j d xs (λ x hx e. apart x d (Has-append_left x xs (flat rows) hx)
+      (Has-append_left d xs (flat rows) k) e) k
       ∙ ap j (sym (rf.0.along d k)))
-      (λ k. rings_names f g rows (λ c b hc hb e. apart c b (Has-append_right c xs (flat rows) hc) (Has-append_right b xs (flat rows) hb) e) rf.1 rg.1 d k)
+      (λ k. rings_names f g rows (λ c b hc hb e. apart c b (Has-append_right c xs (flat rows) hc)
+      (Has-append_right b xs (flat rows) hb) e) rf.1 rg.1 d k)
       (Has-append_cases d xs (flat rows) h)
 
 -- lists under other names
-pub named_lists-OneGenus : (m e : ℕ) (j f g : ℕ → ℕ) (rows : List (List ℕ)) → m ≤ e → Names m e j → IsMapOf (2 * m) f rows → IsMapOf (2 * e) g (map (map j) rows) → OneGenus m f e g
-named_lists-OneGenus m e j f g rows le names is_f is_g = Carries-OneGenus m e j f g le (IsMapOf-Permutes (2 * m) f rows is_f) (IsMapOf-Permutes (2 * e) g (map (map j) rows) is_g) names (record {
-  same = λ d lt. ⊎_elim
-      (λ h. rings_names j f g rows (λ c b hc hb e'. names.apart c b (below_item (2 * m) c (flat rows) is_f.below hc) (below_item (2 * m) b (flat rows) is_f.below hb) e') is_f.rings is_g.rings d h)
-      (λ l. is_g.loose (j d) (names.below d lt) (free d lt l) ∙ ap j (sym (is_f.loose d lt l)))
-      (has_cases d (flat rows));
-  loose = λ y lt none. is_g.loose y lt (Lacks-from y (flat (map (map j) rows)) (λ h. let w = named y h in none w.0 (below_item (2 * m) w.0 (flat rows) is_f.below w.1) w.2));
-})
+pub named_lists-OneGenus : (m e : ℕ) (j f g : ℕ → ℕ) (rows : List (List ℕ)) → m ≤ e → Names m e j
+    → IsMapOf (2 * m) f rows → IsMapOf (2 * e) g (map (map j) rows) → OneGenus m f e g
+named_lists-OneGenus m e j f g rows le names is_f is_g =
+    Carries-OneGenus m e j f g le (IsMapOf-Permutes (2 * m) f rows is_f)
+    (IsMapOf-Permutes (2 * e) g (map (map j) rows) is_g) names (record {
+      same = λ d lt. ⊎_elim
+          (λ h. rings_names j f g rows (λ c b hc hb e'. names.apart c b (below_item (2 * m) c (flat rows) is_f.below hc)
+          (below_item (2 * m) b (flat rows) is_f.below hb) e') is_f.rings is_g.rings d h)
+          (λ l. is_g.loose (j d) (names.below d lt) (free d lt l) ∙ ap j (sym (is_f.loose d lt l)))
+          (has_cases d (flat rows));
+      loose =
+          λ y lt none. is_g.loose y lt (Lacks-from y (flat (map (map j) rows)) (λ h. let w = named y h in
+          none w.0 (below_item (2 * m) w.0 (flat rows) is_f.below w.1) w.2));
+    })
   where
     named : (y : ℕ) → Has y (flat (map (map j) rows)) → (d : ℕ) × Has d (flat rows) × (j d ≡ y)
     named y h = map_on-Has j y (flat rows) (subst (Has y) (flat-names j rows) h)
@@ -195,48 +234,71 @@ named_lists-OneGenus m e j f g rows le names is_f is_g = Carries-OneGenus m e j 
     free : (d : ℕ) → d < 2 * m → Lacks d (flat rows) → Lacks (j d) (flat (map (map j) rows))
     free d lt l = Lacks-from (j d) (flat (map (map j) rows)) (λ h.
         let w = named (j d) h in
-        has_lacks d (flat rows) (subst (λ y. Has y (flat rows)) (names.apart w.0 d (below_item (2 * m) w.0 (flat rows) is_f.below w.1) lt w.2) w.1) l)
+        has_lacks d (flat rows) (subst (λ y. Has y (flat rows))
+        (names.apart w.0 d (below_item (2 * m) w.0 (flat rows) is_f.below w.1) lt w.2) w.1) l)
 
 -- the same lists in a larger stock of edges
-pub larger_stock-OneGenus : (m e : ℕ) (f g : ℕ → ℕ) (rows : List (List ℕ)) → m ≤ e → IsMapOf (2 * m) f rows → IsMapOf (2 * e) g rows → OneGenus m f e g
-larger_stock-OneGenus m e f g rows le is_f is_g = Carries-OneGenus m e (λ d. d) f g le (IsMapOf-Permutes (2 * m) f rows is_f) (IsMapOf-Permutes (2 * e) g rows is_g)
+pub larger_stock-OneGenus : (m e : ℕ) (f g : ℕ → ℕ) (rows : List (List ℕ)) → m ≤ e → IsMapOf (2 * m) f rows
+    → IsMapOf (2 * e) g rows → OneGenus m f e g
+larger_stock-OneGenus m e f g rows le is_f is_g =
+    Carries-OneGenus m e (λ d. d) f g le (IsMapOf-Permutes (2 * m) f rows is_f) (IsMapOf-Permutes (2 * e) g rows is_g)
     (record { below = λ d lt. omega arith; apart = λ c d ltc ltd h. h; twins = λ d lt. refl })
     (record {
-      same = λ d lt. ⊎_elim (λ h. sym (rings_same f g rows d is_f.rings is_g.rings h)) (λ l. is_g.loose d (omega arith) l ∙ sym (is_f.loose d lt l)) (has_cases d (flat rows));
-      loose = λ y lt none. is_g.loose y lt (Lacks-from y (flat rows) (λ h. none y (below_item (2 * m) y (flat rows) is_f.below h) refl));
+      same = λ d lt. ⊎_elim (λ h. sym (rings_same f g rows d is_f.rings is_g.rings h))
+          (λ l. is_g.loose d (omega arith) l ∙ sym (is_f.loose d lt l)) (has_cases d (flat rows));
+      loose =
+          λ y lt none. is_g.loose y lt (Lacks-from y (flat rows)
+          (λ h. none y (below_item (2 * m) y (flat rows) is_f.below h) refl));
     })
 
 -- a map under names
-module _ (m e : ℕ) (j f g : ℕ → ℕ) (perm_f : Permutes (2 * m) f) (perm_g : Permutes (2 * e) g) (names : Names m e j) (carries : Carries m e j f g) where
+module _ (m e : ℕ) (j f g : ℕ → ℕ) (perm_f : Permutes (2 * m) f) (perm_g : Permutes (2 * e) g) (names : Names m e j)
+    (carries : Carries m e j f g) where
   -- the step round the faces under the names
   face_named : (d : ℕ) → d < 2 * m → face_upto g e (j d) ≡ j (face_upto f m d)
   face_named d lt =
-      face_upto-partner e g (j d) ∙ ap g (partner-twin e (j d) (names.below d lt) ∙ sym (names.twins d lt) ∙ ap j (sym (partner-twin m d lt)))
+      face_upto-partner e g (j d) ∙ ap g
+      (partner-twin e (j d) (names.below d lt) ∙ sym (names.twins d lt) ∙ ap j (sym (partner-twin m d lt)))
       ∙ carries.same (partner m d) (partner-within m d lt) ∙ ap j (sym (face_upto-partner m f d))
 
   -- and its repeats
   faces_named : (k d : ℕ) → d < 2 * m → iterate (face_upto g e) k (j d) ≡ j (iterate (face_upto f m) k d)
   faces_named zero d lt = refl
-  faces_named (suc k) d lt = ap (iterate (face_upto g e) k) (face_named d lt) ∙ faces_named k (face_upto f m d) ((face_upto-Permutes (2 * m) m f perm_f (omega arith)).below d lt)
+  faces_named (suc k) d lt = ap (iterate (face_upto g e) k) (face_named d lt)
+      ∙ faces_named k (face_upto f m d) ((face_upto-Permutes (2 * m) m f perm_f (omega arith)).below d lt)
 
   -- two darts are in one face as their names are
   pub Carries-OneFace : (c d : ℕ) → c < 2 * m → d < 2 * m → OneFace m f c d ↔ OneFace e g (j c) (j d)
   Carries-OneFace c d ltc ltd =
       let perm_one : Permutes (2 * m) (face_upto f m) = face_upto-Permutes (2 * m) m f perm_f (omega arith) in
       let perm_two : Permutes (2 * e) (face_upto g e) = face_upto-Permutes (2 * e) e g perm_g (omega arith) in (
-        λ one. same_labels (λ z. labels (graph (face_upto g e) (2 * e)) (j z)) (graph (face_upto f m) (2 * m)) c d (Respects-graph (λ z. labels (graph (face_upto g e) (2 * e)) (j z)) (face_upto f m) (2 * m) (λ z lt.
-            graph-respects (labels (graph (face_upto g e) (2 * e))) (face_upto g e) (2 * e) (j z) (labels-respects (graph (face_upto g e) (2 * e))) (names.below z lt) ∙ ap (labels (graph (face_upto g e) (2 * e))) (face_named z lt))) one,
+        λ one. same_labels (λ z. labels (graph (face_upto g e) (2 * e)) (j z)) (graph (face_upto f m) (2 * m)) c d
+            (Respects-graph (λ z. labels (graph (face_upto g e) (2 * e)) (j z)) (face_upto f m) (2 * m) (λ z lt.
+            graph-respects (labels (graph (face_upto g e) (2 * e))) (face_upto g e) (2 * e) (j z)
+            (labels-respects (graph (face_upto g e) (2 * e))) (names.below z lt)
+            ∙ ap (labels (graph (face_upto g e) (2 * e))) (face_named z lt))) one,
         λ one.
-            let r : Reaches (face_upto g e) (j c) (j d) = reached_labels (2 * e) (face_upto g e) perm_two (j c) (j d) (names.below c ltc) (names.below d ltd) one in
-            labels_reached (2 * m) (face_upto f m) perm_one c d ltc (r.0, names.apart (iterate (face_upto f m) r.0 c) d (iterate-below (2 * m) (face_upto f m) perm_one r.0 c ltc) ltd (sym (faces_named r.0 c ltc) ∙ r.1)),
+            let r : Reaches (face_upto g e) (j c) (j d) =
+            reached_labels (2 * e) (face_upto g e) perm_two (j c) (j d) (names.below c ltc) (names.below d ltd) one in
+            labels_reached (2 * m) (face_upto f m) perm_one c d ltc (
+              r.0,
+              names.apart (iterate (face_upto f m) r.0 c) d
+                  (iterate-below (2 * m) (face_upto f m) perm_one r.0 c ltc) ltd (sym (faces_named r.0 c ltc) ∙ r.1),
+            ),
       )
 
   -- darts of one component have names of one
   pub Carries-OnePart : (c d : ℕ) → OnePart m f c d → OnePart e g (j c) (j d)
-  Carries-OnePart c d one = same_labels (λ z. labels (linked g (2 * e) e) (j z)) (linked f (2 * m) m) c d (linked-from (λ z. labels (linked g (2 * e) e) (j z)) f (2 * m) m
+  Carries-OnePart c d one =
+      same_labels (λ z. labels (linked g (2 * e) e) (j z)) (linked f (2 * m) m) c d
+      (linked-from (λ z. labels (linked g (2 * e) e) (j z)) f (2 * m) m
       (Respects-graph (λ z. labels (linked g (2 * e) e) (j z)) f (2 * m) (λ z lt.
-      graph-respects (labels (linked g (2 * e) e)) g (2 * e) (j z) (linked-graph (labels (linked g (2 * e) e)) g (2 * e) e (labels-respects (linked g (2 * e) e))) (names.below z lt) ∙ ap (labels (linked g (2 * e) e)) (carries.same z lt)))
+      graph-respects (labels (linked g (2 * e) e)) g (2 * e) (j z)
+      (linked-graph (labels (linked g (2 * e) e)) g (2 * e) e (labels-respects (linked g (2 * e) e)))
+      (names.below z lt) ∙ ap (labels (linked g (2 * e) e)) (carries.same z lt)))
       (λ k lt.
       let even : 2 * k % 2 ≡ 0 = omega arith in
-      let t : j (2 * k + 1) ≡ twin (j (2 * k)) = ap j (sym (twin_even (2 * k) even)) ∙ names.twins (2 * k) (omega arith) in
-      sym (twin-OnePart e g perm_g (j (2 * k)) (names.below (2 * k) (omega arith))) ∙ ap (labels (linked g (2 * e) e)) (sym t))) one
+      let t : j (2 * k + 1) ≡ twin (j (2 * k)) = ap j (sym (twin_even (2 * k) even))
+      ∙ names.twins (2 * k) (omega arith) in
+      sym (twin-OnePart e g perm_g (j (2 * k)) (names.below (2 * k) (omega arith)))
+      ∙ ap (labels (linked g (2 * e) e)) (sym t))) one

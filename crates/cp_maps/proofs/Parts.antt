@@ -12,7 +12,8 @@ use Rattle.cp_maps.proofs.FlatMaps.{linked-from}
 use Rattle.cp_maps.proofs.Twins.{twin_even}
 
 -- so it has one value on a dart and the one behind
-evenly_step : (f : ℕ → ℕ) (p : ℕ → Bool) (rows : List (List ℕ)) (d : ℕ) → Rings f rows → Evenly p rows → Has d (flat rows) → p d ≡ p (f d)
+evenly_step : (f : ℕ → ℕ) (p : ℕ → Bool) (rows : List (List ℕ)) (d : ℕ) → Rings f rows → Evenly p rows
+    → Has d (flat rows) → p d ≡ p (f d)
 evenly_step f p [] d rings even h = absurd h
 evenly_step f p (xs ∷ rows) d rings even h = ⊎_elim
     (λ k. even.0 d (f d) k (subst (λ y. Has y xs) (sym (rings.0.along d k)) (follow-Has d xs k)))
@@ -20,7 +21,11 @@ evenly_step f p (xs ∷ rows) d rings even h = ⊎_elim
     (Has-append_cases d xs (flat rows) h)
 
 -- a test that has one value on each list and on twins, and two at two darts: they are of two components
-pub Evenly-two_parts : (e : ℕ) (f : ℕ → ℕ) (rows : List (List ℕ)) (p : ℕ → Bool) (a b : ℕ) → IsMapOf (2 * e) f rows → Evenly p rows → ((d : ℕ) → d < 2 * e → p d ≡ p (twin d)) → p a ≢ p b → OnePart e f a b → ⊥
-Evenly-two_parts e f rows p a b is even twins differ one = differ (same_labels p (linked f (2 * e) e) a b (linked-from p f (2 * e) e
-    (Respects-graph p f (2 * e) (λ d lt. ⊎_elim (evenly_step f p rows d is.rings even) (λ l. ap p (sym (is.loose d lt l))) (has_cases d (flat rows))))
-    (λ k lt. let even_k : 2 * k % 2 ≡ 0 = omega arith in twins (2 * k) (omega arith) ∙ ap p (twin_even (2 * k) even_k))) one)
+pub Evenly-two_parts : (e : ℕ) (f : ℕ → ℕ) (rows : List (List ℕ)) (p : ℕ → Bool) (a b : ℕ) → IsMapOf (2 * e) f rows
+    → Evenly p rows → ((d : ℕ) → d < 2 * e → p d ≡ p (twin d)) → p a ≢ p b → OnePart e f a b → ⊥
+Evenly-two_parts e f rows p a b is even twins differ one =
+    differ (same_labels p (linked f (2 * e) e) a b (linked-from p f (2 * e) e
+    (Respects-graph p f (2 * e) (λ d lt. ⊎_elim (evenly_step f p rows d is.rings even)
+    (λ l. ap p (sym (is.loose d lt l))) (has_cases d (flat rows))))
+    (λ k lt. let even_k : 2 * k % 2 ≡ 0 = omega arith in
+    twins (2 * k) (omega arith) ∙ ap p (twin_even (2 * k) even_k))) one)

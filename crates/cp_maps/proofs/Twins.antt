@@ -30,24 +30,32 @@ twin-below n d even lt =
 
 -- twins are of one edge
 pub half_twin : (d : ℕ) → twin d / 2 ≡ d / 2
-half_twin d = ⊎_elim (λ e. ap (λ (y : ℕ). y / 2) (twin_even d e) ∙ omega arith) (λ ne. ap (λ (y : ℕ). y / 2) (twin_odd d ne) ∙ omega arith) (cases_eq (d % 2) 0)
+half_twin d =
+    ⊎_elim (λ e. ap (λ (y : ℕ). y / 2) (twin_even d e) ∙ omega arith)
+    (λ ne. ap (λ (y : ℕ). y / 2) (twin_odd d ne) ∙ omega arith) (cases_eq (d % 2) 0)
 
 -- two darts of one edge are one, or twins
 pub same_half : (d f : ℕ) → d / 2 ≡ f / 2 → (d ≡ f) ⊎ (f ≡ twin d)
 same_half d f e = ⊎_elim
-    (λ even. ⊎_elim (λ h. inl (omega arith)) (λ nh. inr (let odd : f ≡ d + 1 = omega arith in odd ∙ sym (twin_even d even))) (cases_eq (f % 2) 0))
-    (λ odd. ⊎_elim (λ h. inr (let even : f ≡ d - 1 = omega arith in even ∙ sym (twin_odd d odd))) (λ nh. inl (omega arith)) (cases_eq (f % 2) 0))
+    (λ even. ⊎_elim (λ h. inl (omega arith))
+    (λ nh. inr (let odd : f ≡ d + 1 = omega arith in odd ∙ sym (twin_even d even))) (cases_eq (f % 2) 0))
+    (λ odd. ⊎_elim (λ h. inr (let even : f ≡ d - 1 = omega arith in even ∙ sym (twin_odd d odd)))
+    (λ nh. inl (omega arith)) (cases_eq (f % 2) 0))
     (cases_eq (d % 2) 0)
 
 -- a dart is not its twin
 pub twin-other : (x : ℕ) → twin x ≢ x
-twin-other x e = ⊎_elim (λ h. let t : twin x ≡ x + 1 = twin_even x h in omega (arith, t, e)) (λ nh. let t : twin x ≡ x - 1 = twin_odd x nh in omega (arith, t, e)) (cases_eq (x % 2) 0)
+twin-other x e =
+    ⊎_elim (λ h. let t : twin x ≡ x + 1 = twin_even x h in
+    omega (arith, t, e)) (λ nh. let t : twin x ≡ x - 1 = twin_odd x nh in omega (arith, t, e)) (cases_eq (x % 2) 0)
 
 -- a dart farther on by whole edges
 pub twin-farther : (e d : ℕ) → twin (2 * e + d) ≡ 2 * e + twin d
 twin-farther e d = ⊎_elim
-    (λ h. let a : twin (2 * e + d) ≡ 2 * e + d + 1 = twin_even (2 * e + d) (omega arith) in let b : twin d ≡ d + 1 = twin_even d h in omega arith)
-    (λ nh. let a : twin (2 * e + d) ≡ 2 * e + d - 1 = twin_odd (2 * e + d) (λ z. omega arith) in let b : twin d ≡ d - 1 = twin_odd d nh in omega arith)
+    (λ h. let a : twin (2 * e + d) ≡ 2 * e + d + 1 = twin_even (2 * e + d) (omega arith) in
+    let b : twin d ≡ d + 1 = twin_even d h in omega arith)
+    (λ nh. let a : twin (2 * e + d) ≡ 2 * e + d - 1 = twin_odd (2 * e + d) (λ z. omega arith) in
+    let b : twin d ≡ d - 1 = twin_odd d nh in omega arith)
     (cases_eq (d % 2) 0)
 
 -- an item more
