@@ -1,18 +1,20 @@
 -- A loop cut open: what it encloses is of other components than the rest.
-use Rattle.std.proofs.Common.{ℕ, ◌<◌, List, [], ◌∷◌, ◌++◌, sym, refl, ◌∙◌, subst, inl, ⊎_elim, ◌*◌}
+use Rattle.std.proofs.Common.{◌≡◌, ℕ, ◌<◌, List, [], ◌∷◌, ◌++◌, append_assoc, sym, refl, ◌∙◌, subst, inl, inr, ⊎_elim, ◌*◌}
 use Rattle.std.proofs.lemmas.Bool.{cases_eq}
+use Rattle.cp_lists.specs.CyclicLists.{Distinct, Has}
+use Rattle.cp_lists.proofs.DistinctLists.{Has-append_cases, Has-append_left, Has-append_right}
 use Rattle.cp_orbits.specs.Classes.{graph, labels}
 use Rattle.cp_orbits.specs.Orbits.{Permutes}
 use Rattle.cp_faces.specs.Faces.{face_upto}
-use Rattle.cp_maps.specs.Genus.{Apart, IsFlat, OneFace, OnePart, SameGenus}
-use Rattle.cp_maps.specs.Maps.{IsMapOf, swapped}
+use Rattle.cp_maps.specs.Genus.{Apart, Becomes, CanBeFlat, IsFlat, OneFace, OnePart, SameGenus}
+use Rattle.cp_maps.specs.Maps.{IsMapOf, flat, next_by, swapped}
 use Rattle.cp_maps.specs.Twins.{twin}
 use Rattle.cp_maps.proofs.ContractedEdges.{trivial_loop-SameGenus}
 use Rattle.cp_maps.proofs.Edges.{twin-OnePart}
 use Rattle.cp_maps.proofs.EdgesBetween.{edge-RaisesGenus, edge_between-SameGenus, edge_between-one_face, edge_within-two_faces}
 use Rattle.cp_maps.proofs.Genus.{RaisesGenus-not_flat, SameGenus-IsFlat, SameGenus-sym, SameGenus-trans}
-use Rattle.cp_maps.proofs.ListFacts.{turn_parts}
-use Rattle.cp_maps.proofs.MapLists.{IsMapOf-Permutes, IsMapOf-split, IsMapOf-swap, IsMapOf-turn, IsMapOf-unbare, one_vertex}
+use Rattle.cp_maps.proofs.ListFacts.{Distinct-less, turn_parts}
+use Rattle.cp_maps.proofs.MapLists.{IsMapOf-Permutes, IsMapOf-some, IsMapOf-split, IsMapOf-swap, IsMapOf-turn, IsMapOf-unbare, one_vertex}
 use Rattle.cp_maps.proofs.MergedVertices.{merged-RaisesGenus, merged_within-SameGenus}
 use Rattle.cp_maps.proofs.Swaps.{vertex-OnePart}
 use Rattle.cp_maps.proofs.Twins.{twin-twin}
@@ -90,3 +92,35 @@ cut_loop-Apart e f g x (a ∷ xs) (b ∷ ys) rows is_f is_g z c d hc hd one =
     (vertex-OnePart e g perm a b lta ltb a c (one_vertex (2 * e) g (a ∷ xs) ((b ∷ ys) ∷ rows) is_g a c (inl refl) hc)
     ∙ one
     ∙ vertex-OnePart e g perm a b lta ltb d b (one_vertex (2 * e) g (b ∷ ys) ((a ∷ xs) ∷ rows) is_g' d b hd (inl refl)))
+
+-- there is a map with the lists of a loop cut open
+pub cut_loop-IsMapOf : (n : ℕ) (f : ℕ → ℕ) (x : ℕ) (xs ys : List ℕ) (rows : List (List ℕ))
+    → IsMapOf n f ((x ∷ (xs ++ twin x ∷ ys)) ∷ rows) → IsMapOf n (next_by (xs ∷ ys ∷ rows)) (xs ∷ ys ∷ rows)
+cut_loop-IsMapOf n f x xs ys rows is =
+    let regroup : (xs ++ twin x ∷ ys) ++ flat rows ≡ xs ++ (twin x ∷ (ys ++ flat rows)) =
+    append_assoc xs (twin x ∷ ys) (flat rows) in
+    IsMapOf-some n f ((x ∷ (xs ++ twin x ∷ ys)) ∷ rows) (xs ∷ ys ∷ rows) is
+    (Distinct-less xs (twin x) (ys ++ flat rows) (subst Distinct regroup is.once.1))
+    (λ d h. inr (subst (Has d) (sym regroup) (⊎_elim
+    (λ k. Has-append_left d xs (twin x ∷ (ys ++ flat rows)) k)
+    (λ k. Has-append_right d xs (twin x ∷ (ys ++ flat rows)) (inr k))
+    (Has-append_cases d xs (ys ++ flat rows) h))))
+
+-- a loop of a flat map can be cut open
+pub cut_loop-Becomes : (e : ℕ) (f : ℕ → ℕ) (x : ℕ) (xs ys : List ℕ) (rows : List (List ℕ))
+    → IsMapOf (2 * e) f ((x ∷ (xs ++ twin x ∷ ys)) ∷ rows) → IsFlat e f → Becomes e f (xs ∷ ys ∷ rows)
+cut_loop-Becomes e f x xs ys rows is z =
+    let g : ℕ → ℕ = next_by (xs ∷ ys ∷ rows) in
+    let is_g : IsMapOf (2 * e) g (xs ∷ ys ∷ rows) = cut_loop-IsMapOf (2 * e) f x xs ys rows is in (
+      g,
+      is_g,
+      SameGenus-sym e g f
+          (cut_loop-SameGenus e f g x xs ys rows is is_g (cut_loop-Apart e f g x xs ys rows is is_g z)),
+    )
+
+-- and is flat then
+pub cut_loop-CanBeFlat : (e : ℕ) (f : ℕ → ℕ) (x : ℕ) (xs ys : List ℕ) (rows : List (List ℕ))
+    → IsMapOf (2 * e) f ((x ∷ (xs ++ twin x ∷ ys)) ∷ rows) → IsFlat e f → CanBeFlat e (xs ∷ ys ∷ rows)
+cut_loop-CanBeFlat e f x xs ys rows is z =
+    let cut : Becomes e f (xs ∷ ys ∷ rows) = cut_loop-Becomes e f x xs ys rows is z in
+    (cut.0, cut.1, SameGenus-IsFlat e f cut.0 cut.2 z)

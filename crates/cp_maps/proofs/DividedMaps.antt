@@ -18,8 +18,8 @@ use Rattle.cp_maps.proofs.Twins.{twin-farther}
 
 module _ (e : ℕ) (f one two : ℕ → ℕ) (rows others : List (List ℕ)) (p : ℕ → Bool)
     (is : IsMapOf (2 * e) f (rows ++ others)) (is_one : IsMapOf (2 * e) one rows)
-    (is_two : IsMapOf (2 * e) two others) (twins : (d : ℕ) → p (twin d) ≡ p d) (first : (d : ℕ) → Has d (flat rows)
-    → p d ≡ true) (second : (d : ℕ) → Has d (flat others) → p d ≡ false) where
+    (is_two : IsMapOf (2 * e) two others) (twins : (d : ℕ) → p (twin d) ≡ p d)
+    (first : (d : ℕ) → Has d (flat rows) → p d ≡ true) (second : (d : ℕ) → Has d (flat others) → p d ≡ false) where
   -- a dart of the first part has the same dart behind it there
   in_one : (d : ℕ) → d < 2 * e → p d ≡ true → one d ≡ f d
   in_one d lt t = ⊎_elim

@@ -12,8 +12,8 @@ use Rattle.cp_faces.proofs.Renaming.{partner-within}
 use Rattle.cp_maps.specs.Genus.{IsFlat, linked, parts, rounds}
 use Rattle.cp_maps.proofs.FlatMaps.{linked-edges, linked-from, linked-graph}
 
-module _ (e k : ℕ) (f g h : ℕ → ℕ) (perm_f : Permutes (2 * e) f) (perm_g : Permutes (2 * k) g) (low : (d : ℕ)
-    → d < 2 * e → h d ≡ f d) (high : (d : ℕ) → d < 2 * k → h (2 * e + d) ≡ 2 * e + g d) where
+module _ (e k : ℕ) (f g h : ℕ → ℕ) (perm_f : Permutes (2 * e) f) (perm_g : Permutes (2 * k) g)
+    (low : (d : ℕ) → d < 2 * e → h d ≡ f d) (high : (d : ℕ) → d < 2 * k → h (2 * e + d) ≡ 2 * e + g d) where
   -- all darts
   whole : 2 * (e + k) ≡ 2 * e + 2 * k
   whole = omega arith

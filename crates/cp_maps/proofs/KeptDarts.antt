@@ -9,7 +9,7 @@ use Rattle.cp_orbits.specs.Orbits.{Permutes, exchange, splice}
 use Rattle.cp_orbits.proofs.Exchanges.{splice_at, splice_other}
 use Rattle.cp_orbits.proofs.OrbitLaws.{exchange_left, exchange_other, exchange_right, label_step}
 use Rattle.cp_faces.proofs.ListRotations.{follow-splice}
-use Rattle.cp_maps.specs.Genus.{IsFlat}
+use Rattle.cp_maps.specs.Genus.{CanBeFlat, IsFlat}
 use Rattle.cp_maps.specs.Maps.{Below, IsMapOf, Rings, flat, swapped}
 use Rattle.cp_maps.proofs.FlatMaps.{IsFlat-agree}
 use Rattle.cp_maps.proofs.ListFacts.{Below-from, below_item, filter_twice}
@@ -117,8 +117,8 @@ rows_same n p (xs ∷ rows) below same =
     (λ d h. below_item n d (xs ++ flat rows) below (Has-append_right d xs (flat rows) h))) same)
 
 -- the darts that the test keeps, in a map of e edges
-module _ (e : ℕ) (f : ℕ → ℕ) (rows : List (List ℕ)) (is : IsMapOf (2 * e) f rows) (flat_f : IsFlat e f) (keep : ℕ
-    → Bool) where
+module _ (e : ℕ) (f : ℕ → ℕ) (rows : List (List ℕ)) (is : IsMapOf (2 * e) f rows) (flat_f : IsFlat e f)
+    (keep : ℕ → Bool) where
   -- kept, or not below k
   abbrev pass : ℕ → ℕ → Bool
   pass k x = keep x || not (ltb x k)
@@ -175,13 +175,20 @@ module _ (e : ℕ) (f : ℕ → ℕ) (rows : List (List ℕ)) (is : IsMapOf (2 *
       ))
       (cases_Bool (keep k))
 
+  -- the lists of the darts that are kept have a flat map
+  pub kept_darts-CanBeFlat : CanBeFlat e (map (filter keep) rows)
+  kept_darts-CanBeFlat =
+      let h : (h : ℕ → ℕ) × IsMapOf (2 * e) h (map (filter (pass (2 * e))) rows) × IsFlat e h =
+      kept_upto (2 * e) (omega arith) in (
+        h.0,
+        subst (IsMapOf (2 * e) h.0) (rows_alike (2 * e) (filter (pass (2 * e))) (filter keep) rows is.below
+            (λ xs b. filter_agree (pass (2 * e)) keep xs (λ d hd. pass_below (2 * e) d (b d hd)))) h.1,
+        h.2,
+      )
+
   -- what is flat stays flat where only some darts are kept
   pub kept_darts-IsFlat : (g : ℕ → ℕ) → IsMapOf (2 * e) g (map (filter keep) rows) → IsFlat e g
   kept_darts-IsFlat g is_g =
-      let h : (h : ℕ → ℕ) × IsMapOf (2 * e) h (map (filter (pass (2 * e))) rows) × IsFlat e h =
-      kept_upto (2 * e) (omega arith) in
-      let is_h : IsMapOf (2 * e) h.0 (map (filter keep) rows) =
-      subst (IsMapOf (2 * e) h.0) (rows_alike (2 * e) (filter (pass (2 * e))) (filter keep) rows is.below
-      (λ xs b. filter_agree (pass (2 * e)) keep xs (λ d hd. pass_below (2 * e) d (b d hd)))) h.1 in
-      IsFlat-agree e h.0 g (IsMapOf-Permutes (2 * e) h.0 (map (filter keep) rows) is_h)
-      (IsMapOf-unique (2 * e) h.0 (map (filter keep) rows) is_h g is_g) h.2
+      let h : CanBeFlat e (map (filter keep) rows) = kept_darts-CanBeFlat in
+      IsFlat-agree e h.0 g (IsMapOf-Permutes (2 * e) h.0 (map (filter keep) rows) h.1)
+      (IsMapOf-unique (2 * e) h.0 (map (filter keep) rows) h.1 g is_g) h.2

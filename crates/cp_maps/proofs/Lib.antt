@@ -22,6 +22,7 @@ pub mod Names
 pub mod Dipoles
 pub mod KeptDarts
 pub mod PlantedTrees
+pub mod Subsystems
 pub mod DividedMaps
 pub mod FewerDarts
 pub mod CrossedVertices

@@ -2,7 +2,7 @@
 use Rattle.std.proofs.Common.{◌≡◌, ℕ, List, [], ◌∷◌, ◌++◌, append_assoc, sym, ap, ◌∙◌, subst, inl, inr, ⊎_elim, ◌*◌}
 use Rattle.std.proofs.lemmas.List.{append-nil}
 use Rattle.cp_lists.proofs.DistinctLists.{Has-append_cases, Has-append_left, Has-append_right}
-use Rattle.cp_maps.specs.Genus.{SameGenus}
+use Rattle.cp_maps.specs.Genus.{Becomes, SameGenus}
 use Rattle.cp_maps.specs.Maps.{IsMapOf, flat, next_by}
 use Rattle.cp_maps.specs.Twins.{mirror, twin}
 use Rattle.cp_maps.proofs.ContractedEdges.{contracted_edge-IsMapOf, contracted_edge-SameGenus, trivial_loop-SameGenus}
@@ -75,3 +75,12 @@ parallel_edges-SameGenus e f g x (y ∷ zs) xs ys rows is_f is_g =
     SameGenus-trans e f (next_by less) g
     (parallel_edge-SameGenus e f (next_by less) x y (zs ++ xs) (ys ++ mirror zs) rows turned is_h)
     (parallel_edges-SameGenus e (next_by less) g x zs xs ys rows is_h is_g)
+
+-- a second edge beside an edge can be taken out
+pub parallel_edge-Becomes : (e : ℕ) (f : ℕ → ℕ) (x y : ℕ) (xs ys : List ℕ) (rows : List (List ℕ))
+    → IsMapOf (2 * e) f ((x ∷ y ∷ xs) ∷ (twin y ∷ twin x ∷ ys) ∷ rows) → Becomes e f ((x ∷ xs) ∷ (twin x ∷ ys) ∷ rows)
+parallel_edge-Becomes e f x y xs ys rows is =
+    let g : ℕ → ℕ = next_by ((x ∷ xs) ∷ (twin x ∷ ys) ∷ rows) in
+    let is_g : IsMapOf (2 * e) g ((x ∷ xs) ∷ (twin x ∷ ys) ∷ rows) =
+    parallel_edge-IsMapOf (2 * e) f x y xs ys rows is in
+    (g, is_g, parallel_edge-SameGenus e f g x y xs ys rows is is_g)

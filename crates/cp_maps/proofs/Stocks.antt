@@ -184,8 +184,8 @@ module _ (e : ℕ) (f : ℕ → ℕ) (perm : Permutes (2 * suc e) f) (first : f 
 
 -- other names for the darts of a map
 module _ (e : ℕ) (f g : ℕ → ℕ) (perm_f : Permutes (2 * e) f) (perm_g : Permutes (2 * e) g) (k undo : ℕ → ℕ)
-    (ren : Renumbers (2 * e) k undo) (pairs : (d : ℕ) → d < 2 * e → partner e (k d) ≡ k (partner e d)) (same : (d : ℕ)
-    → d < 2 * e → g (k d) ≡ k (f d)) where
+    (ren : Renumbers (2 * e) k undo) (pairs : (d : ℕ) → d < 2 * e → partner e (k d) ≡ k (partner e d))
+    (same : (d : ℕ) → d < 2 * e → g (k d) ≡ k (f d)) where
   -- back from the new names
   undone : (y : ℕ) → y < 2 * e → undo (g y) ≡ f (undo y)
   undone y lt = ap (λ (z : ℕ). undo (g z)) (sym (ren.back_there y lt)) ∙ ap undo (same (undo y) (ren.back y lt))
