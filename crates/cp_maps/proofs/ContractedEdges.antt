@@ -111,6 +111,18 @@ contracted_edge-Becomes e f x xs ys rows is =
     contracted_edge-IsMapOf (2 * e) f x xs ys rows is in
     (next_by ((xs ++ ys) ∷ rows), one, contracted_edge-SameGenus e f (next_by ((xs ++ ys) ∷ rows)) x xs ys rows is one)
 
+-- an edge whose darts stand side by side can be taken out
+pub trivial_loop-Becomes : (e : ℕ) (f : ℕ → ℕ) (x : ℕ) (xs : List ℕ) (rows : List (List ℕ))
+    → IsMapOf (2 * e) f ((x ∷ twin x ∷ xs) ∷ rows) → Becomes e f (xs ∷ rows)
+trivial_loop-Becomes e f x xs rows is =
+    let one : IsMapOf (2 * e) (next_by (xs ∷ rows)) (xs ∷ rows) =
+    IsMapOf-some (2 * e) f ((x ∷ twin x ∷ xs) ∷ rows) (xs ∷ rows) is is.once.1.1 (λ d h. inr (inr h)) in (
+      next_by (xs ∷ rows),
+      one,
+      SameGenus-sym e (next_by (xs ∷ rows)) f
+          (trivial_loop-SameGenus e (next_by (xs ∷ rows)) f x xs rows one is),
+    )
+
 -- a vertex expanded: with a loose edge there is a map
 pub expanded_vertex-Becomes : (e : ℕ) (f : ℕ → ℕ) (x : ℕ) (xs ys : List ℕ) (rows : List (List ℕ))
     → IsMapOf (2 * e) f ((xs ++ ys) ∷ rows) → x < 2 * e → Lacks x (flat ((xs ++ ys) ∷ rows))

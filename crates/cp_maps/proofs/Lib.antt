@@ -24,6 +24,7 @@ pub mod KeptDarts
 pub mod PlantedTrees
 pub mod Subsystems
 pub mod DividedMaps
+pub mod Copies
 pub mod FewerDarts
 pub mod CrossedVertices
 pub mod GluedVertices

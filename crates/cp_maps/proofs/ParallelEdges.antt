@@ -1,5 +1,5 @@
 -- Edges side by side are as one.
-use Rattle.std.proofs.Common.{◌≡◌, ℕ, List, [], ◌∷◌, ◌++◌, append_assoc, sym, ap, ◌∙◌, subst, inl, inr, ⊎_elim, ◌*◌}
+use Rattle.std.proofs.Common.{◌≡◌, ℕ, List, [], ◌∷◌, ◌++◌, append_assoc, sym, refl, ap, ◌∙◌, subst, inl, inr, ⊎_elim, ◌*◌}
 use Rattle.std.proofs.lemmas.List.{append-nil}
 use Rattle.cp_lists.proofs.DistinctLists.{Has-append_cases, Has-append_left, Has-append_right}
 use Rattle.cp_maps.specs.Genus.{Becomes, SameGenus}
@@ -53,29 +53,6 @@ parallel_edge-IsMapOf n f x y xs ys rows is =
     (λ k. Has-append_right d (x ∷ y ∷ xs) (flat ((twin y ∷ twin x ∷ ys) ∷ rows)) (inr k))
     (Has-append_cases d (x ∷ xs) (flat ((twin x ∷ ys) ∷ rows)) h))
 
--- edges side by side are as one
-pub parallel_edges-SameGenus : (e : ℕ) (f g : ℕ → ℕ) (x : ℕ) (zs xs ys : List ℕ) (rows : List (List ℕ))
-    → IsMapOf (2 * e) f ((x ∷ (zs ++ xs)) ∷ (twin x ∷ (ys ++ mirror zs)) ∷ rows)
-    → IsMapOf (2 * e) g ((x ∷ xs) ∷ (twin x ∷ ys) ∷ rows) → SameGenus e f g
-parallel_edges-SameGenus e f g x [] xs ys rows is_f is_g =
-    same_lists-SameGenus e f g ((x ∷ xs) ∷ (twin x ∷ ys) ∷ rows)
-    (subst (λ us. IsMapOf (2 * e) f ((x ∷ xs) ∷ (twin x ∷ us) ∷ rows)) (append-nil ys) is_f) is_g
-parallel_edges-SameGenus e f g x (y ∷ zs) xs ys rows is_f is_g =
-    let regroup : ys ++ mirror (y ∷ zs) ≡ (ys ++ mirror zs) ++ twin y ∷ [] = ap (λ us. ys ++ us) (mirror-cons y zs)
-    ∙ sym (append_assoc ys (mirror zs) (twin y ∷ [])) in
-    let turned : IsMapOf (2 * e) f ((x ∷ y ∷ (zs ++ xs)) ∷ (twin y ∷ twin x ∷ (ys ++ mirror zs)) ∷ rows) =
-    IsMapOf-swap (2 * e) f (twin y ∷ twin x ∷ (ys ++ mirror zs)) (x ∷ y ∷ (zs ++ xs)) rows
-    (IsMapOf-turn (2 * e) f (twin x ∷ ((ys ++ mirror zs) ++ twin y ∷ [])) (twin y ∷ twin x ∷ (ys ++ mirror zs))
-    ((x ∷ y ∷ (zs ++ xs)) ∷ rows) (turn_parts (twin x ∷ (ys ++ mirror zs)) (twin y ∷ []))
-    (IsMapOf-swap (2 * e) f (x ∷ y ∷ (zs ++ xs)) (twin x ∷ ((ys ++ mirror zs) ++ twin y ∷ [])) rows
-    (subst (λ us. IsMapOf (2 * e) f ((x ∷ y ∷ (zs ++ xs)) ∷ (twin x ∷ us) ∷ rows)) regroup is_f))) in
-    let less : List (List ℕ) = (x ∷ (zs ++ xs)) ∷ (twin x ∷ (ys ++ mirror zs)) ∷ rows in
-    let is_h : IsMapOf (2 * e) (next_by less) less =
-    parallel_edge-IsMapOf (2 * e) f x y (zs ++ xs) (ys ++ mirror zs) rows turned in
-    SameGenus-trans e f (next_by less) g
-    (parallel_edge-SameGenus e f (next_by less) x y (zs ++ xs) (ys ++ mirror zs) rows turned is_h)
-    (parallel_edges-SameGenus e (next_by less) g x zs xs ys rows is_h is_g)
-
 -- a second edge beside an edge can be taken out
 pub parallel_edge-Becomes : (e : ℕ) (f : ℕ → ℕ) (x y : ℕ) (xs ys : List ℕ) (rows : List (List ℕ))
     → IsMapOf (2 * e) f ((x ∷ y ∷ xs) ∷ (twin y ∷ twin x ∷ ys) ∷ rows) → Becomes e f ((x ∷ xs) ∷ (twin x ∷ ys) ∷ rows)
@@ -84,3 +61,32 @@ parallel_edge-Becomes e f x y xs ys rows is =
     let is_g : IsMapOf (2 * e) g ((x ∷ xs) ∷ (twin x ∷ ys) ∷ rows) =
     parallel_edge-IsMapOf (2 * e) f x y xs ys rows is in
     (g, is_g, parallel_edge-SameGenus e f g x y xs ys rows is is_g)
+
+-- edges side by side can be taken out but for one
+pub parallel_edges-Becomes : (e : ℕ) (f : ℕ → ℕ) (x : ℕ) (zs xs ys : List ℕ) (rows : List (List ℕ))
+    → IsMapOf (2 * e) f ((x ∷ (zs ++ xs)) ∷ (twin x ∷ (ys ++ mirror zs)) ∷ rows)
+    → Becomes e f ((x ∷ xs) ∷ (twin x ∷ ys) ∷ rows)
+parallel_edges-Becomes e f x [] xs ys rows is_f =
+    (f, subst (λ us. IsMapOf (2 * e) f ((x ∷ xs) ∷ (twin x ∷ us) ∷ rows)) (append-nil ys) is_f, refl)
+parallel_edges-Becomes e f x (y ∷ zs) xs ys rows is_f =
+    let regroup : ys ++ mirror (y ∷ zs) ≡ (ys ++ mirror zs) ++ twin y ∷ [] = ap (λ us. ys ++ us) (mirror-cons y zs)
+    ∙ sym (append_assoc ys (mirror zs) (twin y ∷ [])) in
+    let turned : IsMapOf (2 * e) f ((x ∷ y ∷ (zs ++ xs)) ∷ (twin y ∷ twin x ∷ (ys ++ mirror zs)) ∷ rows) =
+    IsMapOf-swap (2 * e) f (twin y ∷ twin x ∷ (ys ++ mirror zs)) (x ∷ y ∷ (zs ++ xs)) rows
+    (IsMapOf-turn (2 * e) f (twin x ∷ ((ys ++ mirror zs) ++ twin y ∷ [])) (twin y ∷ twin x ∷ (ys ++ mirror zs))
+    ((x ∷ y ∷ (zs ++ xs)) ∷ rows) (turn_parts (twin x ∷ (ys ++ mirror zs)) (twin y ∷ []))
+    (IsMapOf-swap (2 * e) f (x ∷ y ∷ (zs ++ xs)) (twin x ∷ ((ys ++ mirror zs) ++ twin y ∷ [])) rows
+    (subst (λ us. IsMapOf (2 * e) f ((x ∷ y ∷ (zs ++ xs)) ∷ (twin x ∷ us) ∷ rows)) regroup is_f))) in
+    let one : Becomes e f ((x ∷ (zs ++ xs)) ∷ (twin x ∷ (ys ++ mirror zs)) ∷ rows) =
+    parallel_edge-Becomes e f x y (zs ++ xs) (ys ++ mirror zs) rows turned in
+    let rest : Becomes e one.0 ((x ∷ xs) ∷ (twin x ∷ ys) ∷ rows) =
+    parallel_edges-Becomes e one.0 x zs xs ys rows one.1 in
+    (rest.0, rest.1, SameGenus-trans e f one.0 rest.0 one.2 rest.2)
+
+-- edges side by side are as one
+pub parallel_edges-SameGenus : (e : ℕ) (f g : ℕ → ℕ) (x : ℕ) (zs xs ys : List ℕ) (rows : List (List ℕ))
+    → IsMapOf (2 * e) f ((x ∷ (zs ++ xs)) ∷ (twin x ∷ (ys ++ mirror zs)) ∷ rows)
+    → IsMapOf (2 * e) g ((x ∷ xs) ∷ (twin x ∷ ys) ∷ rows) → SameGenus e f g
+parallel_edges-SameGenus e f g x zs xs ys rows is_f is_g =
+    let h : Becomes e f ((x ∷ xs) ∷ (twin x ∷ ys) ∷ rows) = parallel_edges-Becomes e f x zs xs ys rows is_f in
+    SameGenus-trans e f h.0 g h.2 (same_lists-SameGenus e h.0 g ((x ∷ xs) ∷ (twin x ∷ ys) ∷ rows) h.1 is_g)

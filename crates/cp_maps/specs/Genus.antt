@@ -1,6 +1,6 @@
 -- The genus of a map of e edges: its vertices are the orbits of the map, its faces those of the step along an edge
 -- and on, and it is flat where these and twice the components add up as in the plane (Euler 1758).
-use Rattle.std.specs.Prelude.{◌≡◌, ℕ, List, [], ◌∷◌, suc, ◌+◌, ◌*◌, ◌≤◌, Bool, zero}
+use Rattle.std.specs.Prelude.{◌≡◌, ℕ, eqb, List, [], ◌∷◌, suc, ◌+◌, ◌*◌, ◌≤◌, Bool, zero}
 use Rattle.cp_lists.specs.CyclicLists.{Has}
 use Rattle.cp_orbits.specs.Classes.{classes, graph, labels, orbits}
 use Rattle.cp_faces.specs.Faces.{face_upto}
@@ -46,6 +46,10 @@ OneFace e f a b = labels (graph (face_upto f e) (2 * e)) a ≡ labels (graph (fa
 -- two darts are of one component
 abbrev pub OnePart : ℕ → (ℕ → ℕ) → ℕ → ℕ → Type 0
 OnePart e f a b = labels (linked f (2 * e) e) a ≡ labels (linked f (2 * e) e) b
+
+-- the dart is of the component with this label
+abbrev pub in_part : ℕ → (ℕ → ℕ) → ℕ → ℕ → Bool
+in_part e f c d = eqb (labels (linked f (2 * e) e) d) c
 
 -- no dart of the first list is of the component of one of the second
 abbrev pub Apart : ℕ → (ℕ → ℕ) → List ℕ → List ℕ → Type 0

@@ -1,7 +1,10 @@
 -- Lists put together: pairs of darts, copies of one vertex, and lists that grow from one.
 use Rattle.std.specs.Prelude.{◌≡◌, ℕ, List, [], ◌∷◌, ◌++◌}
+use Rattle.std.specs.List.{filter}
 use Rattle.cp_lists.specs.CyclicLists.{Has, Lacks}
 use Rattle.cp_lists.specs.Turns.{IsTurn}
+use Rattle.cp_maps.specs.Genus.{AllApart}
+use Rattle.cp_maps.specs.Maps.{flat, has}
 use Rattle.cp_maps.specs.Twins.{twin}
 
 -- the first darts of pairs, and behind them the second ones, the last first
@@ -28,3 +31,23 @@ pub record HoldsLeaving (zs all : List ℕ) : Type 0 where
 abbrev pub IsAssembled : List ℕ → List (List ℕ) → Type 0
 IsAssembled row [] = row ≡ []
 IsAssembled row (xs ∷ copies) = (rest : List ℕ) × IsTurn (xs ++ rest) row × IsAssembled rest copies
+
+-- each list is, up to a turn, what it has of xs
+abbrev pub EachTurnOf : List ℕ → List (List ℕ) → Type 0
+EachTurnOf xs [] = Unit {0}
+EachTurnOf xs (ys ∷ copies) = IsTurn (filter (λ d. has d ys) xs) ys × EachTurnOf xs copies
+
+-- the lists are copies of one list: each is, up to a turn, what it has of it, and together they have all of it
+pub record AreCopiesOf (xs : List ℕ) (copies : List (List ℕ)) : Type 0 where
+  pub turned : EachTurnOf xs copies
+  pub all : (d : ℕ) → Has d xs → Has d (flat copies)
+
+-- lists that are divided into copies, those of one list all in different components of the map
+abbrev pub AreDivided : ℕ → (ℕ → ℕ) → List (List ℕ × List (List ℕ)) → Type 0
+AreDivided e g [] = Unit {0}
+AreDivided e g (x ∷ xs) = (AreCopiesOf x.0 x.1 × AllApart e g x.1) × AreDivided e g xs
+
+-- the copies of all lists
+abbrev pub all_copies : List (List ℕ × List (List ℕ)) → List (List ℕ)
+all_copies [] = []
+all_copies (x ∷ xs) = x.1 ++ all_copies xs

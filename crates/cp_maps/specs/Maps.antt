@@ -45,6 +45,10 @@ abbrev pub next_by : List (List ℕ) → ℕ → ℕ
 next_by [] d = d
 next_by (xs ∷ rows) d = cond (has d xs) (follow xs d) (next_by rows d)
 
+-- f at the darts that pass the test, and all others loose
+abbrev pub only : (ℕ → Bool) → (ℕ → ℕ) → ℕ → ℕ
+only p f d = cond (p d) (f d) d
+
 -- each map with the first lists has the second ones, too: they are the same up to turns, order and bare vertices
 abbrev pub SameRings : ℕ → List (List ℕ) → List (List ℕ) → Type 0
 SameRings n rows others = (f : ℕ → ℕ) → IsMapOf n f rows → IsMapOf n f others
