@@ -1,14 +1,11 @@
 -- Copies of a vertex in different components made one, where their lists do not cross.
-use Rattle.std.proofs.Common.{◌≡◌, ℕ, ◌<◌, false, eqb, List, [], ◌∷◌, ◌++◌, sym, refl, ap, ◌∙◌, subst, ⊎_elim, ◌*◌, Bool}
+use Rattle.std.proofs.Common.{◌≡◌, ℕ, false, eqb, List, [], ◌∷◌, ◌++◌, sym, refl, ap, ◌∙◌, subst, ⊎_elim, ◌*◌, Bool}
 use Rattle.std.proofs.lemmas.Bool.{eq-eqb, ne_eqb, false≢true}
 use Rattle.cp_lists.specs.CyclicLists.{Has}
 use Rattle.cp_lists.proofs.DistinctLists.{Has-append_cases, Has-append_left, Has-append_right}
-use Rattle.cp_lists.proofs.FollowedLists.{iterate_in_list}
 use Rattle.cp_lists.proofs.TurnedLists.{Has-of_turn}
 use Rattle.cp_orbits.specs.Classes.{labels}
 use Rattle.cp_orbits.specs.Orbits.{Permutes}
-use Rattle.cp_orbits.proofs.OrbitLaws.{labels_reached}
-use Rattle.cp_faces.proofs.ListRotations.{follow-reaches}
 use Rattle.cp_maps.specs.Genus.{AllApart, Becomes, Evenly, linked}
 use Rattle.cp_maps.specs.Gluings.{IsAssembled}
 use Rattle.cp_maps.specs.Maps.{Below, IsMapOf, Rings, flat}
@@ -17,9 +14,8 @@ use Rattle.cp_maps.proofs.Genus.{SameGenus-trans}
 use Rattle.cp_maps.proofs.GluedVertices.{concatenated-Becomes}
 use Rattle.cp_maps.proofs.ListFacts.{Below-from, below_item, flat-append}
 use Rattle.cp_maps.proofs.MapLists.{IsMapOf-Permutes, IsMapOf-among, IsMapOf-bare, IsMapOf-swap, IsMapOf-turn}
-use Rattle.cp_maps.proofs.Parts.{Evenly-two_parts}
+use Rattle.cp_maps.proofs.Parts.{Evenly-two_parts, Ring-OnePart}
 use Rattle.cp_maps.proofs.Rings.{Rings-append_right}
-use Rattle.cp_maps.proofs.Swaps.{vertex-OnePart}
 
 -- its items are theirs
 assembled_item : (row : List ℕ) (copies : List (List ℕ)) (d : ℕ) → IsAssembled row copies → Has d row
@@ -41,11 +37,9 @@ module _ (e : ℕ) (f : ℕ → ℕ) (perm : Permutes (2 * e) f) (c : ℕ) where
   rings_even [] rings below = tt
   rings_even (xs ∷ rows) rings below = (
     λ a b ha hb.
-        let r = follow-reaches xs a b rings.0.distinct ha hb in
-        let lt : a < 2 * e = below_item (2 * e) a (xs ++ flat rows) below (Has-append_left a xs (flat rows) ha) in
         ap (λ y. eqb y (labels (linked f (2 * e) e) c))
-        (vertex-OnePart e f perm a a lt lt a b
-        (labels_reached (2 * e) f perm a b lt (r.0, iterate_in_list xs f rings.0.along r.0 a ha ∙ r.1))),
+        (Ring-OnePart e f perm xs rings.0
+        (λ d h. below_item (2 * e) d (xs ++ flat rows) below (Has-append_left d xs (flat rows) h)) a b ha hb),
     rings_even rows rings.1 (Below-from (2 * e) (flat rows)
         (λ d h. below_item (2 * e) d (xs ++ flat rows) below (Has-append_right d xs (flat rows) h))),
   )

@@ -19,6 +19,7 @@ pub mod ParallelEdges
 pub mod Borders
 pub mod Stocks
 pub mod Names
+pub mod CarriedFaces
 pub mod Dipoles
 pub mod KeptDarts
 pub mod PlantedTrees

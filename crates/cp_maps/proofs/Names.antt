@@ -1,27 +1,21 @@
 -- A map of m edges in a larger stock of e edges, under other names: its genus stays.
-use Rattle.std.proofs.Common.{◌≡◌, ℕ, ◌<◌, ◌≢◌, true, List, [], ◌∷◌, ◌++◌, sym, refl, ap, ◌∙◌, subst, ⊎_elim, suc, ◌+◌, ◌*◌, ◌≤◌, Bool, arith, zero, not, ltb, map, ◌-◌, ◌/◌, ◌%◌, ◌↔◌, cond}
+use Rattle.std.proofs.Common.{◌≡◌, ℕ, ◌<◌, ◌≢◌, true, List, [], ◌∷◌, ◌++◌, sym, refl, ap, ◌∙◌, subst, ⊎_elim, suc, ◌+◌, ◌*◌, ◌≤◌, Bool, arith, zero, not, ltb, map, ◌-◌, ◌/◌, ◌%◌, cond}
 use Rattle.std.proofs.lemmas.Bool.{cases_eq, false≢true, cond-true, cond-false, cases_lt, cases_Bool, lt-ltb, le-ltb, not-true}
 use Rattle.std.proofs.lemmas.List.{map-append}
-use Rattle.std.specs.Fn.{iterate}
 use Rattle.cp_lists.specs.Count.{count}
 use Rattle.cp_lists.specs.CyclicLists.{Has, Lacks}
 use Rattle.cp_lists.proofs.Counting.{count_all, count_both, count_inject, count_some}
 use Rattle.cp_lists.proofs.DistinctLists.{Has-append_cases, Has-append_left, Has-append_right, Lacks-from, has_cases, has_lacks}
 use Rattle.cp_lists.proofs.MappedLists.{Has-map_on, follow-map_on, map_on-Has}
-use Rattle.cp_orbits.specs.Classes.{graph, labels}
-use Rattle.cp_orbits.specs.Orbits.{Permutes, Reaches, Renumbers}
-use Rattle.cp_orbits.proofs.ClassLabels.{labels-respects, same_labels}
-use Rattle.cp_orbits.proofs.OrbitLaws.{Permutes-agree, Permutes-onto, Respects-graph, graph-respects, iterate-below, labels_reached, reached_labels}
-use Rattle.cp_faces.specs.Faces.{face_upto, partner, stands}
-use Rattle.cp_faces.proofs.Faces.{face_upto-Permutes, stands_at, stands_some}
-use Rattle.cp_faces.proofs.Merges.{face_upto-partner, partner-twin}
-use Rattle.cp_faces.proofs.Renaming.{partner-within}
-use Rattle.cp_maps.specs.Genus.{OneFace, OneGenus, OnePart, SameGenus, linked}
+use Rattle.cp_orbits.specs.Orbits.{Permutes, Renumbers}
+use Rattle.cp_orbits.proofs.OrbitLaws.{Permutes-agree, Permutes-onto}
+use Rattle.cp_faces.specs.Faces.{stands}
+use Rattle.cp_faces.proofs.Faces.{stands_at, stands_some}
+use Rattle.cp_faces.proofs.Merges.{partner-twin}
+use Rattle.cp_maps.specs.Genus.{OneGenus, SameGenus}
 use Rattle.cp_maps.specs.Maps.{IsMapOf, Rings, flat}
 use Rattle.cp_maps.specs.Names.{Carries, Names}
 use Rattle.cp_maps.specs.Twins.{twin}
-use Rattle.cp_maps.proofs.Edges.{twin-OnePart}
-use Rattle.cp_maps.proofs.FlatMaps.{linked-from, linked-graph}
 use Rattle.cp_maps.proofs.FlatRotations.{choose}
 use Rattle.cp_maps.proofs.Genus.{OneGenus-trans, SameGenus-agree}
 use Rattle.cp_maps.proofs.ListFacts.{below_item}
@@ -250,55 +244,3 @@ larger_stock-OneGenus m e f g rows le is_f is_g =
           λ y lt none. is_g.loose y lt (Lacks-from y (flat rows)
           (λ h. none y (below_item (2 * m) y (flat rows) is_f.below h) refl));
     })
-
--- a map under names
-module _ (m e : ℕ) (j f g : ℕ → ℕ) (perm_f : Permutes (2 * m) f) (perm_g : Permutes (2 * e) g) (names : Names m e j)
-    (carries : Carries m e j f g) where
-  -- the step round the faces under the names
-  face_named : (d : ℕ) → d < 2 * m → face_upto g e (j d) ≡ j (face_upto f m d)
-  face_named d lt =
-      face_upto-partner e g (j d) ∙ ap g
-      (partner-twin e (j d) (names.below d lt) ∙ sym (names.twins d lt) ∙ ap j (sym (partner-twin m d lt)))
-      ∙ carries.same (partner m d) (partner-within m d lt) ∙ ap j (sym (face_upto-partner m f d))
-
-  -- and its repeats
-  faces_named : (k d : ℕ) → d < 2 * m → iterate (face_upto g e) k (j d) ≡ j (iterate (face_upto f m) k d)
-  faces_named zero d lt = refl
-  faces_named (suc k) d lt = ap (iterate (face_upto g e) k) (face_named d lt)
-      ∙ faces_named k (face_upto f m d) ((face_upto-Permutes (2 * m) m f perm_f (omega arith)).below d lt)
-
-  -- two darts are in one face as their names are
-  pub Carries-OneFace : (c d : ℕ) → c < 2 * m → d < 2 * m → OneFace m f c d ↔ OneFace e g (j c) (j d)
-  Carries-OneFace c d ltc ltd =
-      let perm_one : Permutes (2 * m) (face_upto f m) = face_upto-Permutes (2 * m) m f perm_f (omega arith) in
-      let perm_two : Permutes (2 * e) (face_upto g e) = face_upto-Permutes (2 * e) e g perm_g (omega arith) in (
-        λ one. same_labels (λ z. labels (graph (face_upto g e) (2 * e)) (j z)) (graph (face_upto f m) (2 * m)) c d
-            (Respects-graph (λ z. labels (graph (face_upto g e) (2 * e)) (j z)) (face_upto f m) (2 * m) (λ z lt.
-            graph-respects (labels (graph (face_upto g e) (2 * e))) (face_upto g e) (2 * e) (j z)
-            (labels-respects (graph (face_upto g e) (2 * e))) (names.below z lt)
-            ∙ ap (labels (graph (face_upto g e) (2 * e))) (face_named z lt))) one,
-        λ one.
-            let r : Reaches (face_upto g e) (j c) (j d) =
-            reached_labels (2 * e) (face_upto g e) perm_two (j c) (j d) (names.below c ltc) (names.below d ltd) one in
-            labels_reached (2 * m) (face_upto f m) perm_one c d ltc (
-              r.0,
-              names.apart (iterate (face_upto f m) r.0 c) d
-                  (iterate-below (2 * m) (face_upto f m) perm_one r.0 c ltc) ltd (sym (faces_named r.0 c ltc) ∙ r.1),
-            ),
-      )
-
-  -- darts of one component have names of one
-  pub Carries-OnePart : (c d : ℕ) → OnePart m f c d → OnePart e g (j c) (j d)
-  Carries-OnePart c d one =
-      same_labels (λ z. labels (linked g (2 * e) e) (j z)) (linked f (2 * m) m) c d
-      (linked-from (λ z. labels (linked g (2 * e) e) (j z)) f (2 * m) m
-      (Respects-graph (λ z. labels (linked g (2 * e) e) (j z)) f (2 * m) (λ z lt.
-      graph-respects (labels (linked g (2 * e) e)) g (2 * e) (j z)
-      (linked-graph (labels (linked g (2 * e) e)) g (2 * e) e (labels-respects (linked g (2 * e) e)))
-      (names.below z lt) ∙ ap (labels (linked g (2 * e) e)) (carries.same z lt)))
-      (λ k lt.
-      let even : 2 * k % 2 ≡ 0 = omega arith in
-      let t : j (2 * k + 1) ≡ twin (j (2 * k)) = ap j (sym (twin_even (2 * k) even))
-      ∙ names.twins (2 * k) (omega arith) in
-      sym (twin-OnePart e g perm_g (j (2 * k)) (names.below (2 * k) (omega arith)))
-      ∙ ap (labels (linked g (2 * e) e)) (sym t))) one

@@ -1,21 +1,17 @@
 -- Lists put together: pairs of darts, copies of one vertex, and lists that grow from one.
-use Rattle.std.specs.Prelude.{◌≡◌, ℕ, List, [], ◌∷◌, ◌++◌}
+use Rattle.std.specs.Prelude.{◌≡◌, ℕ, eqb, List, [], ◌∷◌, ◌++◌, ◌*◌, cond}
 use Rattle.std.specs.List.{filter}
-use Rattle.cp_lists.specs.CyclicLists.{Has, Lacks}
+use Rattle.cp_lists.specs.CyclicLists.{Has, Lacks, follow}
 use Rattle.cp_lists.specs.Turns.{IsTurn}
-use Rattle.cp_maps.specs.Genus.{AllApart}
+use Rattle.cp_orbits.specs.Classes.{labels}
+use Rattle.cp_maps.specs.Genus.{AllApart, in_part, linked}
 use Rattle.cp_maps.specs.Maps.{flat, has}
 use Rattle.cp_maps.specs.Twins.{twin}
 
--- the first darts of pairs, and behind them the second ones, the last first
-abbrev pub nested : List (ℕ × ℕ) → List ℕ
-nested [] = []
-nested (p ∷ ps) = p.0 ∷ (nested ps ++ p.1 ∷ [])
-
--- the pairs as lists of two
-abbrev pub pairs_onto : List (List ℕ) → List (ℕ × ℕ) → List (List ℕ)
-pairs_onto rows [] = rows
-pairs_onto rows (p ∷ ps) = pairs_onto ((p.1 ∷ p.0 ∷ []) ∷ rows) ps
+-- the dart in place of d, where the second dart of each pair takes the place of the twin of the first
+abbrev pub onto : List (ℕ × ℕ) → ℕ → ℕ
+onto [] d = d
+onto (p ∷ ps) d = cond (eqb d (twin p.0)) p.1 (onto ps d)
 
 -- each list has a dart whose twin is in those before
 abbrev pub Grows : List ℕ → List (List ℕ) → Type 0
@@ -51,3 +47,9 @@ AreDivided e g (x ∷ xs) = (AreCopiesOf x.0 x.1 × AllApart e g x.1) × AreDivi
 abbrev pub all_copies : List (List ℕ × List (List ℕ)) → List (List ℕ)
 all_copies [] = []
 all_copies (x ∷ xs) = x.1 ++ all_copies xs
+
+-- at the items of the list a dart leads to the next one of its component
+abbrev pub AreSplit : ℕ → (ℕ → ℕ) → List (List ℕ) → Type 0
+AreSplit e g [] = Unit {0}
+AreSplit e g (xs ∷ rows) =
+    ((d : ℕ) → Has d xs → g d ≡ follow (filter (in_part e g (labels (linked g (2 * e) e) d)) xs) d) × AreSplit e g rows
