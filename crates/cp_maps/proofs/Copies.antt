@@ -59,7 +59,7 @@ split-IsFlat_by_parts e f g rows is z perm split loose = each_part-IsFlat e g pe
     (cases_Bool (in_part e g c d))) h.2)
 
 -- the copy that has a dart, among copies of one list that are in different components
-own_copy : (e : ℕ) (g : ℕ → ℕ) (xs : List ℕ) (copies : List (List ℕ)) (d : ℕ) → EachTurnOf xs copies
+pub own_copy : (e : ℕ) (g : ℕ → ℕ) (xs : List ℕ) (copies : List (List ℕ)) (d : ℕ) → EachTurnOf xs copies
     → AllApart e g copies → Rings g copies → Has d (flat copies)
     → (ys : List ℕ) × Has d ys × IsTurn (filter (λ y. has y ys) xs) ys × Ring g ys
     × ((y : ℕ) → Has y (flat copies) → OnePart e g y d → Has y ys) × ((y : ℕ) → Has y ys → Has y (flat copies))
@@ -85,7 +85,7 @@ own_copy e g xs (zs ∷ copies) d turned apart rings h = ⊎_elim
     (Has-append_cases d zs (flat copies) h)
 
 -- the items of copies are those of the list
-copies-Has : (xs : List ℕ) (copies : List (List ℕ)) (d : ℕ) → EachTurnOf xs copies → Has d (flat copies) → Has d xs
+pub copies-Has : (xs : List ℕ) (copies : List (List ℕ)) (d : ℕ) → EachTurnOf xs copies → Has d (flat copies) → Has d xs
 copies-Has xs [] d turned h = absurd h
 copies-Has xs (ys ∷ copies) d turned h = ⊎_elim
     (λ k. (filter-Has (λ y. has y ys) d xs (Has-of_turn (filter (λ y. has y ys) xs) ys d turned.0 k)).0)
@@ -104,7 +104,7 @@ all_copies-Has e g (x ∷ groups) d divided h = ⊎_elim
 -- a map whose lists are copies
 module _ (e : ℕ) (g : ℕ → ℕ) (perm : Permutes (2 * e) g) where
   -- in copies of one list each dart leads to the next one of its component
-  copies-split : (xs : List ℕ) (copies : List (List ℕ)) (d : ℕ) → Distinct xs → AreCopiesOf xs copies
+  pub copies-split : (xs : List ℕ) (copies : List (List ℕ)) (d : ℕ) → Distinct xs → AreCopiesOf xs copies
       → AllApart e g copies → Rings g copies → ((y : ℕ) → Has y (flat copies) → y < 2 * e) → Has d xs
       → g d ≡ follow (filter (in_part e g (labels (linked g (2 * e) e) d)) xs) d
   copies-split xs copies d dis are apart rings below h =
