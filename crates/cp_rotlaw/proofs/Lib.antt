@@ -5,9 +5,6 @@ pub mod GluedPairs
 pub mod ListedPartners
 pub mod GluedDarts
 pub mod GluedTables
-pub mod FlatMaps
-pub mod FlatRotations
-pub mod FlatUnions
 pub mod ZippedVertices
 pub mod ShortCuts
 pub mod GluedGenus
