@@ -1,0 +1,12 @@
+pub mod Names
+pub mod Graphs
+pub mod Instances
+pub mod Solutions
+pub mod Shapes
+pub mod Blocks
+pub mod Steps
+pub mod Effects
+pub mod Runs
+pub mod Rewrites
+pub mod Faults
+pub mod Rows

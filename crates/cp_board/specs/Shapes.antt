@@ -1,0 +1,66 @@
+-- Shapes of order trees (Booth and Lueker 1976).
+use Rattle.std.specs.Prelude.{ℕ, Bool, true, false, ◌&&◌, leb, List, [], ◌∷◌, ◌++◌, length, reverse}
+use Rattle.std.specs.List.{flat_map, list_all}
+use Rattle.std.specs.List.Sorted.{IsPermutation}
+use Rattle.cp_lists.specs.Turns.{IsTurn}
+use Rattle.cp_board.specs.declared.steps.Branch.{Branch}
+use Rattle.cp_board.specs.declared.steps.Branch.TheVariants.{Leaf, P, Q}
+use Rattle.cp_board.specs.declared.steps.Branch.TheOpen.{Branch-F}
+use Rattle.cp_board.specs.declared.steps.Branch.TheFolds.{fold-Branch}
+use Rattle.cp_board.specs.declared.steps.Shape.{Shape}
+
+-- a reading of a branch: of a leaf the leaf, of a P-node readings of its kids in any order, of a Q-node
+-- readings of its kids in the given order or its reverse
+mutual
+  pub data Reads : Branch → List ℕ → Type 0 where
+    leaf : (x : ℕ) → Reads (Leaf x) (x ∷ [])
+    any_order : (kids turn : List Branch) (xs : List ℕ) → IsPermutation kids turn → ReadsAll turn xs → Reads (P kids) xs
+    forward : (kids : List Branch) (xs : List ℕ) → ReadsAll kids xs → Reads (Q kids) xs
+    backward : (kids : List Branch) (xs : List ℕ) → ReadsAll (reverse kids) xs → Reads (Q kids) xs
+
+  pub data ReadsAll : List Branch → List ℕ → Type 0 where
+    none : ReadsAll [] []
+    more : (k : Branch) (ks : List Branch) (xs ys : List ℕ) → Reads k xs → ReadsAll ks ys → ReadsAll (k ∷ ks) (xs ++ ys)
+
+-- the shape admits a cyclic order: it is the root followed by a reading of the body
+pub record Admits (shape : Shape) (order : List ℕ) : Type 0 where
+  pub word : List ℕ
+  pub reads : Reads shape.body word
+  pub turn : IsTurn (shape.root ∷ word) order
+
+-- the leaves of a branch, from left to right
+abbrev pub leaves_step : Branch-F (List ℕ) → List ℕ
+leaves_step (Branch-F.Leaf x) = x ∷ []
+leaves_step (Branch-F.P kids) = flat_map (λ ls. ls) kids
+leaves_step (Branch-F.Q kids) = flat_map (λ ls. ls) kids
+
+unfoldable pub leaves : Branch → List ℕ
+leaves = fold-Branch (List ℕ) leaves_step
+
+-- each inner node has at least two kids
+abbrev pub branches_step : Branch-F Bool → Bool
+branches_step (Branch-F.Leaf x) = true
+branches_step (Branch-F.P kids) = leb 2 (length kids) && list_all (λ b. b) kids
+branches_step (Branch-F.Q kids) = leb 2 (length kids) && list_all (λ b. b) kids
+
+unfoldable pub branches : Branch → Bool
+branches = fold-Branch Bool branches_step
+
+-- one inner node that is put in the place of a vertex: the new vertex, whether it is a Q-node, and its edges,
+-- the one from above first and then those to the kids
+pub record Planted : Type 0 where
+  pub vertex : ℕ
+  pub fixed : Bool
+  pub edges : List ℕ
+
+-- a branch below the edge `top` is planted: its inner nodes, each before its kids, take the vertices and the
+-- edges from above in turn, and leaf x is the edge f x
+mutual
+  pub data Plants (f : ℕ → ℕ) : Branch → ℕ → List ℕ → List ℕ → List Planted → Type 0 where
+    leaf : (x : ℕ) → Plants f (Leaf x) (f x) [] [] []
+    free : (kids : List Branch) (top v : ℕ) (tops vs es : List ℕ) (rows : List Planted) → PlantsAll f kids tops vs es rows → Plants f (P kids) top (v ∷ vs) (top ∷ es) (record { vertex = v; fixed = false; edges = top ∷ tops } ∷ rows)
+    fixed : (kids : List Branch) (top v : ℕ) (tops vs es : List ℕ) (rows : List Planted) → PlantsAll f kids tops vs es rows → Plants f (Q kids) top (v ∷ vs) (top ∷ es) (record { vertex = v; fixed = true; edges = top ∷ tops } ∷ rows)
+
+  pub data PlantsAll (f : ℕ → ℕ) : List Branch → List ℕ → List ℕ → List ℕ → List Planted → Type 0 where
+    none : PlantsAll f [] [] [] [] []
+    more : (k : Branch) (ks : List Branch) (top : ℕ) (tops us vs ds es : List ℕ) (rows more_rows : List Planted) → Plants f k top us ds rows → PlantsAll f ks tops vs es more_rows → PlantsAll f (k ∷ ks) (top ∷ tops) (us ++ vs) (ds ++ es) (rows ++ more_rows)
