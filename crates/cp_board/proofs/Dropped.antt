@@ -9,7 +9,7 @@ use Rattle.cp_lists.specs.CyclicLists.{Distinct, Lacks}
 use Rattle.cp_board.specs.declared.parts.Pipe.{Pipe}
 use Rattle.cp_board.specs.Names.{has, by_name}
 use Rattle.cp_board.specs.Instances.{Synchronized, IsSynchronized, HasRightEnds, HasRightPairs, graph, vert_names, edge_names, pipe_names}
-use Rattle.cp_board.specs.Effects.{other_pipes, IsWithoutPipe}
+use Rattle.cp_board.specs.Changes.{other_pipes, IsWithoutPipe}
 use Rattle.cp_board.specs.Rewrites.{rewritten, dropping, with_kinds, IsRewriteOf}
 use Rattle.cp_board.proofs.Named.{rises, IsStrictlyIncreasing-from_test}
 use Rattle.cp_board.proofs.Laws.{rises_from, by_name_same}

@@ -4,16 +4,14 @@ use Rattle.std.specs.Prelude.{find, map, Some, slice_index_or}
 use Rattle.std.proofs.lemmas.Bool.{and_parts, cond-true, cond-false, eq-eqb, ne_eqb, ltb-true}
 use Rattle.std.proofs.lemmas.List.{get_or_default}
 use Rattle.cp_board.specs.declared.parts.Pipe.{Pipe}
-use Rattle.cp_board.specs.Instances.{Synchronized, IsSynchronized, edge_names, edges_at, names_at, pipe_names}
-use Rattle.cp_board.specs.Steps.{degree}
-use Rattle.cp_board.specs.Runs.{IsGreatestName, IsGreatestPlace}
+use Rattle.cp_board.specs.Instances.{Synchronized, IsSynchronized, edge_names, edges_of, names_at, pipe_names}
 use Rattle.cp_board.proofs.Named.{rises}
 use Rattle.cp_board.proofs.Laws.{rises_from}
 use Rattle.cp_board.proofs.Dropped.{under_all, under_all-rises, rises_after}
 use Rattle.cp_board.proofs.Moved.{names_passing, distinct_from_rises}
 
-pub edges_at-rows : (i : Synchronized) (v : ℕ) → IsSynchronized i → edges_at i v ≡ names_at i.edges v
-edges_at-rows i v is = names_passing (λ x. eqb x.0 v || eqb x.1 v) i.edges (distinct_from_rises (λ e. e.name) i.edges (rises_from (edge_names i) is.edges_named.rise))
+pub edges_of-rows : (i : Synchronized) (v : ℕ) → IsSynchronized i → edges_of i v ≡ names_at i.edges v
+edges_of-rows i v is = names_passing (λ x. eqb x.0 v || eqb x.1 v) i.edges (distinct_from_rises (λ e. e.name) i.edges (rises_from (edge_names i) is.edges_named.rise))
 
 -- what is below all is below each
 under_at : {A : Type 0} (name : A → ℕ) (n : ℕ) (xs : List A) (k : ℕ) (d : A) → under_all name n xs ≡ true → k < length xs → n < name (slice_index_or xs k d)
@@ -37,18 +35,3 @@ found_at name (x ∷ xs) (suc k) d t lt =
     let h = under_at name (name x) xs k d (under_all-rises name (name x) xs t) (omega arith) in
     cond-false (eqb (name x) (name (slice_index_or xs k d))) (Some x) (find (λ y. eqb (name y) (name (slice_index_or xs k d))) xs) (ne_eqb (name x) (name (slice_index_or xs k d)) (λ e. omega (arith, e, h)))
     ∙ found_at name xs k d (rises_after name x xs t) (omega arith)
-
--- the greatest place has the greatest name
-pub IsGreatestName-from : (i : Synchronized) (b : ℕ) (d : Pipe) → IsSynchronized i → IsGreatestPlace i.pipes (length i.pipes) b → IsGreatestName i (slice_index_or i.pipes b d).name
-IsGreatestName-from i b d is g = (
-  slice_index_or i.pipes b d,
-  refl,
-  record {
-    live = found_at (λ p. p.name) i.pipes b d up g.within;
-    others = λ k e lt. subst (λ q. (degree q < degree (slice_index_or i.pipes b d)) ⊎ ((degree q ≡ degree (slice_index_or i.pipes b d)) × ((slice_index_or i.pipes b d).name ≤ q.name))) (get_or_default i.pipes k d e lt)
-        (⊎_elim (λ h. inl h) (λ h. inr (h.0, place_order (λ p. p.name) i.pipes b k d up h.1 lt)) (g.others k d lt));
-  },
-)
-  where
-    up : rises (pipe_names i) ≡ true
-    up = rises_from (pipe_names i) is.pipes_named.rise

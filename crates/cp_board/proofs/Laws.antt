@@ -8,7 +8,7 @@ use Rattle.std.specs.List.Sorted.{IsStrictlyIncreasing}
 use Rattle.cp_board.specs.Names.{has, new_names, put, by_name, AreNew}
 use Rattle.cp_board.specs.Instances.{Synchronized}
 use Rattle.cp_board.specs.Solutions.{Solves, IsMirror, second_of}
-use Rattle.cp_board.specs.Effects.{IsWithoutPipe, other_pipes}
+use Rattle.cp_board.specs.Changes.{IsWithoutPipe, other_pipes}
 use Rattle.cp_board.proofs.Named.{All-from_test, rises, distinct}
 
 -- all that is kept passes

@@ -7,8 +7,8 @@ use Rattle.std.proofs.lemmas.Bool.{cond_both, cond-true, cond-false, and_parts, 
 use Rattle.std.proofs.lemmas.List.{append-nil}
 use Rattle.cp_board.specs.declared.parts.EdgeRow.{EdgeRow}
 use Rattle.cp_board.specs.Names.{has, put, by_name}
-use Rattle.cp_board.specs.Instances.{Synchronized, edge_names, edges_at, ends_in}
-use Rattle.cp_board.specs.Effects.{moved_edges, edges_by_name}
+use Rattle.cp_board.specs.Instances.{Synchronized, edge_names, edges_of, ends_in}
+use Rattle.cp_board.specs.Changes.{moved_edges, edges_by_name}
 use Rattle.cp_board.proofs.Named.{rises, distinct}
 use Rattle.cp_board.proofs.Laws.{by_name_same, has-by_name}
 use Rattle.cp_board.proofs.Dropped.{rises-filter, under_all, under_all-filter, under_all-rises, rises-under, rises_after}
@@ -147,8 +147,8 @@ names_moved to [] = refl
 names_moved to (e ∷ es) = ap (λ zs. e.name ∷ zs) (names_moved to es)
 
 -- a vertex at which no end moves, and at which no new edge ends, keeps its edges
-pub edges_at_kept : (i j : Synchronized) (to : ℕ → ℕ → ℕ) (more : List EdgeRow) (v : ℕ) → rises (edge_names i) ≡ true → distinct (map (λ e. e.name) (moved_edges i to ++ more)) ≡ true → j.edges ≡ edges_by_name (moved_edges i to ++ more) → ((e x : ℕ) → eqb (to e x) v ≡ eqb x v) → filter (touch v) more ≡ [] → edges_at j v ≡ edges_at i v
-edges_at_kept i j to more v up apart is stays none =
+pub edges_of-kept : (i j : Synchronized) (to : ℕ → ℕ → ℕ) (more : List EdgeRow) (v : ℕ) → rises (edge_names i) ≡ true → distinct (map (λ e. e.name) (moved_edges i to ++ more)) ≡ true → j.edges ≡ edges_by_name (moved_edges i to ++ more) → ((e x : ℕ) → eqb (to e x) v ≡ eqb x v) → filter (touch v) more ≡ [] → edges_of j v ≡ edges_of i v
+edges_of-kept i j to more v up apart is stays none =
     ap (λ es. filter (λ e. passes (ends_in es e)) (map (λ e. e.name) es)) is
     ∙ names_passing passes (edges_by_name (moved_edges i to ++ more)) (distinct_from_rises (λ e. e.name) (edges_by_name (moved_edges i to ++ more)) (rises-by_name (λ e. e.name) (moved_edges i to ++ more) apart))
     ∙ ap (map (λ e. e.name)) (filter-by_name (λ e. e.name) (touch v) (moved_edges i to ++ more) apart)

@@ -8,8 +8,9 @@ use Rattle.cp_board.specs.declared.steps.Branch.TheVariants.{Leaf, P, Q, rolls-L
 use Rattle.cp_board.specs.declared.steps.Branch.TheOpen.{Branch-F}
 use Rattle.cp_board.specs.declared.steps.Branch.TheFolds.{fold-roll-Branch}
 use Rattle.cp_board.specs.Names.{rising}
-use Rattle.cp_board.specs.Shapes.{Planted, Plants, PlantsAll, leaves, leaves_step, branches, branches_step, Reads, ReadsAll, Admits}
-use Rattle.cp_board.specs.Instances.{edges_at}
+use Rattle.cp_board.specs.Plantings.{Planted, Plants, PlantsAll}
+use Rattle.cp_board.specs.Shapes.{leaves, leaves_step, branches, branches_step, Reads, ReadsAll, Admits}
+use Rattle.cp_board.specs.Instances.{edges_of}
 use Rattle.cp_board.proofs.Wheel.{wheel, row}
 
 -- the equations of `leaves` and `branches`, one for each kind of branch
@@ -43,7 +44,7 @@ branches_Q ks = ap branches (sym (rolls-Q ks)) ∙ fold-roll-Branch Bool branche
     ∙ ap (λ n. leb 2 n && list_all (λ b. b) (map branches ks)) (length-map ks branches) ∙ ap (λ z. leb 2 (length ks) && z) (list_all_map branches ks)
 
 -- the leaves of the row with its root are the spokes
-row_leaves : rising (row.root ∷ leaves row.body) ≡ edges_at wheel 0
+row_leaves : rising (row.root ∷ leaves row.body) ≡ edges_of wheel 0
 row_leaves = rw (leaves_Q (Leaf 1 ∷ Leaf 2 ∷ Leaf 3 ∷ []), leaves_Leaf 1, leaves_Leaf 2, leaves_Leaf 3) refl
 
 row_branches : branches row.body ≡ true

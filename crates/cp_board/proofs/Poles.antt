@@ -10,13 +10,13 @@ use Rattle.cp_board.specs.declared.parts.Pipe.{Pipe}
 use Rattle.cp_board.specs.declared.steps.Step.TheVariants.{FreePole, FusePoles, Toroidal}
 use Rattle.cp_board.specs.declared.steps.Reason.TheVariants.{CyclesDiffer}
 use Rattle.cp_board.specs.Names.{has}
-use Rattle.cp_board.specs.Graphs.{NamedGraph, IsBond, IsAlong, edges_at, far}
-use Rattle.cp_board.specs.Instances.{Synchronized, graph}
-use Rattle.cp_board.specs.Instances as instances
+use Rattle.cp_board.specs.NamedGraphs.{NamedGraph, edges_at, far}
+use Rattle.cp_board.specs.Bonds.{IsBond, IsAlong}
+use Rattle.cp_board.specs.Instances.{Synchronized, graph, edges_of}
 use Rattle.cp_board.specs.Solutions.{second_of}
 use Rattle.cp_board.specs.Steps.{Allowed, IsTurning, IsCycleLength}
 use Rattle.cp_board.specs.Effects.{After}
-use Rattle.cp_board.specs.Runs.{IsBlamed}
+use Rattle.cp_board.specs.Reasons.{IsBlamed}
 use Rattle.cp_board.specs.Rows.{vert, edge, pipe}
 use Rattle.cp_board.proofs.Named.{All-from_test, Contains-from_has}
 use Rattle.cp_board.proofs.Examples.{is_up_to, is_up_to_tells}
@@ -59,9 +59,9 @@ has_length_tells m k x t =
     }
 
 -- the pairs turn each edge into an edge of the same end
-turning : (i : Synchronized) (p : Pipe) → all_far (graph i) p.a p.b ≡ true → list_all (λ x. has (instances.edges_at i p.a) (second_of p x)) (instances.edges_at i p.a) ≡ true → IsTurning i p (second_of p)
+turning : (i : Synchronized) (p : Pipe) → all_far (graph i) p.a p.b ≡ true → list_all (λ x. has (edges_of i p.a) (second_of p x)) (edges_of i p.a) ≡ true → IsTurning i p (second_of p)
 turning i p t h x c =
-    let in_a = All-contains (λ x. Contains (instances.edges_at i p.a) (second_of p x)) (instances.edges_at i p.a) x (All-from_test (λ x. Contains (instances.edges_at i p.a) (second_of p x)) (λ x. has (instances.edges_at i p.a) (second_of p x)) (λ x e. Contains-from_has (instances.edges_at i p.a) (second_of p x) e) (instances.edges_at i p.a) h) c in
+    let in_a = All-contains (λ x. Contains (edges_of i p.a) (second_of p x)) (edges_of i p.a) x (All-from_test (λ x. Contains (edges_of i p.a) (second_of p x)) (λ x. has (edges_of i p.a) (second_of p x)) (λ x e. Contains-from_has (edges_of i p.a) (second_of p x) e) (edges_of i p.a) h) c in
     (in_a, inl (far_is (graph i) p.a p.b t (second_of p x) in_a, refl))
 
 abbrev even : Pipe
@@ -80,7 +80,7 @@ even_allowed = (
     turning = second_of even;
     is_turning = turning even_bond even refl refl;
     size = 2;
-    one_length = λ x c. All-contains (λ x. IsCycleLength (second_of even) x 2) (instances.edges_at even_bond 0) x (All-from_test (λ x. IsCycleLength (second_of even) x 2) (has_length (second_of even) 2) (has_length_tells (second_of even) 2) (instances.edges_at even_bond 0) refl) c;
+    one_length = λ x c. All-contains (λ x. IsCycleLength (second_of even) x 2) (edges_of even_bond 0) x (All-from_test (λ x. IsCycleLength (second_of even) x 2) (has_length (second_of even) 2) (has_length_tells (second_of even) 2) (edges_of even_bond 0) refl) c;
   },
 )
 
@@ -95,21 +95,23 @@ abbrev odd_bond : Synchronized
 odd_bond = bond odd.pairs
 
 odd_blamed : IsBlamed odd_bond (CyclesDiffer 1 3)
-odd_blamed = record {
-  pipe = odd;
-  greatest = record { live = refl; others = All-from_test _ (is_up_to odd) (is_up_to_tells odd) odd_bond.pipes refl };
-  bond = parallel_bond (graph odd_bond) 0 1 (eqb-false 0 1 refl) refl;
-  turning = second_of odd;
-  is_turning = turning odd_bond odd refl refl;
-  place = 1;
-  within = omega arith;
-  first = has_length_tells (second_of odd) 1 0 refl;
-  before = below_one;
-  other = has_length_tells (second_of odd) 3 1 refl;
-  differ = eqb-false 1 3 refl;
-}
+odd_blamed = (
+  odd,
+  record { live = refl; others = All-from_test _ (is_up_to odd) (is_up_to_tells odd) odd_bond.pipes refl },
+  parallel_bond (graph odd_bond) 0 1 (eqb-false 0 1 refl) refl,
+  record {
+    turning = second_of odd;
+    is_turning = turning odd_bond odd refl refl;
+    place = 1;
+    within = omega arith;
+    first = has_length_tells (second_of odd) 1 0 refl;
+    before = below_one;
+    other = has_length_tells (second_of odd) 3 1 refl;
+    differ = eqb-false 1 3 refl;
+  },
+)
   where
-    below_one : (k : ℕ) → k < 1 → IsCycleLength (second_of odd) (slice_index (instances.edges_at odd_bond 0) k) 1
+    below_one : (k : ℕ) → k < 1 → IsCycleLength (second_of odd) (slice_index (edges_of odd_bond 0) k) 1
     below_one zero lt = has_length_tells (second_of odd) 1 0 refl
     below_one (suc k) lt = absurd (omega arith)
 

@@ -13,12 +13,13 @@ use Rattle.cp_lists.specs.Turns.{IsTurn}
 use Rattle.cp_rot.specs.Systems.{System, IsRotation, darts, edges, list_of}
 use Rattle.cp_rot.proofs.Functions.{HasGenusZero-from, IsZero}
 use Rattle.cp_board.specs.Names.{has, rising}
-use Rattle.cp_board.specs.Graphs.{NamedGraph, Arranges, IsRotationOf, system, edges_at}
+use Rattle.cp_board.specs.NamedGraphs.{NamedGraph, edges_at}
+use Rattle.cp_board.specs.Rotations.{ArrangesEdges, IsRotationOf, system}
 use Rattle.cp_board.specs.Instances.{Synchronized, graph, vert_names}
 use Rattle.cp_board.specs.Solutions.{Solves, IsSolution, IsInDirection, IsMirror, second_of, list_in, directed}
+use Rattle.cp_board.specs.Rows.{edge, fixed, last}
 use Rattle.cp_board.specs.declared.parts.Kind.{Kind}
 use Rattle.cp_board.specs.declared.parts.Kind.TheVariants.{P, Q}
-use Rattle.cp_board.specs.Rows.{edge, fixed, last}
 use Rattle.cp_board.proofs.Named.{arranged, All-from_test, Contains-from_has, distinct, Distinct-from_test, same, same_lists}
 
 -- what a test tells of each number below n
@@ -61,8 +62,8 @@ IsRotation-from_tests r t =
     }
 
 -- the lists arrange the edges of their vertices
-pub arranged_from_test : (g : NamedGraph) (s : ℕ → List ℕ) → list_all (λ v. same (rising (s v)) (edges_at g v)) g.verts ≡ true → All (λ v. Arranges g v (s v)) g.verts
-arranged_from_test g s t = All-from_test (λ v. Arranges g v (s v)) (λ v. same (rising (s v)) (edges_at g v)) (λ v e. arranged (edges_at g v) (s v) (same_lists (rising (s v)) (edges_at g v) e)) g.verts t
+pub arranged_from_test : (g : NamedGraph) (s : ℕ → List ℕ) → list_all (λ v. same (rising (s v)) (edges_at g v)) g.verts ≡ true → All (λ v. ArrangesEdges g v (s v)) g.verts
+arranged_from_test g s t = All-from_test (λ v. ArrangesEdges g v (s v)) (λ v. same (rising (s v)) (edges_at g v)) (λ v e. arranged (edges_at g v) (s v) (same_lists (rising (s v)) (edges_at g v) e)) g.verts t
 
 -- two vertices with three edges between them, in one cell, whose lists are reverse to each other
 abbrev dipole : Synchronized

@@ -14,22 +14,21 @@ use Rattle.cp_board.specs.declared.parts.Kind.TheVariants.{P, Q}
 use Rattle.cp_board.specs.declared.parts.EdgeRow.{EdgeRow}
 use Rattle.cp_board.specs.declared.parts.Pipe.{Pipe}
 use Rattle.cp_board.specs.Names.{has, rising}
-use Rattle.cp_board.specs.Graphs.{NamedGraph, pairs, far}
-use Rattle.cp_board.specs.Graphs as graphs
-use Rattle.cp_board.specs.Instances.{Synchronized, IsSynchronized, AreNames, IsRightKind, HasRightEnds, HasRightPairs, vert_names, edge_names, pipe_names, cells, edges_at, graph, kind_of}
-use Rattle.cp_board.specs.Effects.{ArePartsAt, part_of}
+use Rattle.cp_board.specs.NamedGraphs.{NamedGraph, pairs, far, edges_at}
+use Rattle.cp_board.specs.Instances.{Synchronized, IsSynchronized, AreNames, IsRightKind, HasRightEnds, HasRightPairs, vert_names, edge_names, pipe_names, cells, edges_of, graph, kind_of}
+use Rattle.cp_board.specs.Joins.{ArePartsAt, part_of}
 use Rattle.cp_board.proofs.Named.{arranged, All-from_test, rises, IsStrictlyIncreasing-from_test, Contains-from_has, distinct, Distinct-from_test, same, same_lists}
 
 -- the test of the kind of a vertex
 abbrev pub right_kind : Synchronized → ℕ → Kind → Bool
 right_kind i v P = true
-right_kind i v (Q cell psi) = same (rising psi) (edges_at i v) && same (take 1 psi) (take 1 (edges_at i v))
+right_kind i v (Q cell psi) = same (rising psi) (edges_of i v) && same (take 1 psi) (take 1 (edges_of i v))
 
 right_kind_tells : (i : Synchronized) (v : ℕ) (k : Kind) → right_kind i v k ≡ true → IsRightKind (graph i) v k
 right_kind_tells i v P t = tt
 right_kind_tells i v (Q cell psi) t =
-    let p = and_parts (same (rising psi) (edges_at i v)) (same (take 1 psi) (take 1 (edges_at i v))) t in
-    (arranged (edges_at i v) psi (same_lists (rising psi) (edges_at i v) p.0), same_lists (take 1 psi) (take 1 (edges_at i v)) p.1)
+    let p = and_parts (same (rising psi) (edges_of i v)) (same (take 1 psi) (take 1 (edges_of i v))) t in
+    (arranged (edges_of i v) psi (same_lists (rising psi) (edges_of i v) p.0), same_lists (take 1 psi) (take 1 (edges_of i v)) p.1)
 
 abbrev pub is_free : Option Kind → Bool
 is_free None = false
@@ -51,14 +50,14 @@ right_ends_tells i p t =
     record { differ = eqb-false p.a p.b (not-true (eqb p.a p.b) h.0); free_a = is_free_tells (kind_of i p.a) k.0; free_b = is_free_tells (kind_of i p.b) k.1 }
 
 abbrev pub right_pairs : Synchronized → Pipe → Bool
-right_pairs i p = same (map (λ x. x.0) p.pairs) (edges_at i p.a) && same (rising (map (λ x. x.1) p.pairs)) (edges_at i p.b)
+right_pairs i p = same (map (λ x. x.0) p.pairs) (edges_of i p.a) && same (rising (map (λ x. x.1) p.pairs)) (edges_of i p.b)
 
 right_pairs_tells : (i : Synchronized) (p : Pipe) → right_pairs i p ≡ true → HasRightPairs (graph i) p
 right_pairs_tells i p t =
-    let h = and_parts (same (map (λ x. x.0) p.pairs) (edges_at i p.a)) (same (rising (map (λ x. x.1) p.pairs)) (edges_at i p.b)) t in
+    let h = and_parts (same (map (λ x. x.0) p.pairs) (edges_of i p.a)) (same (rising (map (λ x. x.1) p.pairs)) (edges_of i p.b)) t in
     record {
-      first = same_lists (map (λ x. x.0) p.pairs) (edges_at i p.a) h.0;
-      second = arranged (edges_at i p.b) (map (λ x. x.1) p.pairs) (same_lists (rising (map (λ x. x.1) p.pairs)) (edges_at i p.b) h.1);
+      first = same_lists (map (λ x. x.0) p.pairs) (edges_of i p.a) h.0;
+      second = arranged (edges_of i p.b) (map (λ x. x.1) p.pairs) (same_lists (rising (map (λ x. x.1) p.pairs)) (edges_of i p.b) h.1);
     }
 
 abbrev pub right_edge : Synchronized → EdgeRow → Bool
@@ -126,11 +125,11 @@ agree_same false false t = refl
 -- the tests that the parts are those at u
 abbrev pub are_parts : NamedGraph → ℕ → List (List ℕ) → List Bool
 are_parts g u parts =
-    same (rising (flat_map (λ part. part) parts)) (graphs.edges_at g u)
+    same (rising (flat_map (λ part. part) parts)) (edges_at g u)
     ∷ list_all (λ part. ltb 0 (length part)) parts
     ∷ list_all rises parts
     ∷ rises (map (λ part. slice_index part 0) parts)
-    ∷ list_all (λ e. list_all (λ f. agree (eqb (part_of parts e) (part_of parts f)) (eqb (part_label g u e) (part_label g u f))) (graphs.edges_at g u)) (graphs.edges_at g u) ∷ []
+    ∷ list_all (λ e. list_all (λ f. agree (eqb (part_of parts e) (part_of parts f)) (eqb (part_label g u e) (part_label g u f))) (edges_at g u)) (edges_at g u) ∷ []
 
 pub ArePartsAt-from_tests : (g : NamedGraph) (u : ℕ) (parts : List (List ℕ)) → list_all (λ b. b) (are_parts g u parts) ≡ true → ArePartsAt g u parts
 ArePartsAt-from_tests g u parts t =
@@ -139,7 +138,7 @@ ArePartsAt-from_tests g u parts t =
     let t3 = and_parts _ _ t2.1 in
     let t4 = and_parts _ _ t3.1 in
     let t5 = and_parts _ _ t4.1 in
-    let es = graphs.edges_at g u in
+    let es = edges_at g u in
     let agreed = All-from_test (λ e. All (λ f. eqb (part_of parts e) (part_of parts f) ≡ eqb (part_label g u e) (part_label g u f)) es) (λ e. list_all (λ f. agree (eqb (part_of parts e) (part_of parts f)) (eqb (part_label g u e) (part_label g u f))) es) (λ e. All-from_test (λ f. eqb (part_of parts e) (part_of parts f) ≡ eqb (part_label g u e) (part_label g u f)) (λ f. agree (eqb (part_of parts e) (part_of parts f)) (eqb (part_label g u e) (part_label g u f))) (λ f h. agree_same (eqb (part_of parts e) (part_of parts f)) (eqb (part_label g u e) (part_label g u f)) h) es) es t5.0 in
     record {
       whole = arranged es (flat_map (λ part. part) parts) (same_lists (rising (flat_map (λ part. part) parts)) es t1.0);

@@ -6,10 +6,10 @@ use Rattle.cp_board.specs.declared.steps.Step.TheVariants.{Propagate}
 use Rattle.cp_board.specs.declared.parts.Pipe.{Pipe}
 use Rattle.cp_board.specs.Instances.{Synchronized, IsSynchronized}
 use Rattle.cp_board.specs.Steps.{partner}
-use Rattle.cp_board.specs.Shapes.{Plants, PlantsAll, Planted}
-use Rattle.cp_board.specs.Shapes as shapes
+use Rattle.cp_board.specs.Plantings.{Plants, PlantsAll, Planted}
 use Rattle.cp_board.specs.Effects.{After}
 use Rattle.cp_board.specs.Rows.{vert, edge, pipe, fixed}
+use Rattle.cp_board.specs.Plantings as plantings
 use Rattle.cp_board.proofs.Tests.{IsSynchronized-from_tests}
 
 abbrev pub wheel_pipe : Pipe
@@ -36,7 +36,7 @@ propagated = record {
 -- three leaves below one Q-node
 plants_row : (f : ℕ → ℕ) (top v : ℕ) → Plants f row.body top (v ∷ []) (top ∷ []) (record { vertex = v; fixed = true; edges = top ∷ f 1 ∷ f 2 ∷ f 3 ∷ [] } ∷ [])
 plants_row f top v =
-    shapes.Plants.fixed _ top v (f 1 ∷ f 2 ∷ f 3 ∷ []) [] [] []
+    plantings.Plants.fixed _ top v (f 1 ∷ f 2 ∷ f 3 ∷ []) [] [] []
     (PlantsAll.more (Leaf 1) _ (f 1) _ [] [] [] [] [] [] (Plants.leaf 1)
     (PlantsAll.more (Leaf 2) _ (f 2) _ [] [] [] [] [] [] (Plants.leaf 2)
     (PlantsAll.more (Leaf 3) _ (f 3) _ [] [] [] [] [] [] (Plants.leaf 3) PlantsAll.none)))

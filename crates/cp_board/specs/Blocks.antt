@@ -4,8 +4,9 @@ use Rattle.std.specs.List.{All, Contains, filter}
 use Rattle.cp_lists.specs.Turns.{IsTurn}
 use Rattle.cp_board.specs.declared.parts.Kind.TheVariants.{P, Q}
 use Rattle.cp_board.specs.declared.parts.Kind.{Kind}
-use Rattle.cp_board.specs.Graphs.{IsRotationOf, IsBlockOf, InOneBlock, only}
-use Rattle.cp_board.specs.Instances.{Synchronized, edge_names, edges_at, graph, kind_of}
+use Rattle.cp_board.specs.Rotations.{IsRotationOf}
+use Rattle.cp_board.specs.NamedGraphs.{IsBlockOf, InOneBlock, only}
+use Rattle.cp_board.specs.Instances.{Synchronized, edge_names, edges_of, graph, kind_of}
 use Rattle.cp_board.specs.Solutions.{directed}
 
 -- the list is, up to a turn, what the psi of a Q-vertex has of the block, in one or the other direction
@@ -22,7 +23,7 @@ pub record IsBlockRotation (i : Synchronized) (inside : ℕ → Bool) (s : ℕ �
 -- u, which is no cut vertex, has this order in some rotation of its block
 pub record IsBlockOrder (i : Synchronized) (u : ℕ) (order : List ℕ) : Type 0 where
   pub edge : ℕ
-  pub at : Contains (edges_at i u) edge
+  pub at : Contains (edges_of i u) edge
   pub inside : ℕ → Bool
   pub block : IsBlockOf (graph i) edge inside
   pub lists : ℕ → List ℕ

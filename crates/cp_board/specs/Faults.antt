@@ -23,14 +23,14 @@ name_of i (VertAt k) = slice_index (vert_names i) k
 name_of i (EdgeAt k) = slice_index (edge_names i) k
 name_of i (PipeAt k) = slice_index (pipe_names i) k
 
-abbrev pub vert_at : Synchronized → ℕ → Vert
-vert_at i k = slice_index_or i.verts k record { name = 0; kind = P }
+abbrev pub vert_in_place : Synchronized → ℕ → Vert
+vert_in_place i k = slice_index_or i.verts k record { name = 0; kind = P }
 
-abbrev pub edge_at : Synchronized → ℕ → EdgeRow
-edge_at i k = slice_index_or i.edges k record { name = 0; a = 0; b = 0 }
+abbrev pub edge_in_place : Synchronized → ℕ → EdgeRow
+edge_in_place i k = slice_index_or i.edges k record { name = 0; a = 0; b = 0 }
 
-abbrev pub pipe_at : Synchronized → ℕ → Pipe
-pipe_at i k = slice_index_or i.pipes k record { name = 0; a = 0; b = 0; pairs = [] }
+abbrev pub pipe_in_place : Synchronized → ℕ → Pipe
+pipe_in_place i k = slice_index_or i.pipes k record { name = 0; a = 0; b = 0; pairs = [] }
 
 -- the name at place k fits and is greater than the one before it
 abbrev pub IsNextName : List ℕ → ℕ → Type 0
@@ -59,17 +59,17 @@ HasEnds i e = Contains (vert_names i) e.a × Contains (vert_names i) e.b × (e.a
 abbrev pub IsApart : Synchronized → ℕ → Type 0
 IsApart i k =
     let earlier = flat_map (λ p. p.a ∷ p.b ∷ []) (take k i.pipes) in
-    Lacks (pipe_at i k).a earlier × Lacks (pipe_at i k).b earlier
+    Lacks (pipe_in_place i k).a earlier × Lacks (pipe_in_place i k).b earlier
 
 -- the part keeps the rule
 abbrev pub Keeps : Synchronized → Rule → Part → Type 0
-Keeps i Names (VertAt k) = IsNextName (vert_names i) k × All (λ c. c < 2 ^ 63) (cell_of (vert_at i k).kind)
+Keeps i Names (VertAt k) = IsNextName (vert_names i) k × All (λ c. c < 2 ^ 63) (cell_of (vert_in_place i k).kind)
 Keeps i Names (EdgeAt k) = IsNextName (edge_names i) k
 Keeps i Names (PipeAt k) = IsNextName (pipe_names i) k
-Keeps i Ends (EdgeAt k) = HasEnds i (edge_at i k)
-Keeps i Lists (VertAt k) = IsRightKind (graph i) (vert_at i k).name (vert_at i k).kind
-Keeps i PipeEnds (PipeAt k) = HasRightEnds i.verts (pipe_at i k) × IsApart i k
-Keeps i Partners (PipeAt k) = HasRightPairs (graph i) (pipe_at i k)
+Keeps i Ends (EdgeAt k) = HasEnds i (edge_in_place i k)
+Keeps i Lists (VertAt k) = IsRightKind (graph i) (vert_in_place i k).name (vert_in_place i k).kind
+Keeps i PipeEnds (PipeAt k) = HasRightEnds i.verts (pipe_in_place i k) × IsApart i k
+Keeps i Partners (PipeAt k) = HasRightPairs (graph i) (pipe_in_place i k)
 Keeps i rule part = Unit {0}
 
 -- the least rule that some part breaks, and the name of the first part that breaks it

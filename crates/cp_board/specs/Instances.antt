@@ -9,8 +9,8 @@ use Rattle.cp_board.specs.declared.parts.Kind.TheVariants.{P, Q}
 use Rattle.cp_board.specs.declared.parts.Vert.{Vert}
 use Rattle.cp_board.specs.declared.parts.EdgeRow.{EdgeRow}
 use Rattle.cp_board.specs.declared.parts.Pipe.{Pipe}
-use Rattle.cp_board.specs.Graphs.{NamedGraph, Arranges}
-use Rattle.cp_board.specs.Graphs as graphs
+use Rattle.cp_board.specs.NamedGraphs.{NamedGraph, edges_at}
+use Rattle.cp_board.specs.Rotations.{ArrangesEdges}
 
 -- vertices, edges and pipes
 pub record Synchronized : Type 0 where
@@ -66,8 +66,8 @@ abbrev pub graph : Synchronized → NamedGraph
 graph i = record { verts = vert_names i; edges = edge_names i; ends = ends_of i }
 
 -- the edges of v, rising
-abbrev pub edges_at : Synchronized → ℕ → List ℕ
-edges_at i v = graphs.edges_at (graph i) v
+abbrev pub edges_of : Synchronized → ℕ → List ℕ
+edges_of i v = edges_at (graph i) v
 
 -- the edges with an end v, by their rows
 abbrev pub names_at : List EdgeRow → ℕ → List ℕ
@@ -94,13 +94,13 @@ abbrev pub pairs_of : Synchronized → ℕ → List (ℕ × ℕ)
 pairs_of i p = option_map_or (λ x. x.pairs) (pipe_named i p) []
 
 -- the vertex named v is a Q-vertex; its cell and its psi
-abbrev pub fixed_kind : Option Kind → Bool
-fixed_kind None = false
-fixed_kind (Some P) = false
-fixed_kind (Some (Q cell psi)) = true
+abbrev pub is_q_kind : Option Kind → Bool
+is_q_kind None = false
+is_q_kind (Some P) = false
+is_q_kind (Some (Q cell psi)) = true
 
-abbrev pub is_fixed : Synchronized → ℕ → Bool
-is_fixed i v = fixed_kind (kind_of i v)
+abbrev pub is_q : Synchronized → ℕ → Bool
+is_q i v = is_q_kind (kind_of i v)
 
 abbrev pub kind_cell : Kind → ℕ
 kind_cell P = 0
@@ -117,13 +117,13 @@ abbrev pub psi_at : Synchronized → ℕ → List ℕ
 psi_at i v = option_map_or kind_psi (kind_of i v) []
 
 -- a P-vertex
-abbrev pub IsFree : Synchronized → ℕ → Type 0
-IsFree i v = kind_of i v ≡ Some P
+abbrev pub IsPVertex : Synchronized → ℕ → Type 0
+IsPVertex i v = kind_of i v ≡ Some P
 
 -- the psi of a Q-vertex arranges its edges and begins with the least
 abbrev pub IsRightKind : NamedGraph → ℕ → Kind → Type 0
 IsRightKind g v P = Unit {0}
-IsRightKind g v (Q cell psi) = Arranges g v psi × (take 1 psi ≡ take 1 (graphs.edges_at g v))
+IsRightKind g v (Q cell psi) = ArrangesEdges g v psi × (take 1 psi ≡ take 1 (edges_at g v))
 
 -- the ends of a pipe are two different P-vertices
 pub record HasRightEnds (vs : List Vert) (p : Pipe) : Type 0 where
@@ -133,8 +133,8 @@ pub record HasRightEnds (vs : List Vert) (p : Pipe) : Type 0 where
 
 -- the pairs of a pipe tell one partner at b for each edge of a, rising by the edges of a
 pub record HasRightPairs (g : NamedGraph) (p : Pipe) : Type 0 where
-  pub first : map (λ x. x.0) p.pairs ≡ graphs.edges_at g p.a
-  pub second : Arranges g p.b (map (λ x. x.1) p.pairs)
+  pub first : map (λ x. x.0) p.pairs ≡ edges_at g p.a
+  pub second : ArrangesEdges g p.b (map (λ x. x.1) p.pairs)
 
 -- names rise, and each is below 9223372036854775808
 pub record AreNames (names : List ℕ) : Type 0 where

@@ -1,12 +1,21 @@
 pub mod Names
-pub mod Graphs
+pub mod NamedGraphs
+pub mod Bonds
+pub mod Rotations
 pub mod Instances
 pub mod Solutions
 pub mod Shapes
+pub mod Plantings
 pub mod Blocks
 pub mod Steps
+pub mod Changes
+pub mod Joins
+pub mod Propagations
 pub mod Effects
 pub mod Runs
+pub mod Reasons
 pub mod Rewrites
+pub mod Reductions
 pub mod Faults
+-- examples
 pub mod Rows

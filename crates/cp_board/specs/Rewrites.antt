@@ -11,7 +11,7 @@ use Rattle.cp_board.specs.declared.rewrite.EdgeMove.{EdgeMove}
 use Rattle.cp_board.specs.declared.rewrite.Rewrite.{Rewrite}
 use Rattle.cp_board.specs.Names.{has, AreNew}
 use Rattle.cp_board.specs.Instances.{Synchronized, IsSynchronized, vert_names, edge_names, pipe_names, cells, cell_of}
-use Rattle.cp_board.specs.Effects.{verts_by_name, edges_by_name, pipes_by_name, other_pipes}
+use Rattle.cp_board.specs.Changes.{verts_by_name, edges_by_name, pipes_by_name, other_pipes}
 
 -- the live names of a kind
 abbrev pub names_of : Synchronized → NameKind → List ℕ

@@ -5,7 +5,7 @@ use Rattle.cp_board.specs.declared.parts.Vert.{Vert}
 use Rattle.cp_board.specs.declared.parts.EdgeRow.{EdgeRow}
 use Rattle.cp_board.specs.declared.parts.Pipe.{Pipe}
 use Rattle.cp_board.specs.Names.{new_names, turned_to_least}
-use Rattle.cp_board.specs.Instances.{Synchronized, vert_names, edges_at}
+use Rattle.cp_board.specs.Instances.{Synchronized, vert_names, edges_of}
 use Rattle.cp_board.specs.Runs.{potential}
 
 abbrev pub vert : ℕ → Vert
@@ -76,7 +76,7 @@ last = record { verts = last_verts; edges = joined_edges; pipes = [] }
 first_new : new_names (vert_names first) 8 ≡ 6 ∷ 7 ∷ 8 ∷ 9 ∷ 10 ∷ 11 ∷ 12 ∷ 13 ∷ []
 first_new = refl
 
-first_edges_at : edges_at first 5 ≡ 0 ∷ 2 ∷ 4 ∷ 6 ∷ []
+first_edges_at : edges_of first 5 ≡ 0 ∷ 2 ∷ 4 ∷ 6 ∷ []
 first_edges_at = refl
 
 turned : turned_to_least (11 ∷ 9 ∷ 8 ∷ []) ≡ 8 ∷ 11 ∷ 9 ∷ []

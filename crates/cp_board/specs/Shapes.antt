@@ -1,5 +1,5 @@
--- Shapes of order trees (Booth and Lueker 1976).
-use Rattle.std.specs.Prelude.{ℕ, Bool, true, false, ◌&&◌, leb, List, [], ◌∷◌, ◌++◌, length, reverse}
+-- Shapes of order trees (Booth, Lueker 1976).
+use Rattle.std.specs.Prelude.{◌≡◌, ℕ, Bool, true, false, ◌&&◌, leb, List, [], ◌∷◌, ◌++◌, length, map, reverse}
 use Rattle.std.specs.List.{flat_map, list_all}
 use Rattle.std.specs.List.Sorted.{IsPermutation}
 use Rattle.cp_lists.specs.Turns.{IsTurn}
@@ -46,21 +46,6 @@ branches_step (Branch-F.Q kids) = leb 2 (length kids) && list_all (λ b. b) kids
 unfoldable pub branches : Branch → Bool
 branches = fold-Branch Bool branches_step
 
--- one inner node that is put in the place of a vertex: the new vertex, whether it is a Q-node, and its edges,
--- the one from above first and then those to the kids
-pub record Planted : Type 0 where
-  pub vertex : ℕ
-  pub fixed : Bool
-  pub edges : List ℕ
-
--- a branch below the edge `top` is planted: its inner nodes, each before its kids, take the vertices and the
--- edges from above in turn, and leaf x is the edge f x
-mutual
-  pub data Plants (f : ℕ → ℕ) : Branch → ℕ → List ℕ → List ℕ → List Planted → Type 0 where
-    leaf : (x : ℕ) → Plants f (Leaf x) (f x) [] [] []
-    free : (kids : List Branch) (top v : ℕ) (tops vs es : List ℕ) (rows : List Planted) → PlantsAll f kids tops vs es rows → Plants f (P kids) top (v ∷ vs) (top ∷ es) (record { vertex = v; fixed = false; edges = top ∷ tops } ∷ rows)
-    fixed : (kids : List Branch) (top v : ℕ) (tops vs es : List ℕ) (rows : List Planted) → PlantsAll f kids tops vs es rows → Plants f (Q kids) top (v ∷ vs) (top ∷ es) (record { vertex = v; fixed = true; edges = top ∷ tops } ∷ rows)
-
-  pub data PlantsAll (f : ℕ → ℕ) : List Branch → List ℕ → List ℕ → List ℕ → List Planted → Type 0 where
-    none : PlantsAll f [] [] [] [] []
-    more : (k : Branch) (ks : List Branch) (top : ℕ) (tops us vs ds es : List ℕ) (rows more_rows : List Planted) → Plants f k top us ds rows → PlantsAll f ks tops vs es more_rows → PlantsAll f (k ∷ ks) (top ∷ tops) (us ++ vs) (ds ++ es) (rows ++ more_rows)
+-- the branch is one P-node whose kids are leaves
+abbrev pub IsStar : Branch → Type 0
+IsStar body = (xs : List ℕ) × (body ≡ P (map Leaf xs))

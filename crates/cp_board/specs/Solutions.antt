@@ -6,7 +6,7 @@ use Rattle.cp_lists.specs.Turns.{IsTurn}
 use Rattle.cp_board.specs.declared.parts.Kind.TheVariants.{P, Q}
 use Rattle.cp_board.specs.declared.parts.Kind.{Kind}
 use Rattle.cp_board.specs.declared.parts.Pipe.{Pipe}
-use Rattle.cp_board.specs.Graphs.{IsRotationOf}
+use Rattle.cp_board.specs.Rotations.{IsRotationOf}
 use Rattle.cp_board.specs.Instances.{Synchronized, graph, vert_names}
 
 -- the list in the one or in the other direction

@@ -3,16 +3,15 @@ use Rattle.std.specs.Prelude.{◌≡◌, ◌≢◌, ◌⊎◌, ℕ, ◌<◌, ◌
 use Rattle.std.specs.List.{Contains}
 use Rattle.std.specs.Fn.{iterate}
 use Rattle.cp_board.specs.declared.parts.Pipe.{Pipe}
-use Rattle.cp_board.specs.declared.steps.Branch.{Branch}
-use Rattle.cp_board.specs.declared.steps.Branch.TheVariants.{Leaf, P}
 use Rattle.cp_board.specs.declared.steps.Shape.{Shape}
 use Rattle.cp_board.specs.declared.steps.Step.{Step}
 use Rattle.cp_board.specs.declared.steps.Step.TheVariants.{Small, FreePole, FusePoles, Toroidal, Join, Propagate}
 use Rattle.cp_board.specs.Names.{rising}
-use Rattle.cp_board.specs.Graphs.{IsBond, IsCut, GoesOn}
-use Rattle.cp_board.specs.Instances.{Synchronized, IsFree, edges_at, graph, pipe_named, pipe_at}
+use Rattle.cp_board.specs.NamedGraphs.{IsCut}
+use Rattle.cp_board.specs.Bonds.{IsBond, GoesOn}
+use Rattle.cp_board.specs.Instances.{Synchronized, IsPVertex, edges_of, graph, pipe_named, pipe_at}
 use Rattle.cp_board.specs.Solutions.{second_of, first_of}
-use Rattle.cp_board.specs.Shapes.{Admits, leaves, branches}
+use Rattle.cp_board.specs.Shapes.{Admits, IsStar, leaves, branches}
 use Rattle.cp_board.specs.Blocks.{IsBlockOrder}
 
 -- the number of pairs of a pipe
@@ -39,7 +38,8 @@ pub record IsCycleLength (m : ℕ → ℕ) (x k : ℕ) : Type 0 where
 
 -- m takes each edge x of the end a to the edge of a that goes on, along the bond, as the partner of x
 abbrev pub IsTurning : Synchronized → Pipe → (ℕ → ℕ) → Type 0
-IsTurning i p m = (x : ℕ) → Contains (edges_at i p.a) x → Contains (edges_at i p.a) (m x) × GoesOn (graph i) p.a p.b (m x) (second_of p x)
+IsTurning i p m = (x : ℕ) → Contains (edges_of i p.a) x
+    → Contains (edges_of i p.a) (m x) × GoesOn (graph i) p.a p.b (m x) (second_of p x)
 
 -- a bond of the two ends, all cycles of whose map have one length
 pub record IsToroidal (i : Synchronized) (p : Pipe) : Type 0 where
@@ -47,13 +47,13 @@ pub record IsToroidal (i : Synchronized) (p : Pipe) : Type 0 where
   pub turning : ℕ → ℕ
   pub is_turning : IsTurning i p turning
   pub size : ℕ
-  pub one_length : (x : ℕ) → Contains (edges_at i p.a) x → IsCycleLength turning x size
+  pub one_length : (x : ℕ) → Contains (edges_of i p.a) x → IsCycleLength turning x size
 
 -- the end u of pipe p and the pole v are a bond, and the pole has no pipe
 pub record IsFreePole (i : Synchronized) (p : Pipe) (u v : ℕ) : Type 0 where
   pub end : IsEnd p u
   pub bond : IsBond (graph i) u v
-  pub free : IsFree i v
+  pub free : IsPVertex i v
   pub unmatched : pipe_at i v ≡ None
 
 -- the end u of pipe p and the pole v are a bond, and the pole is an end of another pipe q of this degree
@@ -70,17 +70,13 @@ pub record IsJoinable (i : Synchronized) (p : Pipe) : Type 0 where
   pub cut_a : IsCut (graph i) p.a
   pub cut_b : IsCut (graph i) p.b
 
--- the body is one P-node whose kids are leaves
-abbrev pub IsStar : Branch → Type 0
-IsStar body = (xs : List ℕ) × (body ≡ P (map Leaf xs))
-
 -- the shape has the edges of u as its leaves, is more than a star, and admits each order that u has in its block
 pub record IsFitting (i : Synchronized) (p : Pipe) (u : ℕ) (shape : Shape) : Type 0 where
   pub end : IsEnd p u
   pub large : 4 ≤ degree p
   pub uncut : ¬ IsCut (graph i) u
   pub branching : branches shape.body ≡ true
-  pub leaves : rising (shape.root ∷ leaves shape.body) ≡ edges_at i u
+  pub leaves : rising (shape.root ∷ leaves shape.body) ≡ edges_of i u
   pub no_star : ¬ IsStar shape.body
   pub admits : (order : List ℕ) → IsBlockOrder i u order → Admits shape order
 
@@ -88,7 +84,8 @@ pub record IsFitting (i : Synchronized) (p : Pipe) (u : ℕ) (shape : Shape) : T
 abbrev pub Allowed : Synchronized → Step → Type 0
 Allowed i (Small pipe) = (p : Pipe) × (pipe_named i pipe ≡ Some p) × (degree p ≤ 3)
 Allowed i (FreePole pipe end pole) = (p : Pipe) × (pipe_named i pipe ≡ Some p) × IsFreePole i p end pole
-Allowed i (FusePoles pipe end pole) = (p : Pipe) × (pipe_named i pipe ≡ Some p) × ((q : Pipe) × IsFusible i p q end pole)
+Allowed i (FusePoles pipe end pole) =
+    (p : Pipe) × (pipe_named i pipe ≡ Some p) × ((q : Pipe) × IsFusible i p q end pole)
 Allowed i (Toroidal pipe) = (p : Pipe) × (pipe_named i pipe ≡ Some p) × IsToroidal i p
 Allowed i (Join pipe) = (p : Pipe) × (pipe_named i pipe ≡ Some p) × IsJoinable i p
 Allowed i (Propagate pipe end shape) = (p : Pipe) × (pipe_named i pipe ≡ Some p) × IsFitting i p end shape
