@@ -11,7 +11,7 @@ use Rattle.cp_orbits.specs.Classes.{labels}
 use Rattle.cp_lists.proofs.Counting.{count_agree, count_without, without_at, without_other}
 use Rattle.cp_orbits.proofs.ClassLabels.{labels-le, labels-keeps, Respects-from}
 use Rattle.cp_conn.specs.Darts.{start, finish, IsEntry, AreChained}
-use Rattle.cp_conn.specs.Search.{is_unmet, AreMet, AreNear, AreDone, GoesOn}
+use Rattle.cp_conn.specs.Search.{is_unmet, AreMet, AreNear, AreDone, HasGoneOn}
 use Rattle.cp_conn.proofs.DartChains.{dart_of, within_pair, within_joined, start_within, finish_within, labels_dart}
 
 -- a vertex without a label was not met
@@ -23,8 +23,8 @@ pub unmet_false : (n : ℕ) (least : List ℕ) (x : ℕ) → get_or least x 0 < 
 unmet_false n least x lt = ap not (lt-ltb (get_or least x 0) n lt)
 
 -- a vertex more is met
-pub GoesOn-one : (es : List (ℕ × ℕ)) (n : ℕ) (least queue : List ℕ) (to label : ℕ) → AreMet es n least queue → to < n → n ≤ get_or least to 0 → label < n → label ≡ labels es to → GoesOn es n least queue (set least to label) (queue ++ to ∷ [])
-GoesOn-one es n least queue to label met lt new low is = record {
+pub HasGoneOn-one : (es : List (ℕ × ℕ)) (n : ℕ) (least queue : List ℕ) (to label : ℕ) → AreMet es n least queue → to < n → n ≤ get_or least to 0 → label < n → label ≡ labels es to → HasGoneOn es n least queue (set least to label) (queue ++ to ∷ [])
+HasGoneOn-one es n least queue to label met lt new low is = record {
   met = record {
     size = length-set least to label ∙ met.size;
     bound = λ x ltx. ⊎_elim (λ e. omega (arith, at x e)) (λ ne. omega (arith, other x ne, met.bound x ltx)) (cases_eq x to);
@@ -63,8 +63,8 @@ GoesOn-one es n least queue to label met lt new low is = record {
         (cases_eq x to)
 
 -- no step
-pub GoesOn-same : (es : List (ℕ × ℕ)) (n : ℕ) (least queue : List ℕ) → AreMet es n least queue → GoesOn es n least queue least queue
-GoesOn-same es n least queue met = record {
+pub HasGoneOn-same : (es : List (ℕ × ℕ)) (n : ℕ) (least queue : List ℕ) → AreMet es n least queue → HasGoneOn es n least queue least queue
+HasGoneOn-same es n least queue met = record {
   met = met;
   stays = λ x lt m. m;
   longer_by = omega arith;
@@ -73,8 +73,8 @@ GoesOn-same es n least queue met = record {
 }
 
 -- one step and then another
-pub GoesOn-trans : (es : List (ℕ × ℕ)) (n : ℕ) (a p b q c r : List ℕ) → GoesOn es n a p b q → GoesOn es n b q c r → GoesOn es n a p c r
-GoesOn-trans es n a p b q c r one two = record {
+pub HasGoneOn-trans : (es : List (ℕ × ℕ)) (n : ℕ) (a p b q c r : List ℕ) → HasGoneOn es n a p b q → HasGoneOn es n b q c r → HasGoneOn es n a p c r
+HasGoneOn-trans es n a p b q c r one two = record {
   met = two.met;
   stays = λ x lt m. two.stays x lt (one.stays x lt m);
   longer_by = omega (arith, one.longer_by, two.longer_by);
@@ -87,7 +87,7 @@ pub AreNear-stays : (es : List (ℕ × ℕ)) (n : ℕ) (a b : List ℕ) (x : ℕ
 AreNear-stays es n a b x w stays near e y c j = stays y (within_joined n es e x y w c j) (near e y c j)
 
 -- what is done stays done
-pub AreDone-stays : (es : List (ℕ × ℕ)) (n : ℕ) (a p b q : List ℕ) (done : ℕ) → AreWithin n es → GoesOn es n a p b q → done ≤ length p → AreDone es n a p done → AreDone es n b q done
+pub AreDone-stays : (es : List (ℕ × ℕ)) (n : ℕ) (a p b q : List ℕ) (done : ℕ) → AreWithin n es → HasGoneOn es n a p b q → done ≤ length p → AreDone es n a p done → AreDone es n b q done
 AreDone-stays es n a p b q done w goes le all k lt = subst (AreNear es n b) (sym (goes.front k (omega arith))) (AreNear-stays es n a b (get_or p k 0) w goes.stays (all k lt))
 
 -- one more is done
@@ -96,7 +96,7 @@ AreDone-more es n a p done x all at near k lt = ⊎_elim (λ e. subst (AreNear e
 
 -- within the darts of a vertex: the entry is a dart of it or 0, and the ends of the darts from the entry on were met
 pub record Meeting (es : List (ℕ × ℕ)) (n : ℕ) (least queue more longer : List ℕ) (vertex entry : ℕ) : Type 0 where
-  pub goes : GoesOn es n least queue more longer
+  pub goes : HasGoneOn es n least queue more longer
   pub entry_within : entry ≤ 2 * length es
   pub starts : (d : ℕ) → suc d ≡ entry → start es d ≡ vertex
   pub higher : (d : ℕ) → entry ≤ d → d < 2 * length es → start es d ≡ vertex → get_or more (finish es d) 0 < n
@@ -104,16 +104,16 @@ pub record Meeting (es : List (ℕ × ℕ)) (n : ℕ) (least queue more longer :
 -- before the first dart
 pub Meeting-start : (es : List (ℕ × ℕ)) (n : ℕ) (least queue entries lower : List ℕ) (vertex : ℕ) → AreMet es n least queue → AreChained n es (2 * length es) entries lower → vertex < n → Meeting es n least queue least queue vertex (get_or entries vertex 0)
 Meeting-start es n least queue entries lower vertex met ch lt = record {
-  goes = GoesOn-same es n least queue met;
+  goes = HasGoneOn-same es n least queue met;
   entry_within = (ch.entry_of vertex lt).below;
   starts = (ch.entry_of vertex lt).starts;
   higher = λ d le l e. absurd ((ch.entry_of vertex lt).highest d le l e);
 }
 
 -- after a dart
-pub Meeting-more : (es : List (ℕ × ℕ)) (n : ℕ) (least queue a p b q entries lower : List ℕ) (vertex entry d : ℕ) → AreWithin n es → Meeting es n least queue a p vertex entry → suc d ≡ entry → AreChained n es (2 * length es) entries lower → GoesOn es n a p b q → get_or b (finish es d) 0 < n → Meeting es n least queue b q vertex (get_or lower d 0)
+pub Meeting-more : (es : List (ℕ × ℕ)) (n : ℕ) (least queue a p b q entries lower : List ℕ) (vertex entry d : ℕ) → AreWithin n es → Meeting es n least queue a p vertex entry → suc d ≡ entry → AreChained n es (2 * length es) entries lower → HasGoneOn es n a p b q → get_or b (finish es d) 0 < n → Meeting es n least queue b q vertex (get_or lower d 0)
 Meeting-more es n least queue a p b q entries lower vertex entry d w m is ch goes met = record {
-  goes = GoesOn-trans es n least queue a p b q m.goes goes;
+  goes = HasGoneOn-trans es n least queue a p b q m.goes goes;
   entry_within = omega (arith, link.below, m.entry_within);
   starts = λ k e. link.starts k e ∙ m.starts d is;
   higher = λ k le lt e. ⊎_elim (λ under. lower_ones k le under e) (λ above. upper_ones k above lt e) (cases_lt k (suc d));
@@ -175,9 +175,9 @@ AreMet-none es n = record {
 
 -- following a dart to a vertex that was not met
 pub follow_step : (es : List (ℕ × ℕ)) (n : ℕ) (least queue : List ℕ) (dart from to old label : ℕ) (longer : List ℕ) → AreWithin n es → AreMet es n least queue → dart < 2 * length es → get_or least (start es dart) 0 < n → from ≡ start es dart → to ≡ finish es dart
-    → old ≡ get_or least to old → n ≤ old → label ≡ get_or least from label → longer ≡ queue ++ to ∷ [] → GoesOn es n least queue (set least to label) longer
+    → old ≡ get_or least to old → n ≤ old → label ≡ get_or least from label → longer ≡ queue ++ to ∷ [] → HasGoneOn es n least queue (set least to label) longer
 follow_step es n least queue dart from to old label longer w met lt begun from_is to_is old_is new label_is longer_is =
-    subst (GoesOn es n least queue (set least to label)) (sym longer_is) (GoesOn-one es n least queue to label met to_lt (omega (arith, read_old)) (omega (arith, read_label, from_met)) label_of)
+    subst (HasGoneOn es n least queue (set least to label)) (sym longer_is) (HasGoneOn-one es n least queue to label met to_lt (omega (arith, read_old)) (omega (arith, read_label, from_met)) label_of)
   where
     to_lt : to < n
     to_lt = subst (λ (x : ℕ). x < n) (sym to_is) (finish_within n es dart w lt)
@@ -199,24 +199,24 @@ follow_step es n least queue dart from to old label longer w met lt begun from_i
 
 -- a search begins at a vertex that was not met
 pub visit_step : (es : List (ℕ × ℕ)) (n : ℕ) (least queue : List ℕ) (v old : ℕ) (longer : List ℕ) → AreWithin n es → AreMet es n least queue → AreDone es n least queue (length queue) → ((x : ℕ) → x < v → get_or least x 0 < n) → v < n
-    → old ≡ get_or least v old → n ≤ old → longer ≡ queue ++ v ∷ [] → GoesOn es n least queue (set least v v) longer
+    → old ≡ get_or least v old → n ≤ old → longer ≡ queue ++ v ∷ [] → HasGoneOn es n least queue (set least v v) longer
 visit_step es n least queue v old longer w met done lower lt old_is new longer_is =
-    subst (GoesOn es n least queue (set least v v)) (sym longer_is) (GoesOn-one es n least queue v v met lt unmet lt (root_label es n least queue v w met done lower unmet))
+    subst (HasGoneOn es n least queue (set least v v)) (sym longer_is) (HasGoneOn-one es n least queue v v met lt unmet lt (root_label es n least queue v w met done lower unmet))
   where
     unmet : n ≤ get_or least v 0
     unmet = omega (arith, get_or_read least v old (omega (arith, met.size)) old_is 0)
 
 -- where a search from a vertex ends, this vertex and the lower ones were met
-pub visit_end : (es : List (ℕ × ℕ)) (n : ℕ) (least queue : List ℕ) (v : ℕ) (longer a p : List ℕ) → AreMet es n least queue → ((x : ℕ) → x < v → get_or least x 0 < n) → v < n → GoesOn es n least queue (set least v v) longer → GoesOn es n (set least v v) longer a p → (x : ℕ) → x < v + 1 → get_or a x 0 < n
+pub visit_end : (es : List (ℕ × ℕ)) (n : ℕ) (least queue : List ℕ) (v : ℕ) (longer a p : List ℕ) → AreMet es n least queue → ((x : ℕ) → x < v → get_or least x 0 < n) → v < n → HasGoneOn es n least queue (set least v v) longer → HasGoneOn es n (set least v v) longer a p → (x : ℕ) → x < v + 1 → get_or a x 0 < n
 visit_end es n least queue v longer a p met lower lt one two x ltx =
     two.stays x (omega arith) (⊎_elim (λ e. omega (arith, ap (λ (k : ℕ). get_or (set least v v) k 0) e, get_or-set_same least v v 0 (omega (arith, met.size)))) (λ ne. one.stays x (omega arith) (lower x (omega arith))) (cases_eq x v))
 
 -- the neighbours of one more vertex of the queue were met
-pub run_step : (es : List (ℕ × ℕ)) (n k : ℕ) (least queue a p b q : List ℕ) (done vertex : ℕ) → k ≡ n → AreWithin n es → GoesOn es n least queue a p → done < length p → AreDone es n a p done → vertex ≡ get_or p done vertex → GoesOn es k a p b q → AreNear es k b vertex
-    → (GoesOn es n least queue b q) × (done + 1 ≤ length q) × AreDone es n b q (done + 1)
+pub run_step : (es : List (ℕ × ℕ)) (n k : ℕ) (least queue a p b q : List ℕ) (done vertex : ℕ) → k ≡ n → AreWithin n es → HasGoneOn es n least queue a p → done < length p → AreDone es n a p done → vertex ≡ get_or p done vertex → HasGoneOn es k a p b q → AreNear es k b vertex
+    → (HasGoneOn es n least queue b q) × (done + 1 ≤ length q) × AreDone es n b q (done + 1)
 run_step es n k least queue a p b q done vertex same w goes lt all vertex_is more near =
-    let goes_on : GoesOn es n a p b q = subst (λ (m : ℕ). GoesOn es m a p b q) same more in (
-      GoesOn-trans es n least queue a p b q goes goes_on,
+    let goes_on : HasGoneOn es n a p b q = subst (λ (m : ℕ). HasGoneOn es m a p b q) same more in (
+      HasGoneOn-trans es n least queue a p b q goes goes_on,
       omega (arith, goes_on.longer_by),
       AreDone-more es n b q done vertex (AreDone-stays es n a p b q done w goes_on (omega arith) all) (goes_on.front done lt ∙ sym (get_or_read p done vertex lt vertex_is 0)) (subst (λ (m : ℕ). AreNear es m b vertex) same near),
     )

@@ -7,3 +7,5 @@ pub mod FilteredLists
 pub mod MappedLists
 pub mod ReversedLists
 pub mod TurnedLists
+pub mod SmallTurns
+pub mod LeastItems
