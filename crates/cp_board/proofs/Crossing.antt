@@ -4,7 +4,7 @@ use Rattle.std.proofs.lemmas.Bool.{eqb-false}
 use Rattle.cp_orbits.specs.Classes.{labels}
 use Rattle.cp_conn.specs.CutVertex.{without_vertex}
 use Rattle.cp_conn.proofs.OneBlock.{one_block_at}
-use Rattle.cp_board.specs.NamedGraphs.{pairs}
+use Rattle.cp_conn.specs.NamedGraphs.{pairs}
 use Rattle.cp_board.specs.Instances.{Synchronized, graph, IsSynchronized}
 use Rattle.cp_board.specs.Blocks.{HaveCrossing}
 use Rattle.cp_board.specs.Rows.{vert, edge, fixed}

@@ -4,7 +4,7 @@ use Rattle.std.specs.List.{list_all}
 use Rattle.std.proofs.lemmas.Bool.{or_cases, and_parts, eqb-true, ltb-true, leb-true}
 use Rattle.cp_board.specs.declared.parts.Pipe.{Pipe}
 use Rattle.cp_board.specs.Runs.{IsDriven, IsLegal, done, more}
-use Rattle.cp_board.specs.NamedGraphs.{IsCut, pairs}
+use Rattle.cp_conn.specs.NamedGraphs.{IsCut, pairs}
 use Rattle.cp_board.specs.Instances.{Synchronized, IsSynchronized, graph, pipe_named}
 use Rattle.cp_board.specs.Steps.{Allowed, degree}
 use Rattle.cp_board.specs.Effects.{After}

@@ -3,10 +3,10 @@ use Rattle.std.proofs.Common.{◌≡◌, ℕ, suc, ◌+◌, Bool, true, List, []
 use Rattle.std.specs.Prelude.{◌&&◌, leb, map}
 use Rattle.std.specs.List.{flat_map, list_all}
 use Rattle.std.proofs.lemmas.List.{length-append, length-map}
-use Rattle.cp_board.specs.declared.steps.Branch.{Branch}
-use Rattle.cp_board.specs.declared.steps.Branch.TheVariants.{Leaf, P, Q, rolls-Leaf, rolls-P, rolls-Q}
-use Rattle.cp_board.specs.declared.steps.Branch.TheOpen.{Branch-F}
-use Rattle.cp_board.specs.declared.steps.Branch.TheFolds.{fold-roll-Branch}
+use Rattle.cp_base.specs.declared.shape.Branch.{Branch}
+use Rattle.cp_base.specs.declared.shape.Branch.TheVariants.{Leaf, P, Q, rolls-Leaf, rolls-P, rolls-Q}
+use Rattle.cp_base.specs.declared.shape.Branch.TheOpen.{Branch-F}
+use Rattle.cp_base.specs.declared.shape.Branch.TheFolds.{fold-roll-Branch}
 use Rattle.cp_board.specs.Names.{rising}
 use Rattle.cp_board.specs.Plantings.{Planted, Plants, PlantsAll}
 use Rattle.cp_board.specs.Shapes.{leaves, leaves_step, branches, branches_step, Reads, ReadsAll, Admits}

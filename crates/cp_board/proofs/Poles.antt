@@ -10,8 +10,8 @@ use Rattle.cp_board.specs.declared.parts.Pipe.{Pipe}
 use Rattle.cp_board.specs.declared.steps.Step.TheVariants.{FreePole, FusePoles, Toroidal}
 use Rattle.cp_board.specs.declared.steps.Reason.TheVariants.{CyclesDiffer}
 use Rattle.cp_board.specs.Names.{has}
-use Rattle.cp_board.specs.NamedGraphs.{NamedGraph, edges_at, far}
-use Rattle.cp_board.specs.Bonds.{IsBond, IsAlong}
+use Rattle.cp_conn.specs.NamedGraphs.{NamedGraph, edges_at, far}
+use Rattle.cp_conn.specs.Bonds.{IsBond, IsAlong}
 use Rattle.cp_board.specs.Instances.{Synchronized, graph, edges_of}
 use Rattle.cp_board.specs.Solutions.{second_of}
 use Rattle.cp_board.specs.Steps.{Allowed, IsTurning, IsCycleLength}

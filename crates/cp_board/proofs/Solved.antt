@@ -13,7 +13,7 @@ use Rattle.cp_lists.specs.Turns.{IsTurn}
 use Rattle.cp_rot.specs.Systems.{System, IsRotation, darts, edges, list_of}
 use Rattle.cp_rot.proofs.Functions.{HasGenusZero-from, IsZero}
 use Rattle.cp_board.specs.Names.{has, rising}
-use Rattle.cp_board.specs.NamedGraphs.{NamedGraph, edges_at}
+use Rattle.cp_conn.specs.NamedGraphs.{NamedGraph, edges_at}
 use Rattle.cp_board.specs.Rotations.{ArrangesEdges, IsRotationOf, system}
 use Rattle.cp_board.specs.Instances.{Synchronized, graph, vert_names}
 use Rattle.cp_board.specs.Solutions.{Solves, IsSolution, IsInDirection, IsMirror, second_of, list_in, directed}

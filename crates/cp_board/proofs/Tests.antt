@@ -14,7 +14,7 @@ use Rattle.cp_board.specs.declared.parts.Kind.TheVariants.{P, Q}
 use Rattle.cp_board.specs.declared.parts.EdgeRow.{EdgeRow}
 use Rattle.cp_board.specs.declared.parts.Pipe.{Pipe}
 use Rattle.cp_board.specs.Names.{has, rising}
-use Rattle.cp_board.specs.NamedGraphs.{NamedGraph, pairs, far, edges_at}
+use Rattle.cp_conn.specs.NamedGraphs.{NamedGraph, pairs, far, edges_at}
 use Rattle.cp_board.specs.Instances.{Synchronized, IsSynchronized, AreNames, IsRightKind, HasRightEnds, HasRightPairs, vert_names, edge_names, pipe_names, cells, edges_of, graph, kind_of}
 use Rattle.cp_board.specs.Joins.{ArePartsAt, part_of}
 use Rattle.cp_board.proofs.Named.{arranged, All-from_test, rises, IsStrictlyIncreasing-from_test, Contains-from_has, distinct, Distinct-from_test, same, same_lists}

@@ -9,7 +9,7 @@ use Rattle.cp_orbits.specs.Connected.{Joins}
 use Rattle.cp_orbits.proofs.ClassLabels.{Contains-cons_cases, connected_labels}
 use Rattle.cp_conn.specs.CutVertex.{without_vertex, IsNeighbour}
 use Rattle.cp_board.specs.declared.steps.Step.TheVariants.{Propagate}
-use Rattle.cp_board.specs.NamedGraphs.{NamedGraph, IsCut, pairs, edges_at, far}
+use Rattle.cp_conn.specs.NamedGraphs.{NamedGraph, IsCut, pairs, edges_at, far}
 use Rattle.cp_board.specs.Instances.{graph}
 use Rattle.cp_board.specs.Runs.{IsDriven}
 use Rattle.cp_board.proofs.Named.{All-from_test}

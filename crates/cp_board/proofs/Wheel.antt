@@ -1,7 +1,7 @@
 -- A wheel with four spokes, whose centre is an end of a pipe: Propagate makes two Q-vertices of it.
 use Rattle.std.proofs.Common.{ℕ, true, [], ◌∷◌, refl}
-use Rattle.cp_board.specs.declared.steps.Branch.TheVariants.{Leaf, Q}
-use Rattle.cp_board.specs.declared.steps.Shape.{Shape}
+use Rattle.cp_base.specs.declared.shape.Branch.TheVariants.{Leaf, Q}
+use Rattle.cp_base.specs.declared.shape.Shape.{Shape}
 use Rattle.cp_board.specs.declared.steps.Step.TheVariants.{Propagate}
 use Rattle.cp_board.specs.declared.parts.Pipe.{Pipe}
 use Rattle.cp_board.specs.Instances.{Synchronized, IsSynchronized}

@@ -5,7 +5,7 @@ use Rattle.cp_lists.specs.Turns.{IsTurn}
 use Rattle.cp_board.specs.declared.parts.Kind.TheVariants.{P, Q}
 use Rattle.cp_board.specs.declared.parts.Kind.{Kind}
 use Rattle.cp_board.specs.Rotations.{IsRotationOf}
-use Rattle.cp_board.specs.NamedGraphs.{IsBlockOf, InOneBlock, only}
+use Rattle.cp_conn.specs.NamedGraphs.{IsBlockOf, InOneBlock, only}
 use Rattle.cp_board.specs.Instances.{Synchronized, edge_names, edges_of, graph, kind_of}
 use Rattle.cp_board.specs.Solutions.{directed}
 

@@ -5,8 +5,9 @@ use Rattle.cp_board.specs.declared.parts.Kind.TheVariants.{Q}
 use Rattle.cp_board.specs.declared.parts.Pipe.{Pipe}
 use Rattle.cp_board.specs.declared.steps.Step.{Step}
 use Rattle.cp_board.specs.declared.steps.Step.TheVariants.{Small, FreePole, FusePoles, Toroidal, Join, Propagate}
-use Rattle.cp_board.specs.Names.{AreNew, turned_to_least}
-use Rattle.cp_board.specs.Bonds.{IsAlong}
+use Rattle.cp_lists.specs.Turns.{turned_to_least}
+use Rattle.cp_board.specs.Names.{AreNew}
+use Rattle.cp_conn.specs.Bonds.{IsAlong}
 use Rattle.cp_board.specs.Instances.{Synchronized, pipe_names, cells, edges_of, graph, pipe_named, pipe_at}
 use Rattle.cp_board.specs.Steps.{degree, opposite, partner}
 use Rattle.cp_board.specs.Changes.{IsWithoutPipe, with_kind, other_pipes, pipes_by_name, pairs_by_first}

@@ -9,7 +9,7 @@ use Rattle.cp_board.specs.declared.parts.Kind.TheVariants.{P, Q}
 use Rattle.cp_board.specs.declared.parts.Vert.{Vert}
 use Rattle.cp_board.specs.declared.parts.EdgeRow.{EdgeRow}
 use Rattle.cp_board.specs.declared.parts.Pipe.{Pipe}
-use Rattle.cp_board.specs.NamedGraphs.{NamedGraph, edges_at}
+use Rattle.cp_conn.specs.NamedGraphs.{NamedGraph, edges_at}
 use Rattle.cp_board.specs.Rotations.{ArrangesEdges}
 
 -- vertices, edges and pipes

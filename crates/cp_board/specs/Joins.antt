@@ -7,7 +7,7 @@ use Rattle.cp_conn.specs.CutVertex.{without_vertex}
 use Rattle.cp_board.specs.declared.parts.EdgeRow.{EdgeRow}
 use Rattle.cp_board.specs.declared.parts.Pipe.{Pipe}
 use Rattle.cp_board.specs.Names.{has, AreNew}
-use Rattle.cp_board.specs.NamedGraphs.{NamedGraph, pairs, edges_at, far, rank}
+use Rattle.cp_conn.specs.NamedGraphs.{NamedGraph, pairs, edges_at, far, rank}
 use Rattle.cp_board.specs.Instances.{Synchronized, vert_names, edge_names, pipe_names, edges_of, graph}
 use Rattle.cp_board.specs.Steps.{degree, partner}
 use Rattle.cp_board.specs.Changes.{verts_by_name, edges_by_name, pipes_by_name, other_verts, other_pipes, moved_edges, free_vert}

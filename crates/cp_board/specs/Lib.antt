@@ -1,6 +1,4 @@
 pub mod Names
-pub mod NamedGraphs
-pub mod Bonds
 pub mod Rotations
 pub mod Instances
 pub mod Solutions

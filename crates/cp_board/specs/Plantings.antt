@@ -4,8 +4,8 @@ use Rattle.std.specs.Prelude.{ℕ, Bool, true, false, not, List, [], ◌∷◌, 
 use Rattle.std.specs.List.{filter, find}
 use Rattle.std.specs.Option.{option_map_or}
 use Rattle.cp_board.specs.declared.parts.EdgeRow.{EdgeRow}
-use Rattle.cp_board.specs.declared.steps.Branch.{Branch}
-use Rattle.cp_board.specs.declared.steps.Branch.TheVariants.{Leaf, P, Q}
+use Rattle.cp_base.specs.declared.shape.Branch.{Branch}
+use Rattle.cp_base.specs.declared.shape.Branch.TheVariants.{Leaf, P, Q}
 use Rattle.cp_board.specs.Names.{has}
 
 -- one inner node that is put in the place of a vertex: the new vertex, whether it is a Q-node, and its edges,

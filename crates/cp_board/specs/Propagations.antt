@@ -5,8 +5,9 @@ use Rattle.std.specs.List.{zip}
 use Rattle.cp_board.specs.declared.parts.Kind.TheVariants.{Q}
 use Rattle.cp_board.specs.declared.parts.Vert.{Vert}
 use Rattle.cp_board.specs.declared.parts.Pipe.{Pipe}
-use Rattle.cp_board.specs.declared.steps.Shape.{Shape}
-use Rattle.cp_board.specs.Names.{AreNew, turned_to_least}
+use Rattle.cp_base.specs.declared.shape.Shape.{Shape}
+use Rattle.cp_lists.specs.Turns.{turned_to_least}
+use Rattle.cp_board.specs.Names.{AreNew}
 use Rattle.cp_board.specs.Instances.{Synchronized, vert_names, edge_names, pipe_names, cells}
 use Rattle.cp_board.specs.Steps.{opposite, partner}
 use Rattle.cp_board.specs.Plantings.{Planted, Plants, holder, tree_edges, free_nodes, fixed_nodes}

@@ -3,7 +3,7 @@ use Rattle.std.specs.Prelude.{◌≡◌, ◌≢◌, ℕ, ◌<◌, [], length, sl
 use Rattle.cp_board.specs.declared.parts.Pipe.{Pipe}
 use Rattle.cp_board.specs.declared.steps.Reason.{Reason}
 use Rattle.cp_board.specs.declared.steps.Reason.TheVariants.{NotPlanar, CyclesDiffer, BlocksCross, Conflict}
-use Rattle.cp_board.specs.Bonds.{IsBond}
+use Rattle.cp_conn.specs.Bonds.{IsBond}
 use Rattle.cp_board.specs.Instances.{Synchronized, edges_of, graph}
 use Rattle.cp_board.specs.Solutions.{IsSolvable}
 use Rattle.cp_board.specs.Blocks.{IsUnembeddable, HaveCrossing}

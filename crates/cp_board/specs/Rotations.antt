@@ -4,7 +4,7 @@ use Rattle.std.specs.List.{All, flat_map}
 use Rattle.std.specs.List.Sorted.{IsPermutation}
 use Rattle.cp_rot.specs.Systems.{System}
 use Rattle.cp_rot.specs.Genus.{HasGenusZero}
-use Rattle.cp_board.specs.NamedGraphs.{NamedGraph, edges_at, rank}
+use Rattle.cp_conn.specs.NamedGraphs.{NamedGraph, edges_at, rank}
 
 -- the list holds each edge of v exactly once, and nothing else
 abbrev pub ArrangesEdges : NamedGraph → ℕ → List ℕ → Type 0

@@ -4,7 +4,8 @@ use Rattle.cp_board.specs.declared.parts.Kind.TheVariants.{P, Q}
 use Rattle.cp_board.specs.declared.parts.Vert.{Vert}
 use Rattle.cp_board.specs.declared.parts.EdgeRow.{EdgeRow}
 use Rattle.cp_board.specs.declared.parts.Pipe.{Pipe}
-use Rattle.cp_board.specs.Names.{new_names, turned_to_least}
+use Rattle.cp_lists.specs.Turns.{turned_to_least}
+use Rattle.cp_board.specs.Names.{new_names}
 use Rattle.cp_board.specs.Instances.{Synchronized, vert_names, edges_of}
 use Rattle.cp_board.specs.Runs.{potential}
 

@@ -4,7 +4,7 @@ use Rattle.std.specs.List.{All, sum_by}
 use Rattle.cp_board.specs.declared.parts.Pipe.{Pipe}
 use Rattle.cp_board.specs.declared.steps.Step.{Step}
 use Rattle.cp_board.specs.declared.steps.Step.TheVariants.{Small, FreePole, FusePoles, Toroidal, Join, Propagate}
-use Rattle.cp_board.specs.NamedGraphs.{IsCut}
+use Rattle.cp_conn.specs.NamedGraphs.{IsCut}
 use Rattle.cp_board.specs.Instances.{Synchronized, graph, pipe_named}
 use Rattle.cp_board.specs.Steps.{degree, Allowed}
 use Rattle.cp_board.specs.Effects.{After}

@@ -3,11 +3,11 @@ use Rattle.std.specs.Prelude.{◌≡◌, ℕ, Bool, true, false, ◌&&◌, leb, 
 use Rattle.std.specs.List.{flat_map, list_all}
 use Rattle.std.specs.List.Sorted.{IsPermutation}
 use Rattle.cp_lists.specs.Turns.{IsTurn}
-use Rattle.cp_board.specs.declared.steps.Branch.{Branch}
-use Rattle.cp_board.specs.declared.steps.Branch.TheVariants.{Leaf, P, Q}
-use Rattle.cp_board.specs.declared.steps.Branch.TheOpen.{Branch-F}
-use Rattle.cp_board.specs.declared.steps.Branch.TheFolds.{fold-Branch}
-use Rattle.cp_board.specs.declared.steps.Shape.{Shape}
+use Rattle.cp_base.specs.declared.shape.Branch.{Branch}
+use Rattle.cp_base.specs.declared.shape.Branch.TheVariants.{Leaf, P, Q}
+use Rattle.cp_base.specs.declared.shape.Branch.TheOpen.{Branch-F}
+use Rattle.cp_base.specs.declared.shape.Branch.TheFolds.{fold-Branch}
+use Rattle.cp_base.specs.declared.shape.Shape.{Shape}
 
 -- a reading of a branch: of a leaf the leaf, of a P-node readings of its kids in any order, of a Q-node
 -- readings of its kids in the given order or its reverse

@@ -3,12 +3,12 @@ use Rattle.std.specs.Prelude.{◌≡◌, ◌≢◌, ◌⊎◌, ℕ, ◌<◌, ◌
 use Rattle.std.specs.List.{Contains}
 use Rattle.std.specs.Fn.{iterate}
 use Rattle.cp_board.specs.declared.parts.Pipe.{Pipe}
-use Rattle.cp_board.specs.declared.steps.Shape.{Shape}
+use Rattle.cp_base.specs.declared.shape.Shape.{Shape}
 use Rattle.cp_board.specs.declared.steps.Step.{Step}
 use Rattle.cp_board.specs.declared.steps.Step.TheVariants.{Small, FreePole, FusePoles, Toroidal, Join, Propagate}
 use Rattle.cp_board.specs.Names.{rising}
-use Rattle.cp_board.specs.NamedGraphs.{IsCut}
-use Rattle.cp_board.specs.Bonds.{IsBond, GoesOn}
+use Rattle.cp_conn.specs.NamedGraphs.{IsCut}
+use Rattle.cp_conn.specs.Bonds.{IsBond, GoesOn}
 use Rattle.cp_board.specs.Instances.{Synchronized, IsPVertex, edges_of, graph, pipe_named, pipe_at}
 use Rattle.cp_board.specs.Solutions.{second_of, first_of}
 use Rattle.cp_board.specs.Shapes.{Admits, IsStar, leaves, branches}

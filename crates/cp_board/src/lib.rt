@@ -8,4 +8,5 @@ mod steps;
 
 pub use parts::{EdgeRow, EdgeRows, Kind, NameKind, Pairs, Pipe, Pipes, Vert, Verts};
 pub use rewrite::{EdgeMove, Moves, Names, Rewrite};
-pub use steps::{Branch, Branches, Reason, Shape, Step, StepList};
+pub use cp_base::{Branch, Branches, Shape};
+pub use steps::{Reason, Step, StepList};
