@@ -1,10 +1,8 @@
 -- The pipe of greatest degree by its place, and the edges of a vertex by their rows.
-use Rattle.std.proofs.Common.{◌≡◌, ◌⊎◌, ℕ, zero, suc, ◌<◌, ◌≤◌, true, ◌||◌, eqb, ltb, List, [], ◌∷◌, length, refl, ◌∙◌, subst, inl, inr, ⊎_elim, arith}
+use Rattle.std.proofs.Common.{◌≡◌, ℕ, zero, suc, ◌<◌, ◌≤◌, true, ◌||◌, eqb, ltb, List, [], ◌∷◌, length, refl, ◌∙◌, arith}
 use Rattle.std.specs.Prelude.{find, map, Some, slice_index_or}
 use Rattle.std.proofs.lemmas.Bool.{and_parts, cond-true, cond-false, eq-eqb, ne_eqb, ltb-true}
-use Rattle.std.proofs.lemmas.List.{get_or_default}
-use Rattle.cp_board.specs.declared.parts.Pipe.{Pipe}
-use Rattle.cp_board.specs.Instances.{Synchronized, IsSynchronized, edge_names, edges_of, names_at, pipe_names}
+use Rattle.cp_board.specs.Instances.{Synchronized, IsSynchronized, edge_names, edges_of, names_at}
 use Rattle.cp_board.proofs.Named.{rises}
 use Rattle.cp_board.proofs.Laws.{rises_from}
 use Rattle.cp_board.proofs.Dropped.{under_all, under_all-rises, rises_after}

@@ -1,5 +1,5 @@
 -- What a reduction makes of an instance of synchronized planarity (Bläsius, Fink, Rutter 2021).
-use Rattle.std.specs.Prelude.{◌≡◌, ℕ, true, false, eqb, List, [], ◌∷◌, map, reverse, Some}
+use Rattle.std.specs.Prelude.{◌≡◌, ℕ, true, false, eqb, [], ◌∷◌, map, reverse, Some}
 use Rattle.cp_board.specs.declared.parts.Kind.{Kind}
 use Rattle.cp_board.specs.declared.parts.Kind.TheVariants.{Q}
 use Rattle.cp_board.specs.declared.parts.Pipe.{Pipe}

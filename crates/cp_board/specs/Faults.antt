@@ -16,7 +16,10 @@ pub data Part : Type 0 where
 
 -- vertices before edges and edges before pipes
 abbrev pub parts : Synchronized → List Part
-parts i = map VertAt (range_with_len 0 (length i.verts)) ++ map EdgeAt (range_with_len 0 (length i.edges)) ++ map PipeAt (range_with_len 0 (length i.pipes))
+parts i =
+    map VertAt (range_with_len 0 (length i.verts))
+    ++ map EdgeAt (range_with_len 0 (length i.edges))
+    ++ map PipeAt (range_with_len 0 (length i.pipes))
 
 abbrev pub name_of : Synchronized → Part → ℕ
 name_of i (VertAt k) = slice_index (vert_names i) k

@@ -44,7 +44,8 @@ part_pipes hat names outer inner parts = map (λ x. record {
 }) (zip names (zip outer (zip inner parts)))
 
 -- the new edge for edge x of the pipe's end a: from the inner vertex of its part to that of its partner's part
-abbrev pub bipartite_edge : Synchronized → Pipe → List ℕ → List (List ℕ) → List ℕ → List (List ℕ) → List ℕ → ℕ → EdgeRow
+abbrev pub bipartite_edge : Synchronized → Pipe → List ℕ → List (List ℕ) → List ℕ → List (List ℕ) → List ℕ → ℕ
+    → EdgeRow
 bipartite_edge i p hats parts_a inner_a parts_b inner_b x = record {
   name = edge_for i p hats x;
   a = vertex_for parts_a inner_a x;

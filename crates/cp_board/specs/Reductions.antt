@@ -11,12 +11,13 @@
 --   back                            where Allowed i step, and After i step j and IsSolution j after for some j:
 --                                                           IfOk result (IsSolution i)
 --   solve_free                      where i.pipes ≡ []:     Ok s: IsSolution i s;  Err reason: IsFirstReason i reason
---   solve_instance                  Solved s:               IsDrivenRun last first steps, last.pipes ≡ [], IsSolution first s
+--   solve_instance                  Solved s:               IsDrivenRun last first steps, last.pipes ≡ [],
+--                                                           IsSolution first s
 --                                   Failed reason:          IsDrivenRun last first steps, IsBlamed last reason,
 --                                                           ¬ IsSolvable first, ¬ IsSolvable last
 --
 -- and for each step, as laws: KeepsSolvable, LowersPotential, and IsSynchronized of the instance that it makes.
-use Rattle.std.specs.Prelude.{ℕ, ◌+◌, ◌*◌, ◌<◌, ◌≤◌, ◌↔◌}
+use Rattle.std.specs.Prelude.{◌+◌, ◌*◌, ◌<◌, ◌≤◌, ◌↔◌}
 use Rattle.cp_board.specs.declared.parts.Pipe.{Pipe}
 use Rattle.cp_board.specs.declared.rewrite.Rewrite.{Rewrite}
 use Rattle.cp_board.specs.declared.steps.Step.{Step}

@@ -10,7 +10,7 @@ use Rattle.cp_board.specs.declared.parts.EdgeRow.{EdgeRow}
 use Rattle.cp_board.specs.declared.rewrite.EdgeMove.{EdgeMove}
 use Rattle.cp_board.specs.declared.rewrite.Rewrite.{Rewrite}
 use Rattle.cp_board.specs.Names.{has, AreNew}
-use Rattle.cp_board.specs.Instances.{Synchronized, IsSynchronized, vert_names, edge_names, pipe_names, cells, cell_of}
+use Rattle.cp_board.specs.Instances.{Synchronized, IsSynchronized, names_of_verts, names_of_edges, vert_names, edge_names, pipe_names, cells, cell_of}
 use Rattle.cp_board.specs.Changes.{verts_by_name, edges_by_name, pipes_by_name, other_pipes}
 
 -- the live names of a kind
@@ -39,14 +39,23 @@ with_kinds kinds v = option_map_or (λ k. k) (find (λ k. eqb k.name v.name) kin
 -- the instance after a rewrite
 abbrev pub rewritten : Rewrite → Synchronized → Synchronized
 rewritten w i = record {
-  verts = verts_by_name (map (with_kinds w.set_kinds) (filter (λ v. not (has w.drop_verts v.name)) (i.verts ++ w.add_verts)));
+  verts = verts_by_name (map (with_kinds w.set_kinds)
+      (filter (λ v. not (has w.drop_verts v.name)) (i.verts ++ w.add_verts)));
   edges = edges_by_name (after_moves w.moves i.edges ++ w.add_edges);
   pipes = pipes_by_name (other_pipes i w.drop_pipes ++ w.add_pipes);
 }
 
 -- the rewrite that drops a pipe and nothing else
 abbrev pub dropping : ℕ → Rewrite
-dropping pipe = record { drop_pipes = pipe ∷ []; drop_verts = []; add_verts = []; set_kinds = []; moves = []; add_edges = []; add_pipes = [] }
+dropping pipe = record {
+  drop_pipes = pipe ∷ [];
+  drop_verts = [];
+  add_verts = [];
+  set_kinds = [];
+  moves = [];
+  add_edges = [];
+  add_pipes = [];
+}
 
 -- the edge is there, `from` is an end of it, and `to` is a vertex and not its other end
 pub record IsMove (verts : List ℕ) (es : List EdgeRow) (m : EdgeMove) : Type 0 where
@@ -66,17 +75,26 @@ abbrev pub first_ones : List ℕ → List ℕ → List ℕ
 first_ones seen [] = []
 first_ones seen (n ∷ ns) = cond (has seen n) (first_ones seen ns) (n ∷ first_ones (n ∷ seen) ns)
 
--- the rewrite fits the instance
+-- the live vertices and the new ones
+abbrev pub verts_with : Rewrite → Synchronized → List ℕ
+verts_with w i = vert_names i ++ names_of_verts w.add_verts
+
+-- the cells of the new vertices and of the new kinds, each at its first place, that are not live
+abbrev pub cells_added : Rewrite → Synchronized → List ℕ
+cells_added w i = first_ones (cells i) (flat_map (λ v. cell_of v.kind) (w.add_verts ++ w.set_kinds))
+
+-- the rewrite fits the instance: what it drops, moves and sets is there, the result keeps the rules, and new names
+-- of each kind are the least that are not live, in order
 pub record IsRewriteOf (i : Synchronized) (w : Rewrite) : Type 0 where
   pub pipes_live : All (Contains (pipe_names i)) w.drop_pipes
   pub pipes_once : Distinct w.drop_pipes
   pub verts_live : All (Contains (vert_names i)) w.drop_verts
   pub verts_once : Distinct w.drop_verts
-  pub moves : AreMoves (vert_names i ++ map (λ v. v.name) w.add_verts) i.edges w.moves
-  pub kinds_live : All (λ v. Contains (vert_names i ++ map (λ v. v.name) w.add_verts) v.name × ¬ Contains w.drop_verts v.name) w.set_kinds
+  pub moves : AreMoves (verts_with w i) i.edges w.moves
+  pub kinds_live : All (λ v. Contains (verts_with w i) v.name × ¬ Contains w.drop_verts v.name) w.set_kinds
   pub kinds_once : Distinct (map (λ v. v.name) w.set_kinds)
   pub rules : IsSynchronized (rewritten w i)
-  pub new_verts : AreNew (vert_names i) (map (λ v. v.name) w.add_verts)
-  pub new_edges : AreNew (edge_names i) (map (λ e. e.name) w.add_edges)
+  pub new_verts : AreNew (vert_names i) (names_of_verts w.add_verts)
+  pub new_edges : AreNew (edge_names i) (names_of_edges w.add_edges)
   pub new_pipes : AreNew (pipe_names i) (map (λ p. p.name) w.add_pipes)
-  pub new_cells : AreNew (cells i) (first_ones (cells i) (flat_map (λ v. cell_of v.kind) (w.add_verts ++ w.set_kinds)))
+  pub new_cells : AreNew (cells i) (cells_added w i)

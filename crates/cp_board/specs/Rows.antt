@@ -1,5 +1,5 @@
--- A clustered graph whose skeletons are solved by one Join and four Small, step by step.
-use Rattle.std.specs.Prelude.{◌≡◌, ℕ, pos, List, [], ◌∷◌, refl}
+-- The worked run: an instance that one Join and four Small lead to one without pipes, step by step.
+use Rattle.std.specs.Prelude.{◌≡◌, ℕ, List, [], ◌∷◌, refl}
 use Rattle.cp_board.specs.declared.parts.Kind.TheVariants.{P, Q}
 use Rattle.cp_board.specs.declared.parts.Vert.{Vert}
 use Rattle.cp_board.specs.declared.parts.EdgeRow.{EdgeRow}
@@ -27,12 +27,16 @@ first_pipe = pipe 0 2 5 ((1, 0) ∷ (3, 2) ∷ (5, 4) ∷ (7, 6) ∷ [])
 abbrev pub first : Synchronized
 first = record {
   verts = vert 0 ∷ vert 1 ∷ vert 2 ∷ vert 3 ∷ vert 4 ∷ vert 5 ∷ [];
-  edges = edge 0 3 5 ∷ edge 1 2 0 ∷ edge 2 3 5 ∷ edge 3 2 0 ∷ edge 4 3 5 ∷ edge 5 2 1 ∷ edge 6 4 5 ∷ edge 7 2 0 ∷ [];
+  edges =
+      edge 0 3 5 ∷ edge 1 2 0 ∷ edge 2 3 5 ∷ edge 3 2 0
+      ∷ edge 4 3 5 ∷ edge 5 2 1 ∷ edge 6 4 5 ∷ edge 7 2 0 ∷ [];
   pipes = first_pipe ∷ [];
 }
 
 abbrev pub joined_edges : List EdgeRow
-joined_edges = edge 0 3 10 ∷ edge 1 6 0 ∷ edge 2 3 10 ∷ edge 3 6 0 ∷ edge 4 3 10 ∷ edge 5 7 1 ∷ edge 6 4 11 ∷ edge 7 6 0 ∷ edge 8 8 12 ∷ edge 9 8 12 ∷ edge 10 9 12 ∷ edge 11 8 13 ∷ []
+joined_edges =
+    edge 0 3 10 ∷ edge 1 6 0 ∷ edge 2 3 10 ∷ edge 3 6 0 ∷ edge 4 3 10 ∷ edge 5 7 1 ∷ edge 6 4 11 ∷ edge 7 6 0
+    ∷ edge 8 8 12 ∷ edge 9 8 12 ∷ edge 10 9 12 ∷ edge 11 8 13 ∷ []
 
 abbrev pub pipe_1 : Pipe
 pipe_1 = pipe 1 6 8 ((1, 8) ∷ (3, 9) ∷ (7, 11) ∷ [])
@@ -49,7 +53,9 @@ pipe_4 = pipe 4 11 13 ((6, 11) ∷ [])
 -- after the Join
 abbrev pub joined : Synchronized
 joined = record {
-  verts = vert 0 ∷ vert 1 ∷ vert 3 ∷ vert 4 ∷ vert 6 ∷ vert 7 ∷ vert 8 ∷ vert 9 ∷ vert 10 ∷ vert 11 ∷ vert 12 ∷ vert 13 ∷ [];
+  verts =
+      vert 0 ∷ vert 1 ∷ vert 3 ∷ vert 4 ∷ vert 6 ∷ vert 7
+      ∷ vert 8 ∷ vert 9 ∷ vert 10 ∷ vert 11 ∷ vert 12 ∷ vert 13 ∷ [];
   edges = joined_edges;
   pipes = pipe_1 ∷ pipe_2 ∷ pipe_3 ∷ pipe_4 ∷ [];
 }
@@ -57,13 +63,19 @@ joined = record {
 -- after the Small at pipe 1, then at pipe 3, then at pipe 2
 abbrev pub second : Synchronized
 second = record {
-  verts = vert 0 ∷ vert 1 ∷ vert 3 ∷ vert 4 ∷ fixed 6 0 (1 ∷ 3 ∷ 7 ∷ []) ∷ vert 7 ∷ fixed 8 0 (8 ∷ 11 ∷ 9 ∷ []) ∷ vert 9 ∷ vert 10 ∷ vert 11 ∷ vert 12 ∷ vert 13 ∷ [];
+  verts =
+      vert 0 ∷ vert 1 ∷ vert 3 ∷ vert 4
+      ∷ fixed 6 0 (1 ∷ 3 ∷ 7 ∷ []) ∷ vert 7 ∷ fixed 8 0 (8 ∷ 11 ∷ 9 ∷ []) ∷ vert 9
+      ∷ vert 10 ∷ vert 11 ∷ vert 12 ∷ vert 13 ∷ [];
   edges = joined_edges;
   pipes = pipe_2 ∷ pipe_3 ∷ pipe_4 ∷ [];
 }
 
 abbrev pub last_verts : List Vert
-last_verts = vert 0 ∷ vert 1 ∷ vert 3 ∷ vert 4 ∷ fixed 6 0 (1 ∷ 3 ∷ 7 ∷ []) ∷ vert 7 ∷ fixed 8 0 (8 ∷ 11 ∷ 9 ∷ []) ∷ vert 9 ∷ fixed 10 1 (0 ∷ 2 ∷ 4 ∷ []) ∷ vert 11 ∷ fixed 12 1 (8 ∷ 10 ∷ 9 ∷ []) ∷ vert 13 ∷ []
+last_verts =
+    vert 0 ∷ vert 1 ∷ vert 3 ∷ vert 4
+    ∷ fixed 6 0 (1 ∷ 3 ∷ 7 ∷ []) ∷ vert 7 ∷ fixed 8 0 (8 ∷ 11 ∷ 9 ∷ []) ∷ vert 9
+    ∷ fixed 10 1 (0 ∷ 2 ∷ 4 ∷ []) ∷ vert 11 ∷ fixed 12 1 (8 ∷ 10 ∷ 9 ∷ []) ∷ vert 13 ∷ []
 
 abbrev pub third : Synchronized
 third = record { verts = last_verts; edges = joined_edges; pipes = pipe_2 ∷ pipe_4 ∷ [] }

@@ -1,5 +1,5 @@
 -- Shapes of order trees (Booth, Lueker 1976).
-use Rattle.std.specs.Prelude.{◌≡◌, ℕ, Bool, true, false, ◌&&◌, leb, List, [], ◌∷◌, ◌++◌, length, map, reverse}
+use Rattle.std.specs.Prelude.{◌≡◌, ℕ, Bool, true, ◌&&◌, leb, List, [], ◌∷◌, ◌++◌, length, map, reverse}
 use Rattle.std.specs.List.{flat_map, list_all}
 use Rattle.std.specs.List.Sorted.{IsPermutation}
 use Rattle.cp_lists.specs.Turns.{IsTurn}
@@ -14,13 +14,19 @@ use Rattle.cp_base.specs.declared.shape.Shape.{Shape}
 mutual
   pub data Reads : Branch → List ℕ → Type 0 where
     leaf : (x : ℕ) → Reads (Leaf x) (x ∷ [])
-    any_order : (kids turn : List Branch) (xs : List ℕ) → IsPermutation kids turn → ReadsAll turn xs → Reads (P kids) xs
+    any_order : (kids order : List Branch) (xs : List ℕ)
+        → IsPermutation kids order
+        → ReadsAll order xs
+        → Reads (P kids) xs
     forward : (kids : List Branch) (xs : List ℕ) → ReadsAll kids xs → Reads (Q kids) xs
     backward : (kids : List Branch) (xs : List ℕ) → ReadsAll (reverse kids) xs → Reads (Q kids) xs
 
   pub data ReadsAll : List Branch → List ℕ → Type 0 where
     none : ReadsAll [] []
-    more : (k : Branch) (ks : List Branch) (xs ys : List ℕ) → Reads k xs → ReadsAll ks ys → ReadsAll (k ∷ ks) (xs ++ ys)
+    more : (k : Branch) (ks : List Branch) (xs ys : List ℕ)
+        → Reads k xs
+        → ReadsAll ks ys
+        → ReadsAll (k ∷ ks) (xs ++ ys)
 
 -- the shape admits a cyclic order: it is the root followed by a reading of the body
 pub record Admits (shape : Shape) (order : List ℕ) : Type 0 where

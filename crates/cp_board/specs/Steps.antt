@@ -1,5 +1,5 @@
 -- When a reduction is allowed (Bläsius, Fink and Rutter 2021).
-use Rattle.std.specs.Prelude.{◌≡◌, ◌≢◌, ◌⊎◌, ℕ, ◌<◌, ◌≤◌, true, cond, eqb, List, ◌∷◌, length, map, Some, None}
+use Rattle.std.specs.Prelude.{◌≡◌, ◌≢◌, ◌⊎◌, ℕ, ◌<◌, ◌≤◌, true, cond, eqb, List, ◌∷◌, length, Some, None}
 use Rattle.std.specs.List.{Contains}
 use Rattle.std.specs.Fn.{iterate}
 use Rattle.cp_board.specs.declared.parts.Pipe.{Pipe}
