@@ -14,7 +14,8 @@ use Rattle.cp_conn.specs.NamedGraphs.{NamedGraph, edges_at, far}
 use Rattle.cp_conn.specs.Bonds.{IsBond, IsAlong}
 use Rattle.cp_board.specs.Instances.{Synchronized, graph, edges_of}
 use Rattle.cp_board.specs.Solutions.{second_of}
-use Rattle.cp_board.specs.Steps.{Allowed, IsTurning, IsCycleLength}
+use Rattle.cp_board.specs.Steps.{Allowed, IsTurning}
+use Rattle.cp_orbits.specs.Orbits.{CycleLength}
 use Rattle.cp_board.specs.Effects.{After}
 use Rattle.cp_board.specs.Reasons.{IsBlamed}
 use Rattle.cp_board.specs.Rows.{vert, edge, pipe}
@@ -47,7 +48,7 @@ parallel_along g u v t e c = inl (far_is g u v t e c, refl)
 abbrev has_length : (ℕ → ℕ) → ℕ → ℕ → Bool
 has_length m k x = ltb 0 k && (eqb (iterate m k x) x && list_all (λ n. not (eqb (iterate m (n + 1) x) x)) (range_with_len 0 (k - 1)))
 
-has_length_tells : (m : ℕ → ℕ) (k x : ℕ) → has_length m k x ≡ true → IsCycleLength m x k
+has_length_tells : (m : ℕ → ℕ) (k x : ℕ) → has_length m k x ≡ true → CycleLength m x k
 has_length_tells m k x t =
     let h = and_parts (ltb 0 k) (eqb (iterate m k x) x && list_all (λ n. not (eqb (iterate m (n + 1) x) x)) (range_with_len 0 (k - 1))) t in
     let h2 = and_parts (eqb (iterate m k x) x) (list_all (λ n. not (eqb (iterate m (n + 1) x) x)) (range_with_len 0 (k - 1))) h.1 in
@@ -55,7 +56,7 @@ has_length_tells m k x t =
     record {
       some = ltb-true 0 k h.0;
       returns = eqb-true (iterate m k x) x h2.0;
-      least = λ n pos lt. subst (λ z. iterate m z x ≢ x) (let e : get_or (range_with_len 0 (k - 1)) (n - 1) 0 + 1 ≡ n = omega (arith, get_or-range_with_len 0 (k - 1) (n - 1) 0 (omega arith)) in e) (each (n - 1) 0 (omega (arith, length-range_with_len 0 (k - 1))));
+      first = λ n pos lt. subst (λ z. iterate m z x ≢ x) (let e : get_or (range_with_len 0 (k - 1)) (n - 1) 0 + 1 ≡ n = omega (arith, get_or-range_with_len 0 (k - 1) (n - 1) 0 (omega arith)) in e) (each (n - 1) 0 (omega (arith, length-range_with_len 0 (k - 1))));
     }
 
 -- the pairs turn each edge into an edge of the same end
@@ -80,7 +81,7 @@ even_allowed = (
     turning = second_of even;
     is_turning = turning even_bond even refl refl;
     size = 2;
-    one_length = λ x c. All-contains (λ x. IsCycleLength (second_of even) x 2) (edges_of even_bond 0) x (All-from_test (λ x. IsCycleLength (second_of even) x 2) (has_length (second_of even) 2) (has_length_tells (second_of even) 2) (edges_of even_bond 0) refl) c;
+    one_length = λ x c. All-contains (λ x. CycleLength (second_of even) x 2) (edges_of even_bond 0) x (All-from_test (λ x. CycleLength (second_of even) x 2) (has_length (second_of even) 2) (has_length_tells (second_of even) 2) (edges_of even_bond 0) refl) c;
   },
 )
 
@@ -111,7 +112,7 @@ odd_blamed = (
   },
 )
   where
-    below_one : (k : ℕ) → k < 1 → IsCycleLength (second_of odd) (slice_index (edges_of odd_bond 0) k) 1
+    below_one : (k : ℕ) → k < 1 → CycleLength (second_of odd) (slice_index (edges_of odd_bond 0) k) 1
     below_one zero lt = has_length_tells (second_of odd) 1 0 refl
     below_one (suc k) lt = absurd (omega arith)
 

@@ -7,7 +7,8 @@ use Rattle.cp_conn.specs.Bonds.{IsBond}
 use Rattle.cp_board.specs.Instances.{Synchronized, edges_of, graph}
 use Rattle.cp_board.specs.Solutions.{IsSolvable}
 use Rattle.cp_board.specs.Blocks.{IsUnembeddable, HaveCrossing}
-use Rattle.cp_board.specs.Steps.{IsTurning, IsCycleLength}
+use Rattle.cp_board.specs.Steps.{IsTurning}
+use Rattle.cp_orbits.specs.Orbits.{CycleLength}
 use Rattle.cp_board.specs.Runs.{IsGreatest}
 
 -- two cycles of the pipe's map differ: that of the least edge of its end a has length a, and that of the least
@@ -17,9 +18,9 @@ pub record HaveUnequalCycles (i : Synchronized) (p : Pipe) (a b : ℕ) : Type 0 
   pub is_turning : IsTurning i p turning
   pub place : ℕ
   pub within : place < length (edges_of i p.a)
-  pub first : IsCycleLength turning (slice_index (edges_of i p.a) 0) a
-  pub before : (k : ℕ) → k < place → IsCycleLength turning (slice_index (edges_of i p.a) k) a
-  pub other : IsCycleLength turning (slice_index (edges_of i p.a) place) b
+  pub first : CycleLength turning (slice_index (edges_of i p.a) 0) a
+  pub before : (k : ℕ) → k < place → CycleLength turning (slice_index (edges_of i p.a) k) a
+  pub other : CycleLength turning (slice_index (edges_of i p.a) place) b
   pub differ : a ≢ b
 
 -- the pipe of greatest degree and least name joins the two vertices of a bond, and two cycles of its map differ

@@ -1,7 +1,7 @@
 -- When a reduction is allowed (Bläsius, Fink and Rutter 2021).
-use Rattle.std.specs.Prelude.{◌≡◌, ◌≢◌, ◌⊎◌, ℕ, ◌<◌, ◌≤◌, true, cond, eqb, List, ◌∷◌, length, Some, None}
+use Rattle.std.specs.Prelude.{◌≡◌, ◌≢◌, ◌⊎◌, ℕ, ◌≤◌, true, cond, eqb, List, ◌∷◌, length, Some, None}
 use Rattle.std.specs.List.{Contains}
-use Rattle.std.specs.Fn.{iterate}
+use Rattle.cp_orbits.specs.Orbits.{CycleLength}
 use Rattle.cp_board.specs.declared.parts.Pipe.{Pipe}
 use Rattle.cp_base.specs.declared.shape.Shape.{Shape}
 use Rattle.cp_board.specs.declared.steps.Step.{Step}
@@ -30,12 +30,6 @@ partner p u x = cond (eqb p.a u) (second_of p x) (first_of p x)
 abbrev pub IsEnd : Pipe → ℕ → Type 0
 IsEnd p v = (p.a ≡ v) ⊎ (p.b ≡ v)
 
--- k is the least number of times, at least one, after which repeating m leads from x to x
-pub record IsCycleLength (m : ℕ → ℕ) (x k : ℕ) : Type 0 where
-  pub some : 0 < k
-  pub returns : iterate m k x ≡ x
-  pub least : (n : ℕ) → 0 < n → n < k → iterate m n x ≢ x
-
 -- m takes each edge x of the end a to the edge of a that goes on, along the bond, as the partner of x
 abbrev pub IsTurning : Synchronized → Pipe → (ℕ → ℕ) → Type 0
 IsTurning i p m = (x : ℕ) → Contains (edges_of i p.a) x
@@ -47,7 +41,7 @@ pub record IsToroidal (i : Synchronized) (p : Pipe) : Type 0 where
   pub turning : ℕ → ℕ
   pub is_turning : IsTurning i p turning
   pub size : ℕ
-  pub one_length : (x : ℕ) → Contains (edges_of i p.a) x → IsCycleLength turning x size
+  pub one_length : (x : ℕ) → Contains (edges_of i p.a) x → CycleLength turning x size
 
 -- the end u of pipe p and the pole v are a bond, and the pole has no pipe
 pub record IsFreePole (i : Synchronized) (p : Pipe) (u v : ℕ) : Type 0 where
