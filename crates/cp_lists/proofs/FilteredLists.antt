@@ -59,6 +59,18 @@ filter_agree p q (x ∷ xs) same =
     (λ fx. filter_no p x xs fx ∙ rest ∙ sym (filter_no q x xs (sym (same x (inl refl)) ∙ fx)))
     (cases_Bool (p x))
 
+-- two tests one after the other are one test
+pub filter_twice : (p q r : ℕ → Bool) (xs : List ℕ) → ((x : ℕ) → r x ≡ (p x && q x)) → filter q (filter p xs) ≡ filter r xs
+filter_twice p q r [] both = refl
+filter_twice p q r (x ∷ xs) both =
+    ⊎_elim
+    (λ t. ap (filter q) (filter_yes p x xs t) ∙ ⊎_elim
+    (λ u. filter_yes q x (filter p xs) u ∙ ap (λ ys. x ∷ ys) (filter_twice p q r xs both) ∙ sym (filter_yes r x xs (both x ∙ ap₂ (λ a b. a && b) t u)))
+    (λ u. filter_no q x (filter p xs) u ∙ filter_twice p q r xs both ∙ sym (filter_no r x xs (both x ∙ ap₂ (λ a b. a && b) t u)))
+    (cases_Bool (q x)))
+    (λ u. ap (filter q) (filter_no p x xs u) ∙ filter_twice p q r xs both ∙ sym (filter_no r x xs (both x ∙ ap (λ a. a && q x) u)))
+    (cases_Bool (p x))
+
 -- new numbers for what passes one test, and then for what passes another
 pub map_filtered : (s t g : ℕ → ℕ) (p q k : ℕ → Bool) (xs : List ℕ) → ((d : ℕ) → g d ≡ t (s d)) → ((d : ℕ) → k d ≡ (p d && q (s d))) → map t (filter q (map s (filter p xs))) ≡ map g (filter k xs)
 map_filtered s t g p q k [] one both = refl
