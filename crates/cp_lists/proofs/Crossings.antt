@@ -9,7 +9,7 @@ use Rattle.cp_lists.specs.Turns.{IsTurn}
 use Rattle.cp_lists.specs.Crossings.{InOrder, Crosses, NoCross}
 use Rattle.cp_lists.proofs.FilteredLists.{filter_yes, filter_no}
 use Rattle.cp_lists.proofs.TurnedLists.{turn_parts, parts_of_turn, turn_from_parts, turn-refl, turn-sym, turn-trans, turn-map, turn-reverse, Has-of_turn}
-use Rattle.cp_lists.proofs.Orders.{order_append, order_Has, order_split, order_cut, order_reverse, order_map, map_order, filter_order}
+use Rattle.cp_lists.proofs.Orders.{order_right, order_append, order_Has, order_split, order_cut, order_reverse, order_map, map_order, filter_order}
 
 -- items that stand crosswise in one list stand so in another of which a turn has them in that order
 crossed : (p q : ℕ → Bool) (xs ys zs : List ℕ) → (cross : Crosses p q xs) → IsTurn ys zs →
@@ -211,3 +211,79 @@ NoCross-from class xs none w x y z order one two =
       fourth_passes = eq-eqb (class z) (class x) (sym two);
     })))
     (cases_eq (class w) (class x))
+
+-- a turn that begins with the first item, with what stands between the four
+pub parts_of_Crosses : (p q : ℕ → Bool) (xs : List ℕ) → (cross : Crosses p q xs) →
+    (us : List ℕ) × (vs : List ℕ) × (ws : List ℕ) × (zs : List ℕ)
+    × IsTurn xs (cross.first ∷ (us ++ cross.second ∷ (vs ++ cross.third ∷ (ws ++ cross.fourth ∷ zs))))
+parts_of_Crosses p q xs cross =
+    let a = order_cut cross.first (cross.second ∷ cross.third ∷ cross.fourth ∷ []) cross.turned cross.order in
+    let b = order_cut cross.second (cross.third ∷ cross.fourth ∷ []) a.1 a.3 in
+    let c = order_cut cross.third (cross.fourth ∷ []) b.1 b.3 in
+    let d = order_cut cross.fourth [] c.1 c.3 in
+    let third : c.1 ++ a.0 ≡ d.0 ++ cross.fourth ∷ (d.1 ++ a.0) = ap (λ l. l ++ a.0) d.2 ∙ append_assoc d.0 (cross.fourth ∷ d.1) a.0 in
+    let second : b.1 ++ a.0 ≡ c.0 ++ cross.third ∷ (d.0 ++ cross.fourth ∷ (d.1 ++ a.0)) =
+        ap (λ l. l ++ a.0) c.2 ∙ append_assoc c.0 (cross.third ∷ c.1) a.0 ∙ ap (λ l. c.0 ++ cross.third ∷ l) third
+    in
+    let first : a.1 ++ a.0 ≡ b.0 ++ cross.second ∷ (c.0 ++ cross.third ∷ (d.0 ++ cross.fourth ∷ (d.1 ++ a.0))) =
+        ap (λ l. l ++ a.0) b.2 ∙ append_assoc b.0 (cross.second ∷ b.1) a.0 ∙ ap (λ l. b.0 ++ cross.second ∷ l) second
+    in
+    let around : IsTurn cross.turned (cross.first ∷ (a.1 ++ a.0)) =
+        turn_from_parts cross.turned (cross.first ∷ (a.1 ++ a.0)) a.0 (cross.first ∷ a.1) a.2 refl
+    in (
+      b.0,
+      c.0,
+      d.0,
+      d.1 ++ a.0,
+      subst (λ l. IsTurn xs (cross.first ∷ l)) first (turn-trans xs cross.turned (cross.first ∷ (a.1 ++ a.0)) cross.turn around),
+    )
+
+-- a list of which a turn has the four so stands crosswise
+pub Crosses-from_parts : (p q : ℕ → Bool) (xs : List ℕ) (a b c d : ℕ) (us vs ws zs : List ℕ) →
+    IsTurn xs (a ∷ (us ++ b ∷ (vs ++ c ∷ (ws ++ d ∷ zs)))) → p a ≡ true → q b ≡ true → p c ≡ true → q d ≡ true → Crosses p q xs
+Crosses-from_parts p q xs a b c d us vs ws zs turn pa qb pc qd = record {
+  first = a;
+  second = b;
+  third = c;
+  fourth = d;
+  turned = a ∷ (us ++ b ∷ (vs ++ c ∷ (ws ++ d ∷ zs)));
+  turn = turn;
+  order = inl (refl, order_right (b ∷ c ∷ d ∷ []) us (b ∷ (vs ++ c ∷ (ws ++ d ∷ zs)))
+      (inl (refl, order_right (c ∷ d ∷ []) vs (c ∷ (ws ++ d ∷ zs))
+      (inl (refl, order_right (d ∷ []) ws (d ∷ zs) (inl (refl, tt)))))));
+  first_passes = pa;
+  second_passes = qb;
+  third_passes = pc;
+  fourth_passes = qd;
+}
+
+-- classes that do not stand crosswise do not so in a turn
+pub NoCross-turn : (class : ℕ → ℕ) (xs ys : List ℕ) → IsTurn xs ys → NoCross class xs → NoCross class ys
+NoCross-turn class xs ys turn apart w x y z order one two =
+    let t = parts_of_turn xs ys turn in
+    let s = order_split (w ∷ x ∷ y ∷ z ∷ []) t.1 t.0 (subst (InOrder (w ∷ x ∷ y ∷ z ∷ [])) t.3 order) in
+    by s.0 s.1 s.2 (subst (InOrder (s.1 ++ s.0)) (sym t.2) (order_append s.1 s.0 t.0 t.1 s.4 s.3))
+  where
+    by : (us vs : List ℕ) → w ∷ x ∷ y ∷ z ∷ [] ≡ us ++ vs → InOrder (vs ++ us) xs → class w ≡ class x
+    by [] vs e h =
+        apart w x y z (subst (λ l. InOrder l xs) (sym (ap (λ l. drop 0 l ++ take 0 l) e)) h) one two
+    by (a ∷ []) vs e h =
+        one ∙ sym (apart x y z w (subst (λ l. InOrder l xs) (sym (ap (λ l. drop 1 l ++ take 1 l) e)) h) two (sym one))
+    by (a ∷ b ∷ []) vs e h =
+        one ∙ apart y z w x (subst (λ l. InOrder l xs) (sym (ap (λ l. drop 2 l ++ take 2 l) e)) h) (sym one) (sym two) ∙ sym two
+    by (a ∷ b ∷ c ∷ []) vs e h =
+        sym (apart z w x y (subst (λ l. InOrder l xs) (sym (ap (λ l. drop 3 l ++ take 3 l) e)) h) (sym two) one) ∙ sym two
+    by (a ∷ b ∷ c ∷ d ∷ []) vs e h =
+        apart w x y z (subst (λ l. InOrder l xs) (sym (ap (λ l. drop 4 l ++ take 4 l) e)) h) one two
+    by (a ∷ b ∷ c ∷ d ∷ f ∷ us) vs e h = absurd cc
+
+-- of classes that do not stand crosswise no two different ones cross
+pub NoCross-uncrossed : (class : ℕ → ℕ) (xs : List ℕ) (k m : ℕ) → NoCross class xs → k ≢ m →
+    Crosses (λ x. eqb (class x) k) (λ x. eqb (class x) m) xs → ⊥
+NoCross-uncrossed class xs k m apart ne cross =
+    let one : class cross.first ≡ k = eqb-true (class cross.first) k cross.first_passes in
+    let two : class cross.second ≡ m = eqb-true (class cross.second) m cross.second_passes in
+    let three : class cross.third ≡ k = eqb-true (class cross.third) k cross.third_passes in
+    let four : class cross.fourth ≡ m = eqb-true (class cross.fourth) m cross.fourth_passes in
+    ne (sym one ∙ NoCross-turn class xs cross.turned cross.turn apart cross.first cross.second cross.third cross.fourth cross.order
+    (one ∙ sym three) (two ∙ sym four) ∙ two)

@@ -8,15 +8,15 @@ use Rattle.cp_lists.proofs.DistinctLists.{Has-append_cases, Has-append_right}
 use Rattle.cp_lists.proofs.Orders.{order_right, order_append, order_one}
 
 -- a run of a class that stands nowhere else
-pub record Run (cls : ℕ → ℕ) (l : List ℕ) : Type 0 where
+pub record Run (class : ℕ → ℕ) (l : List ℕ) : Type 0 where
   pub before : List ℕ
   pub first : ℕ
   pub others : List ℕ
   pub behind : List ℕ
   pub whole : l ≡ before ++ ((first ∷ others) ++ behind)
-  pub one : (d : ℕ) → Has d others → cls d ≡ cls first
-  pub none_before : (d : ℕ) → Has d before → cls d ≢ cls first
-  pub none_behind : (d : ℕ) → Has d behind → cls d ≢ cls first
+  pub one : (d : ℕ) → Has d others → class d ≡ class first
+  pub none_before : (d : ℕ) → Has d before → class d ≢ class first
+  pub none_behind : (d : ℕ) → Has d behind → class d ≢ class first
 
 -- up to the first item that passes a test
 first_passing : (p : ℕ → Bool) (l : List ℕ) → (g : List ℕ) × (s : List ℕ) × (l ≡ g ++ s) × ((d : ℕ) → Has d g → p d ≡ false) × ((s ≡ []) ⊎ ((z : ℕ) × (t : List ℕ) × (s ≡ z ∷ t) × (p z ≡ true)))
@@ -31,10 +31,10 @@ other_class : (a b : ℕ) → not (eqb a b) ≡ false → a ≡ b
 other_class a b h = ⊎_elim (λ t. eqb-true a b t) (λ u. absurd (false≢true (sym h ∙ ap not u))) (cases_Bool (eqb a b))
 
 -- in a list of fewer than n others
-run_below : (n : ℕ) (cls : ℕ → ℕ) (x : ℕ) (l : List ℕ) → length l < n → NoCross cls (x ∷ l) → Run cls (x ∷ l)
-run_below zero cls x l lt apart = absurd (omega arith)
-run_below (suc n) cls x l lt apart =
-    let s : (g : List ℕ) × (s : List ℕ) × (l ≡ g ++ s) × ((d : ℕ) → Has d g → not (eqb (cls d) (cls x)) ≡ false) × ((s ≡ []) ⊎ ((z : ℕ) × (t : List ℕ) × (s ≡ z ∷ t) × (not (eqb (cls z) (cls x)) ≡ true))) = first_passing (λ d. not (eqb (cls d) (cls x))) l in
+run_below : (n : ℕ) (class : ℕ → ℕ) (x : ℕ) (l : List ℕ) → length l < n → NoCross class (x ∷ l) → Run class (x ∷ l)
+run_below zero class x l lt apart = absurd (omega arith)
+run_below (suc n) class x l lt apart =
+    let s : (g : List ℕ) × (s : List ℕ) × (l ≡ g ++ s) × ((d : ℕ) → Has d g → not (eqb (class d) (class x)) ≡ false) × ((s ≡ []) ⊎ ((z : ℕ) × (t : List ℕ) × (s ≡ z ∷ t) × (not (eqb (class z) (class x)) ≡ true))) = first_passing (λ d. not (eqb (class d) (class x))) l in
     ⊎_elim
     (λ (e : s.1 ≡ []). record {
       before = [];
@@ -42,17 +42,17 @@ run_below (suc n) cls x l lt apart =
       others = s.0;
       behind = [];
       whole = ap (λ ws. x ∷ ws) (s.2 ∙ ap (λ ws. s.0 ++ ws) e);
-      one = λ d h. other_class (cls d) (cls x) (s.3 d h);
+      one = λ d h. other_class (class d) (class x) (s.3 d h);
       none_before = λ d h. absurd h;
       none_behind = λ d h. absurd h;
     })
-    (λ (w : (z : ℕ) × (t : List ℕ) × (s.1 ≡ z ∷ t) × (not (eqb (cls z) (cls x)) ≡ true)).
-    gap (λ y g lt' no'. run_below n cls y g lt' no') s.0 w.0 w.1 (s.2 ∙ ap (λ ws. s.0 ++ ws) w.2) (λ d h. other_class (cls d) (cls x) (s.3 d h)) (λ h. false≢true (sym (ap not (eq-eqb (cls w.0) (cls x) h)) ∙ w.3)))
+    (λ (w : (z : ℕ) × (t : List ℕ) × (s.1 ≡ z ∷ t) × (not (eqb (class z) (class x)) ≡ true)).
+    gap (λ y g lt' no'. run_below n class y g lt' no') s.0 w.0 w.1 (s.2 ∙ ap (λ ws. s.0 ++ ws) w.2) (λ d h. other_class (class d) (class x) (s.3 d h)) (λ h. false≢true (sym (ap not (eq-eqb (class w.0) (class x) h)) ∙ w.3)))
     s.4
   where
-    gap : ((y : ℕ) (g : List ℕ) → length g < n → NoCross cls (y ∷ g) → Run cls (y ∷ g)) → (p : List ℕ) (y : ℕ) (r : List ℕ) → l ≡ p ++ y ∷ r → ((d : ℕ) → Has d p → cls d ≡ cls x) → cls y ≢ cls x → Run cls (x ∷ l)
+    gap : ((y : ℕ) (g : List ℕ) → length g < n → NoCross class (y ∷ g) → Run class (y ∷ g)) → (p : List ℕ) (y : ℕ) (r : List ℕ) → l ≡ p ++ y ∷ r → ((d : ℕ) → Has d p → class d ≡ class x) → class y ≢ class x → Run class (x ∷ l)
     gap again p y r whole same differ =
-        let s : (g : List ℕ) × (s : List ℕ) × (r ≡ g ++ s) × ((d : ℕ) → Has d g → eqb (cls d) (cls x) ≡ false) × ((s ≡ []) ⊎ ((z : ℕ) × (t : List ℕ) × (s ≡ z ∷ t) × (eqb (cls z) (cls x) ≡ true))) = first_passing (λ d. eqb (cls d) (cls x)) r in
+        let s : (g : List ℕ) × (s : List ℕ) × (r ≡ g ++ s) × ((d : ℕ) → Has d g → eqb (class d) (class x) ≡ false) × ((s ≡ []) ⊎ ((z : ℕ) × (t : List ℕ) × (s ≡ z ∷ t) × (eqb (class z) (class x) ≡ true))) = first_passing (λ d. eqb (class d) (class x)) r in
         ⊎_elim
         (λ (e : s.1 ≡ []). record {
           before = [];
@@ -62,17 +62,17 @@ run_below (suc n) cls x l lt apart =
           whole = ap (λ ws. x ∷ ws) whole;
           one = same;
           none_before = λ d h. absurd h;
-          none_behind = λ d h. ⊎_elim (λ q. subst (λ v. cls v ≢ cls x) q differ) (λ k. eqb-false (cls d) (cls x) (s.3 d (subst (Has d) (s.2 ∙ ap (λ ws. s.0 ++ ws) e ∙ append-nil s.0) k))) h;
+          none_behind = λ d h. ⊎_elim (λ q. subst (λ v. class v ≢ class x) q differ) (λ k. eqb-false (class d) (class x) (s.3 d (subst (Has d) (s.2 ∙ ap (λ ws. s.0 ++ ws) e ∙ append-nil s.0) k))) h;
         })
-        (λ (w : (z : ℕ) × (t : List ℕ) × (s.1 ≡ z ∷ t) × (eqb (cls z) (cls x) ≡ true)).
+        (λ (w : (z : ℕ) × (t : List ℕ) × (s.1 ≡ z ∷ t) × (eqb (class z) (class x) ≡ true)).
         let parts : x ∷ l ≡ (x ∷ p) ++ ((y ∷ s.0) ++ w.0 ∷ w.1) = ap (λ ws. x ∷ ws) (whole ∙ ap (λ ws. p ++ y ∷ ws) (s.2 ∙ ap (λ ws. s.0 ++ ws) w.2)) in
         let size : length l ≡ length p + (suc (length s.0 + suc (length w.1))) = ap length (whole ∙ ap (λ ws. p ++ y ∷ ws) (s.2 ∙ ap (λ ws. s.0 ++ ws) w.2)) ∙ length-append p (y ∷ (s.0 ++ w.0 ∷ w.1)) ∙ ap (λ k. length p + suc k) (length-append s.0 (w.0 ∷ w.1)) in
-        let inner : Run cls (y ∷ s.0) = again y s.0 (omega arith) (λ a b c d h. apart a b c d (subst (InOrder (a ∷ b ∷ c ∷ d ∷ [])) (sym parts)
+        let inner : Run class (y ∷ s.0) = again y s.0 (omega arith) (λ a b c d h. apart a b c d (subst (InOrder (a ∷ b ∷ c ∷ d ∷ [])) (sym parts)
         (order_right (a ∷ b ∷ c ∷ d ∷ []) (x ∷ p) ((y ∷ s.0) ++ w.0 ∷ w.1) (order_append (a ∷ b ∷ c ∷ d ∷ []) [] (y ∷ s.0) (w.0 ∷ w.1) h tt)))) in
-        outer p y s.0 w.0 w.1 parts same differ (λ d h. eqb-false (cls d) (cls x) (s.3 d h)) (eqb-true (cls w.0) (cls x) w.3) inner)
+        outer p y s.0 w.0 w.1 parts same differ (λ d h. eqb-false (class d) (class x) (s.3 d h)) (eqb-true (class w.0) (class x) w.3) inner)
         s.4
       where
-        outer : (p : List ℕ) (y : ℕ) (g : List ℕ) (z : ℕ) (t : List ℕ) → x ∷ l ≡ (x ∷ p) ++ ((y ∷ g) ++ z ∷ t) → ((d : ℕ) → Has d p → cls d ≡ cls x) → cls y ≢ cls x → ((d : ℕ) → Has d g → cls d ≢ cls x) → cls z ≡ cls x → Run cls (y ∷ g) → Run cls (x ∷ l)
+        outer : (p : List ℕ) (y : ℕ) (g : List ℕ) (z : ℕ) (t : List ℕ) → x ∷ l ≡ (x ∷ p) ++ ((y ∷ g) ++ z ∷ t) → ((d : ℕ) → Has d p → class d ≡ class x) → class y ≢ class x → ((d : ℕ) → Has d g → class d ≢ class x) → class z ≡ class x → Run class (y ∷ g) → Run class (x ∷ l)
         outer p y g z t parts same differ far back run = record {
           before = (x ∷ p) ++ run.before;
           first = run.first;
@@ -83,12 +83,12 @@ run_below (suc n) cls x l lt apart =
               ∙ sym (append_assoc (x ∷ p) run.before ((run.first ∷ run.others) ++ (run.behind ++ z ∷ t)));
           one = run.one;
           none_before = λ d h. ⊎_elim
-              (λ k e. inside (sym e ∙ ⊎_elim (λ q. ap cls (sym q)) (λ q. same d q) k))
+              (λ k e. inside (sym e ∙ ⊎_elim (λ q. ap class (sym q)) (λ q. same d q) k))
               (λ k. run.none_before d k)
               (Has-append_cases d (x ∷ p) run.before h);
           none_behind = λ d h. ⊎_elim
               (λ k. run.none_behind d k)
-              (λ k. ⊎_elim (λ q e. inside (sym e ∙ ap cls (sym q) ∙ back)) (λ q e. inside (sym (apart x run.first z d (subst (InOrder (x ∷ run.first ∷ z ∷ d ∷ [])) (sym parts)
+              (λ k. ⊎_elim (λ q e. inside (sym e ∙ ap class (sym q) ∙ back)) (λ q e. inside (sym (apart x run.first z d (subst (InOrder (x ∷ run.first ∷ z ∷ d ∷ [])) (sym parts)
               (order_append (x ∷ []) (run.first ∷ z ∷ d ∷ []) (x ∷ p) ((y ∷ g) ++ z ∷ t) (inl (refl, tt))
               (order_append (run.first ∷ []) (z ∷ d ∷ []) (y ∷ g) (z ∷ t) (order_one run.first (y ∷ g) in_gap) (inl (refl, order_one d t q))))) (sym back) (sym e)))) k)
               (Has-append_cases d run.behind (z ∷ t) h);
@@ -97,9 +97,9 @@ run_below (suc n) cls x l lt apart =
             in_gap : Has run.first (y ∷ g)
             in_gap = subst (Has run.first) (sym run.whole) (Has-append_right run.first run.before ((run.first ∷ run.others) ++ run.behind) (inl refl))
 
-            inside : cls run.first ≢ cls x
-            inside = ⊎_elim (λ q. subst (λ v. cls v ≢ cls x) q differ) (λ k. far run.first k) in_gap
+            inside : class run.first ≢ class x
+            inside = ⊎_elim (λ q. subst (λ v. class v ≢ class x) q differ) (λ k. far run.first k) in_gap
 
 -- a list whose classes do not cross has a run of a class that stands nowhere else
-pub least_run : (cls : ℕ → ℕ) (x : ℕ) (l : List ℕ) → NoCross cls (x ∷ l) → Run cls (x ∷ l)
-least_run cls x l apart = run_below (suc (length l)) cls x l (omega arith) apart
+pub least_run : (class : ℕ → ℕ) (x : ℕ) (l : List ℕ) → NoCross class (x ∷ l) → Run class (x ∷ l)
+least_run class x l apart = run_below (suc (length l)) class x l (omega arith) apart
