@@ -1,5 +1,5 @@
 -- What keeps items from standing crosswise in a cyclic list.
-use Rattle.std.proofs.Common.{◌≡◌, ◌≢◌, ℕ, zero, suc, ◌⊎◌, Bool, true, eqb, List, [], ◌∷◌, ◌++◌, drop, take, map, reverse, append_assoc, sym, refl, ap, ap₂, ◌∙◌, subst, inl, inr, ⊎_elim}
+use Rattle.std.proofs.Common.{◌≡◌, ◌≢◌, ℕ, Bool, true, eqb, List, [], ◌∷◌, ◌++◌, drop, take, map, reverse, append_assoc, sym, refl, ap, ap₂, ◌∙◌, subst, inl, inr, ⊎_elim}
 use Rattle.std.specs.List.{filter}
 use Rattle.std.proofs.lemmas.Bool.{cases_Bool, cases_eq, eq-eqb, eqb-true}
 use Rattle.std.proofs.lemmas.List.{map-append, reverse-reverse}
@@ -8,7 +8,7 @@ use Rattle.cp_lists.specs.CyclicLists.{Has, head_or}
 use Rattle.cp_lists.specs.Turns.{IsTurn}
 use Rattle.cp_lists.specs.Crossings.{InOrder, Crosses, NoCross}
 use Rattle.cp_lists.proofs.FilteredLists.{filter_yes, filter_no}
-use Rattle.cp_lists.proofs.TurnedLists.{turn_parts, parts_of_turn, turn_from_parts, turn-refl, turn-sym, turn-trans, turn-map, turn-reverse, Has-of_turn}
+use Rattle.cp_lists.proofs.TurnedLists.{parts_of_turn, turn_from_parts, turn-refl, turn-sym, turn-trans, turn-map, turn-reverse, Has-of_turn}
 use Rattle.cp_lists.proofs.Orders.{order_right, order_append, order_Has, order_split, order_cut, order_reverse, order_map, map_order, filter_order}
 
 -- items that stand crosswise in one list stand so in another of which a turn has them in that order
@@ -223,13 +223,13 @@ parts_of_Crosses p q xs cross =
     let d = order_cut cross.fourth [] c.1 c.3 in
     let third : c.1 ++ a.0 ≡ d.0 ++ cross.fourth ∷ (d.1 ++ a.0) = ap (λ l. l ++ a.0) d.2 ∙ append_assoc d.0 (cross.fourth ∷ d.1) a.0 in
     let second : b.1 ++ a.0 ≡ c.0 ++ cross.third ∷ (d.0 ++ cross.fourth ∷ (d.1 ++ a.0)) =
-        ap (λ l. l ++ a.0) c.2 ∙ append_assoc c.0 (cross.third ∷ c.1) a.0 ∙ ap (λ l. c.0 ++ cross.third ∷ l) third
+    ap (λ l. l ++ a.0) c.2 ∙ append_assoc c.0 (cross.third ∷ c.1) a.0 ∙ ap (λ l. c.0 ++ cross.third ∷ l) third
     in
     let first : a.1 ++ a.0 ≡ b.0 ++ cross.second ∷ (c.0 ++ cross.third ∷ (d.0 ++ cross.fourth ∷ (d.1 ++ a.0))) =
-        ap (λ l. l ++ a.0) b.2 ∙ append_assoc b.0 (cross.second ∷ b.1) a.0 ∙ ap (λ l. b.0 ++ cross.second ∷ l) second
+    ap (λ l. l ++ a.0) b.2 ∙ append_assoc b.0 (cross.second ∷ b.1) a.0 ∙ ap (λ l. b.0 ++ cross.second ∷ l) second
     in
     let around : IsTurn cross.turned (cross.first ∷ (a.1 ++ a.0)) =
-        turn_from_parts cross.turned (cross.first ∷ (a.1 ++ a.0)) a.0 (cross.first ∷ a.1) a.2 refl
+    turn_from_parts cross.turned (cross.first ∷ (a.1 ++ a.0)) a.0 (cross.first ∷ a.1) a.2 refl
     in (
       b.0,
       c.0,
@@ -248,9 +248,15 @@ Crosses-from_parts p q xs a b c d us vs ws zs turn pa qb pc qd = record {
   fourth = d;
   turned = a ∷ (us ++ b ∷ (vs ++ c ∷ (ws ++ d ∷ zs)));
   turn = turn;
-  order = inl (refl, order_right (b ∷ c ∷ d ∷ []) us (b ∷ (vs ++ c ∷ (ws ++ d ∷ zs)))
-      (inl (refl, order_right (c ∷ d ∷ []) vs (c ∷ (ws ++ d ∷ zs))
-      (inl (refl, order_right (d ∷ []) ws (d ∷ zs) (inl (refl, tt)))))));
+  order = inl (
+    refl,
+    order_right (b ∷ c ∷ d ∷ []) us (b ∷ (vs ++ c ∷ (ws ++ d ∷ zs)))
+        (inl (
+          refl,
+          order_right (c ∷ d ∷ []) vs (c ∷ (ws ++ d ∷ zs))
+              (inl (refl, order_right (d ∷ []) ws (d ∷ zs) (inl (refl, tt)))),
+        )),
+  );
   first_passes = pa;
   second_passes = qb;
   third_passes = pc;

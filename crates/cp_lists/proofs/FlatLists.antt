@@ -1,9 +1,9 @@
 -- Several lists one behind the other.
-use Rattle.std.proofs.Common.{◌≡◌, ℕ, zero, suc, ◌<◌, Bool, List, [], ◌∷◌, ◌++◌, length, map, get_or, append_assoc, sym, refl, ap, ap₂, ◌∙◌, inl, ⊎_elim, arith}
+use Rattle.std.proofs.Common.{◌≡◌, ℕ, zero, suc, ◌<◌, Bool, List, [], ◌∷◌, ◌++◌, length, map, get_or, append_assoc, sym, refl, ap, ◌∙◌, ⊎_elim, arith}
 use Rattle.std.specs.List.{filter}
 use Rattle.std.proofs.lemmas.List.{map-append}
 use Rattle.std.proofs.lemmas.List.Elements.{filter-append}
-use Rattle.cp_lists.specs.CyclicLists.{Has, Lacks, Distinct, but}
+use Rattle.cp_lists.specs.CyclicLists.{Has, Distinct, but}
 use Rattle.cp_lists.specs.Rows.{flat}
 use Rattle.cp_lists.proofs.DistinctLists.{Has-append_left, Has-append_right, Has-append_cases, Distinct-append_left, Distinct-append_right, Distinct-apart, but-append, has_lacks}
 

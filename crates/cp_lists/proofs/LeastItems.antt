@@ -1,13 +1,13 @@
 -- The least items of a list, and lists that are turned to the first of them.
-use Rattle.std.proofs.Common.{◌≡◌, ℕ, zero, suc, ◌-◌, ◌<◌, ◌≤◌, ◌⊎◌, Bool, true, false, leb, List, [], ◌∷◌, ◌++◌, length, take, drop, slice_index, sym, refl, ap, ◌∙◌, subst, inl, inr, ⊎_elim, arith, length-append}
-use Rattle.std.specs.List.{list_all, position_or_len}
-use Rattle.std.proofs.lemmas.Bool.{cases_lt, le-leb, lt-leb, leb-true, and_from, and_left, and_right, and_parts}
+use Rattle.std.proofs.Common.{◌≡◌, ℕ, zero, suc, ◌-◌, ◌<◌, ◌≤◌, Bool, true, false, leb, List, [], ◌∷◌, ◌++◌, length, take, drop, slice_index, sym, refl, ap, ◌∙◌, subst, inl, inr, ⊎_elim, arith}
+use Rattle.std.specs.List.{list_all}
+use Rattle.std.proofs.lemmas.Bool.{cases_lt, le-leb, lt-leb, and_from, and_left, and_right}
 use Rattle.std.proofs.lemmas.List.{nil_from_length}
 use Rattle.std.proofs.lemmas.List.Sums.{position_or_len_is}
-use Rattle.cp_lists.specs.CyclicLists.{Has, Distinct, head_or}
+use Rattle.cp_lists.specs.CyclicLists.{Has, Distinct}
 use Rattle.cp_lists.specs.Turns.{IsTurn, least_place, turned_to_least}
 use Rattle.cp_lists.proofs.DistinctLists.{Has_at, Has-place}
-use Rattle.cp_lists.proofs.TurnedLists.{parts_of_turn, turn-length, turn-sym, turn-trans, turn-Distinct, Has-of_turn, turn_to_item-unique}
+use Rattle.cp_lists.proofs.TurnedLists.{turn-length, turn-sym, turn-trans, turn-Distinct, Has-of_turn, turn_to_item-unique}
 
 -- a test that each item passes is passed by all
 pub list_all-from : (p : ℕ → Bool) (xs : List ℕ) → ((x : ℕ) → Has x xs → p x ≡ true) → list_all p xs ≡ true

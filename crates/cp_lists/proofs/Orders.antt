@@ -1,5 +1,5 @@
 -- Items that stand in a list in an order.
-use Rattle.std.proofs.Common.{◌≡◌, ℕ, ◌⊎◌, Bool, true, List, [], ◌∷◌, ◌++◌, map, reverse, append-nil, append_assoc, sym, refl, ap, ap₂, ◌∙◌, subst, inl, inr, ⊎_elim}
+use Rattle.std.proofs.Common.{◌≡◌, ℕ, Bool, List, [], ◌∷◌, ◌++◌, map, reverse, append-nil, sym, refl, ap, ap₂, ◌∙◌, subst, inl, inr, ⊎_elim}
 use Rattle.std.specs.List.{filter}
 use Rattle.std.proofs.lemmas.Bool.{cases_Bool}
 use Rattle.cp_lists.specs.CyclicLists.{Has}

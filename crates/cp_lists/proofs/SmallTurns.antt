@@ -1,6 +1,6 @@
 -- Turns of lists of at most three items.
 use Rattle.std.proofs.Common.{◌≡◌, ◌≢◌, ℕ, ◌<◌, ◌≤◌, ◌⊎◌, ◌↔◌, List, [], ◌∷◌, length, sym, refl, ap, ◌∙◌, subst, inl, inr, ⊎_elim, arith}
-use Rattle.cp_lists.specs.CyclicLists.{Has, Lacks, Distinct, head_or}
+use Rattle.cp_lists.specs.CyclicLists.{Has, Distinct, head_or}
 use Rattle.cp_lists.specs.Turns.{IsTurn}
 use Rattle.cp_lists.proofs.DistinctLists.{has_lacks}
 use Rattle.cp_lists.proofs.TurnedLists.{turn-refl, turn-sym, turn-trans, turn_parts, turn_same, turn-Distinct, turn-Has, Has-of_turn, turn_to_item}
@@ -28,11 +28,11 @@ turn_of_two x y ys dis ne same =
     let w = turn_to_item x ys ((same x).1 (inl refl)) in
     let apart : Distinct (x ∷ w.0) = turn-Distinct ys (x ∷ w.0) w.1 dis in
     let rest : w.0 ≡ y ∷ [] = single y w.0 apart.1
-        (behind x w.0 y (λ e. ne (sym e)) (turn-Has ys (x ∷ w.0) y w.1 ((same y).1 (inr (inl refl)))))
-        (λ d h. ⊎_elim
-        (λ e. absurd (has_lacks x w.0 (subst (λ z. Has z w.0) (sym e) h) apart.0))
-        (λ k. ⊎_elim (λ e. sym e) (λ n. absurd n) k)
-        ((same d).0 (Has-of_turn ys (x ∷ w.0) d w.1 (inr h))))
+    (behind x w.0 y (λ e. ne (sym e)) (turn-Has ys (x ∷ w.0) y w.1 ((same y).1 (inr (inl refl)))))
+    (λ d h. ⊎_elim
+    (λ e. absurd (has_lacks x w.0 (subst (λ z. Has z w.0) (sym e) h) apart.0))
+    (λ k. ⊎_elim (λ e. sym e) (λ n. absurd n) k)
+    ((same d).0 (Has-of_turn ys (x ∷ w.0) d w.1 (inr h))))
     in
     turn-sym ys (x ∷ y ∷ []) (subst (λ zs. IsTurn ys (x ∷ zs)) rest w.1)
 
@@ -86,8 +86,8 @@ turn_of_three x y z ws dis dw same =
 pub turn_of_three-not_both : (x y z : ℕ) (ws : List ℕ) → Distinct (x ∷ y ∷ z ∷ []) → IsTurn (x ∷ y ∷ z ∷ []) ws → IsTurn (z ∷ y ∷ x ∷ []) ws → ⊥
 turn_of_three-not_both x y z ws dis one two =
     let both : IsTurn (x ∷ y ∷ z ∷ []) (x ∷ z ∷ y ∷ []) =
-        turn-trans (x ∷ y ∷ z ∷ []) ws (x ∷ z ∷ y ∷ []) one
-        (turn-trans ws (z ∷ y ∷ x ∷ []) (x ∷ z ∷ y ∷ []) (turn-sym (z ∷ y ∷ x ∷ []) ws two) (turn_parts (z ∷ y ∷ []) (x ∷ [])))
+    turn-trans (x ∷ y ∷ z ∷ []) ws (x ∷ z ∷ y ∷ []) one
+    (turn-trans ws (z ∷ y ∷ x ∷ []) (x ∷ z ∷ y ∷ []) (turn-sym (z ∷ y ∷ x ∷ []) ws two) (turn_parts (z ∷ y ∷ []) (x ∷ [])))
     in
     dis.1.0.0 (sym (ap (head_or 0) (turn_same x (y ∷ z ∷ []) (z ∷ y ∷ []) dis.0 both)))
 

@@ -1,5 +1,5 @@
 -- Lists that are turns of each other.
-use Rattle.std.proofs.Common.{◌≡◌, ℕ, zero, suc, ◌+◌, ◌↔◌, ◌⊎◌, Bool, List, [], ◌∷◌, ◌++◌, length, take, drop, map, reverse, sym, refl, ap, ap₂, ◌∙◌, subst, inl, inr, ⊎_elim, arith, append-nil, append_assoc, take-append-drop, length-append, take_at, drop_at}
+use Rattle.std.proofs.Common.{◌≡◌, ℕ, ◌↔◌, ◌⊎◌, Bool, List, [], ◌∷◌, ◌++◌, length, take, drop, map, reverse, sym, refl, ap, ap₂, ◌∙◌, subst, inl, inr, ⊎_elim, arith, append-nil, append_assoc, take-append-drop, length-append, take_at, drop_at}
 use Rattle.std.specs.List.{filter}
 use Rattle.std.proofs.lemmas.List.{map-append, reverse-append, reverse-reverse}
 use Rattle.std.proofs.lemmas.List.Elements.{filter-append}
@@ -155,7 +155,7 @@ pub turn_mirrored : (f g : ℕ → ℕ) (xs ys : List ℕ) → ((y : ℕ) → Ha
     IsTurn xs (reverse (map f ys)) → IsTurn ys (reverse (map g xs))
 turn_mirrored f g xs ys undone turn =
     let back : reverse (map g (reverse (map f ys))) ≡ ys =
-        sym (map-reverse g (reverse (map f ys))) ∙ ap (map g) (reverse-reverse (map f ys)) ∙ map_undone f g ys undone
+    sym (map-reverse g (reverse (map f ys))) ∙ ap (map g) (reverse-reverse (map f ys)) ∙ map_undone f g ys undone
     in
     turn-sym (reverse (map g xs)) ys
     (subst (IsTurn (reverse (map g xs))) back

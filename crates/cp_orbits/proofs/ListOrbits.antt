@@ -1,5 +1,5 @@
 -- Cyclic lists as orbits: the step to the item behind, and maps that turn a list.
-use Rattle.std.proofs.Common.{◌≡◌, ℕ, zero, suc, ◌+◌, ◌-◌, ◌<◌, ◌↔◌, List, length, map, slice_index, sym, refl, ap, ◌∙◌, subst, arith}
+use Rattle.std.proofs.Common.{◌≡◌, ℕ, zero, suc, ◌+◌, ◌-◌, ◌<◌, List, length, map, slice_index, sym, refl, ap, ◌∙◌, subst, arith}
 use Rattle.std.specs.Fn.{iterate}
 use Rattle.cp_lists.specs.CyclicLists.{Has, Distinct, follow}
 use Rattle.cp_lists.specs.Turns.{IsTurn}
