@@ -63,7 +63,8 @@ RightSoFar-more to i seen so lt free = record {
     same = get_or-set_same seen (slice_index to i) true false (omega (arith, so.size))
 
 -- a marked value stands at an earlier place too
-pub RightSoFar-twice : (to : List ℕ) (i : ℕ) (seen : List Bool) → RightSoFar to i seen → get_or seen (slice_index to i) false ≡ true → IsWrongAt to i
+pub RightSoFar-twice : (to : List ℕ) (i : ℕ) (seen : List Bool) → RightSoFar to i seen →
+    get_or seen (slice_index to i) false ≡ true → IsWrongAt to i
 RightSoFar-twice to i seen so h = inr (so.met (slice_index to i) h)
 
 -- a list without a wrong place is a permutation

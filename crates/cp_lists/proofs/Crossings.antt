@@ -96,7 +96,8 @@ Crosses-weaker p q r s xs one two cross = record {
         (order_Has x (cross.first ∷ cross.second ∷ cross.third ∷ cross.fourth ∷ []) cross.turned cross.order has)
 
 -- images stand crosswise where the items do
-pub Crosses-map : (f : ℕ → ℕ) (p q : ℕ → Bool) (xs : List ℕ) → Crosses (λ x. p (f x)) (λ x. q (f x)) xs → Crosses p q (map f xs)
+pub Crosses-map : (f : ℕ → ℕ) (p q : ℕ → Bool) (xs : List ℕ) → Crosses (λ x. p (f x)) (λ x. q (f x)) xs →
+    Crosses p q (map f xs)
 Crosses-map f p q xs cross = record {
   first = f cross.first;
   second = f cross.second;
@@ -147,7 +148,8 @@ filter_cut r (x ∷ xs) (u ∷ us) vs e =
     (cases_Bool (r x))
 
 -- a turn of what a test keeps is what it keeps of a turn
-filter_turn : (r : ℕ → Bool) (xs ys : List ℕ) → IsTurn (filter r xs) ys → (zs : List ℕ) × IsTurn xs zs × (filter r zs ≡ ys)
+filter_turn : (r : ℕ → Bool) (xs ys : List ℕ) → IsTurn (filter r xs) ys →
+    (zs : List ℕ) × IsTurn xs zs × (filter r zs ≡ ys)
 filter_turn r xs ys turn =
     let w = parts_of_turn (filter r xs) ys turn in
     let c = filter_cut r xs w.0 w.1 w.2 in (
@@ -164,14 +166,17 @@ filter-Crosses r p q xs cross =
     crossed p q (filter r xs) xs w.0 cross w.1 (filter_order r items w.0 (subst (InOrder items) (sym w.2) cross.order))
 
 -- images stand crosswise only where the items do
-pub map-Crosses : (f : ℕ → ℕ) (p q : ℕ → Bool) (xs : List ℕ) → Crosses p q (map f xs) → Crosses (λ x. p (f x)) (λ x. q (f x)) xs
+pub map-Crosses : (f : ℕ → ℕ) (p q : ℕ → Bool) (xs : List ℕ) → Crosses p q (map f xs) →
+    Crosses (λ x. p (f x)) (λ x. q (f x)) xs
 map-Crosses f p q xs cross =
     let w = map_turn f xs cross.turned cross.turn in
     let items : List ℕ = cross.first ∷ cross.second ∷ cross.third ∷ cross.fourth ∷ [] in
     let v = map_order f items w.0 (subst (InOrder items) (sym w.2) cross.order) in
     four v.0 w.0 v.1 v.2 w.1
   where
-    four : (us : List ℕ) → (zs : List ℕ) → InOrder us zs → map f us ≡ cross.first ∷ cross.second ∷ cross.third ∷ cross.fourth ∷ [] → IsTurn xs zs → Crosses (λ x. p (f x)) (λ x. q (f x)) xs
+    four : (us : List ℕ) → (zs : List ℕ) → InOrder us zs →
+        map f us ≡ cross.first ∷ cross.second ∷ cross.third ∷ cross.fourth ∷ [] → IsTurn xs zs →
+        Crosses (λ x. p (f x)) (λ x. q (f x)) xs
     four [] zs order e turn = absurd cc
     four (a ∷ []) zs order e turn = absurd cc
     four (a ∷ b ∷ []) zs order e turn = absurd cc

@@ -34,7 +34,8 @@ Has-flat d zero (xs ∷ rows) lt has = Has-append_left d xs (flat rows) has
 Has-flat d (suc i) (xs ∷ rows) lt has = Has-append_right d xs (flat rows) (Has-flat d i rows (omega arith) has)
 
 -- an item is one of one of the lists
-pub flat-Has : (d : ℕ) (rows : List (List ℕ)) → Has d (flat rows) → (i : ℕ) × (i < length rows) × Has d (get_or rows i [])
+pub flat-Has : (d : ℕ) (rows : List (List ℕ)) → Has d (flat rows) →
+    (i : ℕ) × (i < length rows) × Has d (get_or rows i [])
 flat-Has d [] has = absurd has
 flat-Has d (xs ∷ rows) has =
     ⊎_elim
@@ -43,7 +44,8 @@ flat-Has d (xs ∷ rows) has =
     (Has-append_cases d xs (flat rows) has)
 
 -- where all items are distinct, those of each list are
-pub flat-Distinct : (i : ℕ) (rows : List (List ℕ)) → i < length rows → Distinct (flat rows) → Distinct (get_or rows i [])
+pub flat-Distinct : (i : ℕ) (rows : List (List ℕ)) → i < length rows → Distinct (flat rows) →
+    Distinct (get_or rows i [])
 flat-Distinct i [] lt dis = absurd (omega arith)
 flat-Distinct zero (xs ∷ rows) lt dis = Distinct-append_left xs (flat rows) dis
 flat-Distinct (suc i) (xs ∷ rows) lt dis = flat-Distinct i rows (omega arith) (Distinct-append_right xs (flat rows) dis)

@@ -35,7 +35,8 @@ pub LeastSoFar-none : (xs : List ℕ) → LeastSoFar xs 0 0
 LeastSoFar-none xs = record { within = omega arith; before = λ k lt. absurd (omega arith); least = λ k lt. absurd (omega arith) }
 
 -- a lesser item is the least
-pub LeastSoFar-less : (xs : List ℕ) (place i : ℕ) → LeastSoFar xs place i → slice_index xs i < slice_index xs place → LeastSoFar xs i (suc i)
+pub LeastSoFar-less : (xs : List ℕ) (place i : ℕ) → LeastSoFar xs place i → slice_index xs i < slice_index xs place →
+    LeastSoFar xs i (suc i)
 LeastSoFar-less xs place i so less = record {
   within = omega arith;
   before = λ k lt. omega (arith, so.least k lt);
@@ -43,7 +44,8 @@ LeastSoFar-less xs place i so less = record {
 }
 
 -- an item that is no less changes nothing
-pub LeastSoFar-more : (xs : List ℕ) (place i : ℕ) → LeastSoFar xs place i → slice_index xs place ≤ slice_index xs i → LeastSoFar xs place (suc i)
+pub LeastSoFar-more : (xs : List ℕ) (place i : ℕ) → LeastSoFar xs place i → slice_index xs place ≤ slice_index xs i →
+    LeastSoFar xs place (suc i)
 LeastSoFar-more xs place i so more = record {
   within = omega (arith, so.within);
   before = so.before;
@@ -103,7 +105,8 @@ turned_to_least-head x xs has =
     )
 
 -- a turn of a distinct list that begins with the least item is the list turned to it
-pub turned_to_least-unique : (xs ys : List ℕ) (x : ℕ) → Distinct xs → IsTurn xs (x ∷ ys) → ((y : ℕ) → Has y xs → x ≤ y) → turned_to_least xs ≡ x ∷ ys
+pub turned_to_least-unique : (xs ys : List ℕ) (x : ℕ) → Distinct xs → IsTurn xs (x ∷ ys) →
+    ((y : ℕ) → Has y xs → x ≤ y) → turned_to_least xs ≡ x ∷ ys
 turned_to_least-unique xs ys x dis turn least =
     let has : Has x xs = Has-of_turn xs (x ∷ ys) x turn (inl refl) in
     let w = turned_to_least-head x xs has in

@@ -19,7 +19,8 @@ pub record Run (class : ℕ → ℕ) (l : List ℕ) : Type 0 where
   pub none_behind : (d : ℕ) → Has d behind → class d ≢ class first
 
 -- up to the first item that passes a test
-first_passing : (p : ℕ → Bool) (l : List ℕ) → (g : List ℕ) × (s : List ℕ) × (l ≡ g ++ s) × ((d : ℕ) → Has d g → p d ≡ false) × ((s ≡ []) ⊎ ((z : ℕ) × (t : List ℕ) × (s ≡ z ∷ t) × (p z ≡ true)))
+first_passing : (p : ℕ → Bool) (l : List ℕ) →
+    (g : List ℕ) × (s : List ℕ) × (l ≡ g ++ s) × ((d : ℕ) → Has d g → p d ≡ false) × ((s ≡ []) ⊎ ((z : ℕ) × (t : List ℕ) × (s ≡ z ∷ t) × (p z ≡ true)))
 first_passing p [] = ([], [], refl, (λ d h. absurd h), inl refl)
 first_passing p (x ∷ l) = ⊎_elim
     (λ t. ([], x ∷ l, refl, (λ d h. absurd h), inr (x, l, refl, t)))
@@ -50,7 +51,9 @@ run_below (suc n) class x l lt apart =
     gap (λ y g lt' no'. run_below n class y g lt' no') s.0 w.0 w.1 (s.2 ∙ ap (λ ws. s.0 ++ ws) w.2) (λ d h. other_class (class d) (class x) (s.3 d h)) (λ h. false≢true (sym (ap not (eq-eqb (class w.0) (class x) h)) ∙ w.3)))
     s.4
   where
-    gap : ((y : ℕ) (g : List ℕ) → length g < n → NoCross class (y ∷ g) → Run class (y ∷ g)) → (p : List ℕ) (y : ℕ) (r : List ℕ) → l ≡ p ++ y ∷ r → ((d : ℕ) → Has d p → class d ≡ class x) → class y ≢ class x → Run class (x ∷ l)
+    gap : ((y : ℕ) (g : List ℕ) → length g < n → NoCross class (y ∷ g) → Run class (y ∷ g)) →
+        (p : List ℕ) (y : ℕ) (r : List ℕ) → l ≡ p ++ y ∷ r → ((d : ℕ) → Has d p → class d ≡ class x) →
+        class y ≢ class x → Run class (x ∷ l)
     gap again p y r whole same differ =
         let s : (g : List ℕ) × (s : List ℕ) × (r ≡ g ++ s) × ((d : ℕ) → Has d g → eqb (class d) (class x) ≡ false) × ((s ≡ []) ⊎ ((z : ℕ) × (t : List ℕ) × (s ≡ z ∷ t) × (eqb (class z) (class x) ≡ true))) = first_passing (λ d. eqb (class d) (class x)) r in
         ⊎_elim
@@ -72,7 +75,9 @@ run_below (suc n) class x l lt apart =
         outer p y s.0 w.0 w.1 parts same differ (λ d h. eqb-false (class d) (class x) (s.3 d h)) (eqb-true (class w.0) (class x) w.3) inner)
         s.4
       where
-        outer : (p : List ℕ) (y : ℕ) (g : List ℕ) (z : ℕ) (t : List ℕ) → x ∷ l ≡ (x ∷ p) ++ ((y ∷ g) ++ z ∷ t) → ((d : ℕ) → Has d p → class d ≡ class x) → class y ≢ class x → ((d : ℕ) → Has d g → class d ≢ class x) → class z ≡ class x → Run class (y ∷ g) → Run class (x ∷ l)
+        outer : (p : List ℕ) (y : ℕ) (g : List ℕ) (z : ℕ) (t : List ℕ) → x ∷ l ≡ (x ∷ p) ++ ((y ∷ g) ++ z ∷ t) →
+            ((d : ℕ) → Has d p → class d ≡ class x) → class y ≢ class x → ((d : ℕ) → Has d g → class d ≢ class x) →
+            class z ≡ class x → Run class (y ∷ g) → Run class (x ∷ l)
         outer p y g z t parts same differ far back run = record {
           before = (x ∷ p) ++ run.before;
           first = run.first;

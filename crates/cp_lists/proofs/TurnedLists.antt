@@ -31,7 +31,8 @@ pub turn-Distinct : (xs ys : List ℕ) → IsTurn xs ys → Distinct xs → Dist
 turn-Distinct xs ys turn dis = subst Distinct (sym turn.2) (Distinct-turn (take turn.0 xs) (drop turn.0 xs) (subst Distinct (sym (take-append-drop turn.0 xs)) dis))
 
 -- two lists with the same items behind the same items are turns
-pub turn_from : (xs ys : List ℕ) → Distinct xs → Distinct ys → ((d : ℕ) → Has d xs ↔ Has d ys) → ((d : ℕ) → Has d xs → follow xs d ≡ follow ys d) → IsTurn xs ys
+pub turn_from : (xs ys : List ℕ) → Distinct xs → Distinct ys → ((d : ℕ) → Has d xs ↔ Has d ys) →
+    ((d : ℕ) → Has d xs → follow xs d ≡ follow ys d) → IsTurn xs ys
 turn_from xs ys dx dy same behind =
     let w = turn_from_follow xs ys dx dy same behind in (
       length w.0,
