@@ -13,3 +13,9 @@ pub mod StarSystems
 pub mod StarGenus
 pub mod StarBlocks
 pub mod StarSplits
+pub mod BareVertices
+pub mod RestrictedSystems
+pub mod SplitVertices
+pub mod SplitParts
+pub mod RestrictionLaws
+pub mod SplitRuns
