@@ -1,0 +1,6 @@
+pub mod OddCycles
+mod LookUps
+mod Parity
+mod Walks
+mod EquationLists
+mod SearchSteps
