@@ -4,3 +4,4 @@ mod Parity
 mod Walks
 mod EquationLists
 mod SearchSteps
+mod Following

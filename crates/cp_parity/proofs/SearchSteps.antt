@@ -1,15 +1,17 @@
 -- What a step of a search keeps.
-use Rattle.std.proofs.Common.{◌≡◌, ℕ, ◌+◌, ◌<◌, ◌≤◌, ◌⊎◌, ◌↔◌, Bool, true, List, [], ◌∷◌, ◌++◌, length, set, get_or, Option, Some, None, replicate, slice_get, sym, refl, ap, ◌∙◌, subst, inl, inr, ⊎_elim, arith, length-set}
-use Rattle.std.specs.List.{Contains}
+use Rattle.std.proofs.Common.{◌≡◌, ℕ, ◌+◌, ◌<◌, ◌≤◌, ◌⊎◌, ◌↔◌, Bool, true, false, List, [], ◌∷◌, ◌++◌, length, set, get_or, Option, Some, None, replicate, slice_get, sym, refl, ap, ap₂, ◌∙◌, subst, inl, inr, ⊎_elim, arith, length-set}
+use Rattle.std.specs.List.{All, Contains}
 use Rattle.std.proofs.lemmas.Bool.{cases_eq, cases_lt}
 use Rattle.std.proofs.lemmas.Option.{none-some, same_Some, slice_get_within, slice_get-get_or, get_or_from_slice_get}
+use Rattle.std.proofs.lemmas.List.{get_or_default, get_or-set_same, get_or-set_other}
 use Rattle.cp_lists.specs.Count.{count}
 use Rattle.cp_lists.proofs.Counting.{count_all, count_inject}
 use Rattle.cp_base.specs.declared.equation.Equation.{Equation}
 use Rattle.cp_orbits.specs.Connected.{Joins}
 use Rattle.cp_parity.specs.declared.found.Found.{Found}
-use Rattle.cp_parity.specs.Equations.{differ, Touches}
-use Rattle.cp_parity.specs.Search.{AreRooted, Hangs, IsTree, ArePlaced, IsSearch, StayFound, GoesOn, IsSettled, AreDone, AreAllDone, IsFound}
+use Rattle.cp_parity.specs.Equations.{differ, Touches, HasVarsBelow, IsMet}
+use Rattle.cp_parity.specs.EquationLists.{AreOf}
+use Rattle.cp_parity.specs.Search.{AreRooted, Hangs, IsTree, ArePlaced, IsSearch, StayFound, GoesOn, IsSettled, AreDone, AreAllDone, IsFound, HasBits}
 use Rattle.cp_parity.proofs.Parity.{differ-comm}
 use Rattle.cp_parity.proofs.LookUps.{same_at, at_append, at_end, at_cases, at_set, at_set_other, at_replicate}
 
@@ -199,3 +201,56 @@ AreDone-stay eqs root found more done stay le all k f i e lt at =
     let old : slice_get found k ≡ Some (get_or found k f) = slice_get-get_or found k f (omega arith) in
     let same : get_or found k f ≡ f = same_at more k (get_or found k f) f (stay k (get_or found k f) old) at in
     λ eat touches. IsSettled-stay root found more e stay (all k f i e lt (old ∙ ap Some same) eat touches)
+
+-- what was found stays the same
+pub same_found : (found more : List Found) (k : ℕ) (f g : Found) → StayFound found more → slice_get found k ≡ Some f → slice_get more k ≡ Some g → f ≡ g
+same_found found more k f g stay one other = same_at more k f g (stay k f one) other
+
+-- where the equations of one var more are settled, one more is done
+pub AreDone-next : (eqs : List Equation) (root : ℕ) (found : List Found) (done : ℕ) (f : Found) (links : List ℕ)
+    → AreDone eqs root found done → slice_get found done ≡ Some f → AreOf eqs (length eqs) f.var links
+    → ((j : ℕ) (e : Equation) → j < length links → slice_get eqs (get_or links j 0) ≡ Some e → IsSettled root found e)
+    → AreDone eqs root found (done + 1)
+AreDone-next eqs root found done f links all at of settled k g i e lt gat eat touches = ⊎_elim
+    (λ same. let is : g ≡ f = same_at found done g f (ap (slice_get found) (sym same) ∙ gat) at in
+    let c : Contains links i = of.all i e (slice_get_within eqs i e eat) eat (subst (λ (h : Found). Touches e h.var) is touches) in
+    settled c.0 e c.1 (ap (slice_get eqs) (get_or_default links c.0 0 i c.1 ∙ c.2) ∙ eat))
+    (λ ne. all k g i e (omega arith) gat eat touches)
+    (cases_eq k done)
+
+-- a var that was found has its place
+pub var_within : (found : List Found) (places : List (Option ℕ)) (k : ℕ) (f : Found) → ArePlaced found places → slice_get found k ≡ Some f → f.var < length places
+var_within found places k f placed at = slice_get_within places f.var (Some k) (placed.placed k f at)
+
+-- what is done before a later root
+pub AreDone-before : (eqs : List Equation) (root : ℕ) (found : List Found) → AreDone eqs root found (length found) → AreAllDone eqs found
+AreDone-before eqs root found done k f i e lt at eat t = IsSettled-before root found e (done k f i e lt at eat t)
+
+-- nothing was found
+pub ArePlaced-none : (vars : ℕ) → ArePlaced [] (replicate vars None)
+ArePlaced-none vars = record {
+  named = λ x k at. absurd (none-some k (at_replicate vars None x (Some k) at));
+  placed = λ k f at. absurd (none-some f at);
+}
+
+-- the bit of one var more
+pub HasBits-more : (found : List Found) (places : List (Option ℕ)) (done : ℕ) (f : Found) (bits : List Bool)
+    → ArePlaced found places → slice_get found done ≡ Some f → f.var < length bits → HasBits found done bits → HasBits found (done + 1) (set bits f.var f.bit)
+HasBits-more found places done f bits placed at within all k g lt gat = ⊎_elim
+    (λ same. let is : f ≡ g = same_at found done f g at (ap (slice_get found) (sym same) ∙ gat) in
+    ap (λ (h : Found). get_or (set bits f.var f.bit) h.var false) (sym is) ∙ get_or-set_same bits f.var f.bit false within ∙ ap (λ (h : Found). h.bit) is)
+    (λ ne. get_or-set_other bits f.var g.var f.bit false (λ e. ne (same_place found places k done g f placed gat at e)) ∙ all k g (omega arith) gat)
+    (cases_eq k done)
+
+-- where all vars were found and all is done, their bits meet all equations
+pub all_met : (eqs : List Equation) (vars : ℕ) (found : List Found) (bits : List Bool)
+    → All (HasVarsBelow vars) eqs → ((x : ℕ) → x < vars → IsFound found x) → AreAllDone eqs found → HasBits found (length found) bits → All (IsMet bits) eqs
+all_met eqs vars found bits within found_all done has i d lt =
+    let e : Equation = get_or eqs i d in
+    let at : slice_get eqs i ≡ Some e = slice_get-get_or eqs i d lt in
+    let f : IsFound found e.x = found_all e.x (within i d lt).0 in
+    let s : IsSettled (length found) found e = done f.0 f.1 i e (slice_get_within found f.0 f.1 f.2) f.2 at (inl (sym f.3)) in
+    ap₂ differ
+    (ap (λ (x : ℕ). get_or bits x false) (sym s.one_var) ∙ has s.one s.first (slice_get_within found s.one s.first s.one_at) s.one_at)
+    (ap (λ (x : ℕ). get_or bits x false) (sym s.other_var) ∙ has s.other s.second (slice_get_within found s.other s.second s.other_at) s.other_at)
+    ∙ s.met

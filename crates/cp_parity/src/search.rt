@@ -5,7 +5,7 @@ ghost use Rattle.cp_base.specs.declared.equation.Equation.{Equation};
 ghost use Rattle.cp_orbits.specs.Connected.{Joins};
 ghost use Rattle.cp_parity.specs.declared.found.Found.{Found};
 ghost use Rattle.cp_parity.specs.Equations.{HasVarsBelow, Touches, HasOddCycle};
-ghost use Rattle.cp_parity.specs.EquationLists.{AreListed, AreOf};
+ghost use Rattle.cp_parity.specs.EquationLists.{AreListed};
 ghost use Rattle.cp_parity.specs.Search.{IsSearch, GoesOn, AreDone, IsSettled};
 
 use crate::fault::{ParityFault, Places};
@@ -96,21 +96,23 @@ fn follow(
 fn follow_all(
     alloc: Global,
     eqs: &[Equation],
-    links: &[usize],
+    lists: &[Places],
     from: usize,
     root: usize,
     search: &mut Search,
 ) -> Result<(), ParityFault>
     requires vars_within { All (HasVarsBelow (length search.old.places.items)) eqs.now }
+    requires listed { AreListed eqs.now (length search.old.places.items) (length eqs.now) lists.now }
     requires from_within { from < length search.old.found.items }
     requires below { root ≤ from }
     requires is_search { IsSearch eqs.now root search.old.found.items search.old.places.items }
     requires done { AreDone eqs.now root search.old.found.items from }
-    requires links { (f : Found) → slice_get search.old.found.items from ≡ Some f → AreOf eqs.now (length eqs.now) f.var links.now }
     ensures goes_on { OnOk result (GoesOn eqs.now root search.old.found.items search.old.places.items search.new.found.items search.new.places.items) }
     ensures done { OnOk result (AreDone eqs.now root search.new.found.items (from + 1)) }
     ensures odd_cycle { IfErr result (HasOddCycle eqs.now) }
 {
+    let var = search.found[from].var;
+    let links = lists[var].items();
     for link in links {
         follow(alloc, eqs, *link, from, root, search)?;
     }
@@ -136,8 +138,7 @@ pub(crate) fn run(
 {
     let mut done = root;
     while done < search.found.len() {
-        let var = search.found[done].var;
-        follow_all(alloc, eqs, lists[var].items(), done, root, search)?;
+        follow_all(alloc, eqs, lists, done, root, search)?;
         done += 1;
     }
     Ok(())
