@@ -3,7 +3,9 @@ use Rattle.std.proofs.Common.{◌≡◌, ℕ, ◌%◌, Bool, true, false, cond, 
 use Rattle.std.specs.List.{All, count_by}
 use Rattle.cp_base.specs.declared.equation.Equation.{Equation}
 use Rattle.cp_orbits.specs.Connected.{Joins}
-use Rattle.cp_parity.specs.Equations.{differ, bit_of, IsMet, IsWalk, IsOddCycle, is_odd_at}
+use Rattle.cp_parity.specs.Equations.{differ, bit_of, IsMet, IsWalk, IsOddCycle, is_odd_at, HasOddCycle, HaveNoBits}
+use Rattle.cp_parity.specs.declared.fault.ParityFault.{ParityFault}
+use Rattle.cp_parity.specs.declared.fault.ParityFault.TheVariants.{Conflict, Memory}
 use Rattle.cp_parity.specs.Search.{parity}
 use Rattle.cp_parity.proofs.LookUps.{All-at}
 use Rattle.cp_parity.proofs.Parity.{differ_same, differ-comm, differ_through, is_odd_at-is, parity-count}
@@ -31,3 +33,8 @@ IsOddCycle-unmet eqs places cycle bits met =
     let even : parity eqs places ≡ false = parity_of_walk bits eqs cycle.start cycle.start places met cycle.closed ∙ differ_same (bit_of bits cycle.start) in
     let zero_left : count_by (is_odd_at eqs) places % 2 ≡ 0 = parity-count eqs places ∙ ap (λ (b : Bool). cond b 1 0) even in
     absurd (omega (arith, cycle.odd))
+
+-- a conflict tells that no bits meet all equations
+pub HaveNoBits-from : (eqs : List Equation) (fault : ParityFault) → HasOddCycle eqs fault → HaveNoBits eqs fault
+HaveNoBits-from eqs (Conflict cycle) odd = IsOddCycle-unmet eqs cycle odd
+HaveNoBits-from eqs Memory odd = tt

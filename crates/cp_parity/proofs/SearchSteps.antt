@@ -1,7 +1,7 @@
 -- What a step of a search keeps.
-use Rattle.std.proofs.Common.{◌≡◌, ℕ, ◌+◌, ◌<◌, ◌≤◌, ◌⊎◌, ◌↔◌, Bool, true, false, List, [], ◌∷◌, ◌++◌, length, set, get_or, Option, Some, None, replicate, slice_get, sym, refl, ap, ap₂, ◌∙◌, subst, inl, inr, ⊎_elim, arith, length-set}
+use Rattle.std.proofs.Common.{◌≡◌, ℕ, ◌+◌, ◌<◌, ◌≤◌, ◌⊎◌, ◌↔◌, Bool, true, false, List, [], ◌∷◌, ◌++◌, length, set, get_or, Option, Some, None, is_some, replicate, slice_get, sym, refl, ap, ap₂, ◌∙◌, subst, inl, inr, ⊎_elim, arith, length-set}
 use Rattle.std.specs.List.{All, Contains}
-use Rattle.std.proofs.lemmas.Bool.{cases_eq, cases_lt}
+use Rattle.std.proofs.lemmas.Bool.{cases_eq, cases_lt, false≢true}
 use Rattle.std.proofs.lemmas.Option.{none-some, same_Some, slice_get_within, slice_get-get_or, get_or_from_slice_get}
 use Rattle.std.proofs.lemmas.List.{get_or_default, get_or-set_same, get_or-set_other}
 use Rattle.cp_lists.specs.Count.{count}
@@ -254,3 +254,33 @@ all_met eqs vars found bits within found_all done has i d lt =
     (ap (λ (x : ℕ). get_or bits x false) (sym s.one_var) ∙ has s.one s.first (slice_get_within found s.one s.first s.one_at) s.one_at)
     (ap (λ (x : ℕ). get_or bits x false) (sym s.other_var) ∙ has s.other s.second (slice_get_within found s.other s.second s.other_at) s.other_at)
     ∙ s.met
+
+-- a var whose place is told was found
+pub IsFound-named : (found : List Found) (places : List (Option ℕ)) (x : ℕ) (o : Option ℕ) → ArePlaced found places → slice_get places x ≡ Some o → is_some o ≡ true → IsFound found x
+IsFound-named found places x None placed at some = absurd (false≢true some)
+IsFound-named found places x (Some k) placed at some = let f = placed.named x k at in (k, f.0, f.1, f.2)
+
+-- what was found stays found
+pub IsFound-stay : (found more : List Found) (x : ℕ) → StayFound found more → IsFound found x → IsFound more x
+IsFound-stay found more x stay is = (is.0, is.1, stay is.0 is.1 is.2, is.3)
+
+-- the vars below x and x itself are those below the next one
+pub IsFound-next : (found : List Found) (x : ℕ) → ((y : ℕ) → y < x → IsFound found y) → IsFound found x → (y : ℕ) → y < x + 1 → IsFound found y
+IsFound-next found x lower here y lt = ⊎_elim (λ same. subst (IsFound found) (sym same) here) (λ ne. lower y (omega arith)) (cases_eq y x)
+
+-- a search begins at a var that was not found
+pub begun : (eqs : List Equation) (found : List Found) (places : List (Option ℕ)) (f : Found) (root : ℕ) (more : List Found) (names : List (Option ℕ))
+    → ArePlaced found places → AreAllDone eqs found → f.var < length places → slice_get places f.var ≡ Some None
+    → root ≡ length found → more ≡ found ++ f ∷ [] → names ≡ set places f.var (Some (length found))
+    → IsSearch eqs root more names × AreDone eqs root more root × IsFound more f.var × StayFound found more
+begun eqs found places f root more names placed done within new root_is more_is names_is = (
+    subst (λ (k : ℕ). IsSearch eqs k more names) (sym root_is)
+    (subst (λ (xs : List Found). IsSearch eqs (length found) xs names) (sym more_is)
+    (subst (IsSearch eqs (length found) (found ++ f ∷ [])) (sym names_is)
+    (record { are_placed = ArePlaced-find found places f placed within new; is_tree = IsTree-root eqs found f }))),
+    subst (λ (k : ℕ). AreDone eqs k more k) (sym root_is) (AreDone-stay eqs (length found) found more (length found) stay (omega arith) done),
+    (length found, f, ap (λ (xs : List Found). slice_get xs (length found)) more_is ∙ at_end found f, refl),
+    stay)
+  where
+    stay : StayFound found more
+    stay = subst (StayFound found) (sym more_is) (StayFound-append found (f ∷ []))

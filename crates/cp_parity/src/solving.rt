@@ -37,7 +37,8 @@ fn visit(
     }
     let root = search.found.len();
     find(search, Found { var, bit: false, up: root, link: 0 })?;
-    run(alloc, eqs, lists, root, search)
+    run(alloc, eqs, lists, root, search)?;
+    Ok(())
 }
 
 // The bits of all vars that were found.

@@ -1,7 +1,7 @@
 -- All equations of a var are followed.
 use Rattle.std.proofs.Common.{◌≡◌, ◌++◌, ◌∷◌, [], ℕ, ◌+◌, ◌<◌, ◌≤◌, ◌⊎◌, Option, Some, List, get_or, length, set, slice_get, sym, ap, ◌∙◌, subst, ⊎_elim, refl, rules, arith}
 use Rattle.std.proofs.lemmas.Bool.{cases_eq}
-use Rattle.std.proofs.lemmas.List.{get_or_read}
+use Rattle.std.proofs.lemmas.List.{get_or_default, get_or_read}
 use Rattle.std.proofs.lemmas.Option.{slice_get-get_or, slice_get_read, slice_get_within}
 use Rattle.cp_base.specs.declared.equation.Equation.{Equation}
 use Rattle.cp_parity.specs.declared.found.Found.{Found}
@@ -23,7 +23,7 @@ links_of eqs found places lists from f links list placed listed at list_is links
 -- the link at a place tells an equation of the var
 link_at : (eqs : List Equation) (x : ℕ) (links : List ℕ) (i : ℕ) → AreOf eqs (length eqs) x links → i < length links
     → (e : Equation) × (slice_get eqs (get_or links i 0) ≡ Some e) × Touches e x
-link_at eqs x links i of lt = of.within (get_or links i 0) (i, lt, refl)
+link_at eqs x links i of lt = of.within (get_or links i 0) (i, lt, get_or_default links i (get_or links i 0) 0 lt)
 
 pub bounds-lists-var : goal.bounds-lists-var
 bounds-lists-var c =
