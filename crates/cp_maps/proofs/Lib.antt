@@ -32,6 +32,8 @@ pub mod CrossedVertices
 pub mod GluedVertices
 pub mod CollapsedVertices
 pub mod CollapsedClasses
+pub mod Growth
+pub mod CrossedParts
 pub mod AssembledVertices
 pub mod Runs
 mod Examples

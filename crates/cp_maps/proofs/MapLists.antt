@@ -1,6 +1,7 @@
 -- The lists of a map: they determine it, and their order, their turns, bare vertices and loose darts do not matter.
 use Rattle.std.proofs.Common.{◌≡◌, ℕ, ◌<◌, ◌≢◌, List, [], ◌∷◌, ◌++◌, append_assoc, sym, refl, ap, ◌∙◌, subst, inl, ⊎_elim}
 use Rattle.std.proofs.lemmas.Bool.{cases_eq, false≢true}
+use Rattle.std.proofs.lemmas.List.{append-nil}
 use Rattle.cp_lists.specs.CyclicLists.{Distinct, Has, Lacks, follow}
 use Rattle.cp_lists.specs.Turns.{IsTurn}
 use Rattle.cp_lists.proofs.CyclicLists.{follow-Has, next_from_at}
@@ -250,3 +251,14 @@ IsMapOf-among n f xs rows others is = IsMapOf-other n f (xs ∷ (rows ++ others)
     (subst (λ ys. Distinct (xs ++ ys)) (flat-append rows others) is.once)))
     (Rings-append f rows (xs ∷ others) (Rings-append_left f rows others is.rings.1)
     (is.rings.0, Rings-append_right f rows others is.rings.1))
+
+-- two groups of lists in the other order
+pub IsMapOf-exchanged : (n : ℕ) (f : ℕ → ℕ) (first group others : List (List ℕ))
+    → IsMapOf n f (first ++ (group ++ others)) → IsMapOf n f (first ++ (others ++ group))
+IsMapOf-exchanged n f first [] others is = subst (λ us. IsMapOf n f (first ++ us)) (sym (append-nil others)) is
+IsMapOf-exchanged n f first (xs ∷ group) others is =
+    let rest : IsMapOf n f (xs ∷ (first ++ (others ++ group))) =
+    IsMapOf-exchanged n f (xs ∷ first) group others (IsMapOf-front n f xs first (group ++ others) is) in
+    subst (IsMapOf n f) (append_assoc first others (xs ∷ group))
+    (IsMapOf-among n f xs (first ++ others) group
+    (subst (λ us. IsMapOf n f (xs ∷ us)) (sym (append_assoc first others group)) rest))

@@ -1,11 +1,11 @@
 -- Lists put together: pairs of darts, copies of one vertex, and lists that grow from one.
-use Rattle.std.specs.Prelude.{◌≡◌, ℕ, eqb, List, [], ◌∷◌, ◌++◌, ◌*◌, cond}
+use Rattle.std.specs.Prelude.{◌≡◌, ℕ, eqb, List, [], ◌∷◌, ◌++◌, ◌*◌, ◌⊎◌, cond}
 use Rattle.std.specs.List.{filter}
 use Rattle.cp_lists.specs.CyclicLists.{Has, Lacks, follow}
 use Rattle.cp_lists.specs.Turns.{IsTurn}
 use Rattle.cp_orbits.specs.Classes.{labels}
 use Rattle.cp_maps.specs.Genus.{AllApart, in_part, linked}
-use Rattle.cp_maps.specs.Maps.{flat, has}
+use Rattle.cp_maps.specs.Maps.{IsMapOf, flat, has}
 use Rattle.cp_maps.specs.Twins.{twin}
 
 -- the dart in place of d, where the second dart of each pair takes the place of the twin of the first
@@ -53,3 +53,15 @@ abbrev pub AreSplit : ℕ → (ℕ → ℕ) → List (List ℕ) → Type 0
 AreSplit e g [] = Unit {0}
 AreSplit e g (xs ∷ rows) =
     ((d : ℕ) → Has d xs → g d ≡ follow (filter (in_part e g (labels (linked g (2 * e) e) d)) xs) d) × AreSplit e g rows
+
+-- of a group of lists, those that grow from zs as far as it goes, and those that are left
+pub record Grown (zs : List ℕ) (group : List (List ℕ)) : Type 0 where
+  pub taken : List (List ℕ)
+  pub left : List (List ℕ)
+  pub grows : Grows zs taken
+  pub closed : (d : ℕ) → Has d (flat left) → Lacks (twin d) (zs ++ flat taken)
+  pub taken_item : (d : ℕ) → Has d (flat taken) → Has d (flat group)
+  pub left_item : (d : ℕ) → Has d (flat left) → Has d (flat group)
+  pub each : (d : ℕ) → Has d (flat group) → Has d (flat taken) ⊎ Has d (flat left)
+  pub order : (n : ℕ) (f : ℕ → ℕ) (first : List (List ℕ)) → IsMapOf n f (first ++ group)
+      → IsMapOf n f (first ++ (taken ++ left))
