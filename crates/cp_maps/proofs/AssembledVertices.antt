@@ -23,7 +23,7 @@ use Rattle.cp_maps.proofs.Rings.{Rings-append, Rings-append_left, Rings-append_r
 use Rattle.cp_maps.proofs.Runs.{uncrossed-IsAssembled}
 
 -- an item of a list that is made of copies is one of theirs
-assembled_item : (row : List ℕ) (copies : List (List ℕ)) (d : ℕ) → IsAssembled row copies → Has d row
+pub assembled_item : (row : List ℕ) (copies : List (List ℕ)) (d : ℕ) → IsAssembled row copies → Has d row
     → Has d (flat copies)
 assembled_item row [] d is h = subst (Has d) is h
 assembled_item row (xs ∷ copies) d is h = ⊎_elim
@@ -85,7 +85,7 @@ assembled-Becomes e f row (xs ∷ copies) rows is apart made =
         (subst (Has d) (sym (flat-append copies (xs ∷ rows))) (Has-append_right d (flat copies) (flat (xs ∷ rows)) h))))
 
 -- an item of a copy is one of the list that is made of them
-item_assembled : (row : List ℕ) (copies : List (List ℕ)) (d : ℕ) → IsAssembled row copies → Has d (flat copies)
+pub item_assembled : (row : List ℕ) (copies : List (List ℕ)) (d : ℕ) → IsAssembled row copies → Has d (flat copies)
     → Has d row
 item_assembled row [] d is h = absurd h
 item_assembled row (xs ∷ copies) d is h = turn-Has (xs ++ is.0) row d is.1 (⊎_elim
@@ -94,7 +94,7 @@ item_assembled row (xs ∷ copies) d is h = turn-Has (xs ++ is.0) row d is.1 (�
     (Has-append_cases d xs (flat copies) h))
 
 -- copies that make a distinct list are distinct
-assembled-Distinct : (row : List ℕ) (copies : List (List ℕ)) → IsAssembled row copies → Distinct row
+pub assembled-Distinct : (row : List ℕ) (copies : List (List ℕ)) → IsAssembled row copies → Distinct row
     → Distinct (flat copies)
 assembled-Distinct row [] is dis = tt
 assembled-Distinct row (xs ∷ copies) is dis =

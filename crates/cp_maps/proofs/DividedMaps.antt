@@ -4,18 +4,15 @@ use Rattle.std.proofs.Common.{◌≡◌, ℕ, ◌<◌, true, false, eqb, List, �
 use Rattle.std.proofs.lemmas.Bool.{cases_eq, eq-eqb, ne_eqb, false≢true, cond-true, cond-false, cases_lt, cases_Bool, lt-ltb, le-ltb}
 use Rattle.cp_lists.specs.CyclicLists.{Has, Lacks}
 use Rattle.cp_lists.proofs.DistinctLists.{Lacks-append, Lacks-from, has_cases}
-use Rattle.cp_orbits.specs.Classes.{labels}
 use Rattle.cp_orbits.specs.Orbits.{Permutes}
-use Rattle.cp_orbits.proofs.ClassLabels.{labels-le, labels-respects}
-use Rattle.cp_orbits.proofs.OrbitLaws.{Permutes-same, graph-respects}
-use Rattle.cp_maps.specs.Genus.{IsFlat, OneGenus, in_part, linked}
+use Rattle.cp_orbits.proofs.OrbitLaws.{Permutes-same}
+use Rattle.cp_maps.specs.Genus.{IsFlat, OneGenus}
 use Rattle.cp_maps.specs.Maps.{IsMapOf, flat, only}
 use Rattle.cp_maps.specs.Names.{Carries, Names}
 use Rattle.cp_maps.specs.Twins.{twin}
 use Rattle.cp_maps.proofs.Dipoles.{loose_edges-IsFlat}
-use Rattle.cp_maps.proofs.Edges.{twin-OnePart}
 use Rattle.cp_maps.proofs.FewerDarts.{CanBeFlat-IsFlat, first_lists-CanBeFlat, last_lists-CanBeFlat}
-use Rattle.cp_maps.proofs.FlatMaps.{IsFlat-agree, linked-graph}
+use Rattle.cp_maps.proofs.FlatMaps.{IsFlat-agree}
 use Rattle.cp_maps.proofs.FlatUnions.{IsFlat-union, Permutes-union}
 use Rattle.cp_maps.proofs.Genus.{OneGenus-IsFlat, OneGenus-sym}
 use Rattle.cp_maps.proofs.ListFacts.{flat-append}
@@ -195,16 +192,6 @@ module _ (e : ℕ) (f : ℕ → ℕ) (class : ℕ → ℕ) (perm : Permutes (2 *
   classes-IsFlat =
       IsFlat-agree e (first (2 * e)) f (perm_first (2 * e)) (λ d lt. first_in (2 * e) d (bound d lt))
       (first-IsFlat (2 * e) (omega arith))
-
--- where each component alone is flat, the map is
-pub each_part-IsFlat : (e : ℕ) (f : ℕ → ℕ) → Permutes (2 * e) f
-    → ((c : ℕ) → c < 2 * e → IsFlat e (only (in_part e f c) f)) → IsFlat e f
-each_part-IsFlat e f perm each = classes-IsFlat e f (labels (linked f (2 * e) e)) perm
-    (λ d lt. omega (arith, labels-le (linked f (2 * e) e) d))
-    (λ d lt. twin-OnePart e f perm d lt)
-    (λ d lt. sym (graph-respects (labels (linked f (2 * e) e)) f (2 * e) d
-    (linked-graph (labels (linked f (2 * e) e)) f (2 * e) e (labels-respects (linked f (2 * e) e))) lt))
-    each
 
 -- lists in two parts with no edge between are flat exactly where both parts are
 module _ (e : ℕ) (f one two : ℕ → ℕ) (rows others : List (List ℕ)) (p : ℕ → Bool)

@@ -128,6 +128,16 @@ pub Evenly-append : (p : ℕ → Bool) (rows others : List (List ℕ)) → Evenl
 Evenly-append p [] others one two = two
 Evenly-append p (xs ∷ rows) others one two = (one.0, Evenly-append p rows others one.1 two)
 
+-- the first of two parts
+pub Evenly-append_left : (p : ℕ → Bool) (rows others : List (List ℕ)) → Evenly p (rows ++ others) → Evenly p rows
+Evenly-append_left p [] others even = tt
+Evenly-append_left p (xs ∷ rows) others even = (even.0, Evenly-append_left p rows others even.1)
+
+-- and the second
+pub Evenly-append_right : (p : ℕ → Bool) (rows others : List (List ℕ)) → Evenly p (rows ++ others) → Evenly p others
+Evenly-append_right p [] others even = even
+Evenly-append_right p (xs ∷ rows) others even = Evenly-append_right p rows others even.1
+
 -- the darts of lists that grow from one are of its component
 grown-OnePart : (e : ℕ) (g : ℕ → ℕ) → Permutes (2 * e) g → (x : ℕ) (all : List ℕ) (group : List (List ℕ))
     → ((d : ℕ) → Has d all → (d < 2 * e) × OnePart e g x d) → Rings g group

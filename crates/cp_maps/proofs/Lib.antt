@@ -34,6 +34,7 @@ pub mod CollapsedVertices
 pub mod CollapsedClasses
 pub mod Growth
 pub mod CrossedParts
+pub mod GenusByBlocks
 pub mod AssembledVertices
 pub mod Runs
 mod Examples

@@ -1,10 +1,9 @@
 -- Lists put together: pairs of darts, copies of one vertex, and lists that grow from one.
-use Rattle.std.specs.Prelude.{◌≡◌, ℕ, eqb, List, [], ◌∷◌, ◌++◌, ◌*◌, ◌⊎◌, cond}
+use Rattle.std.specs.Prelude.{◌≡◌, ℕ, eqb, List, [], ◌∷◌, ◌++◌, ◌⊎◌, cond}
 use Rattle.std.specs.List.{filter}
 use Rattle.cp_lists.specs.CyclicLists.{Has, Lacks, follow}
 use Rattle.cp_lists.specs.Turns.{IsTurn}
-use Rattle.cp_orbits.specs.Classes.{labels}
-use Rattle.cp_maps.specs.Genus.{AllApart, in_part, linked}
+use Rattle.cp_maps.specs.Genus.{AllApart}
 use Rattle.cp_maps.specs.Maps.{IsMapOf, flat, has}
 use Rattle.cp_maps.specs.Twins.{twin}
 
@@ -48,11 +47,11 @@ abbrev pub all_copies : List (List ℕ × List (List ℕ)) → List (List ℕ)
 all_copies [] = []
 all_copies (x ∷ xs) = x.1 ++ all_copies xs
 
--- at the items of the list a dart leads to the next one of its component
-abbrev pub AreSplit : ℕ → (ℕ → ℕ) → List (List ℕ) → Type 0
-AreSplit e g [] = Unit {0}
-AreSplit e g (xs ∷ rows) =
-    ((d : ℕ) → Has d xs → g d ≡ follow (filter (in_part e g (labels (linked g (2 * e) e) d)) xs) d) × AreSplit e g rows
+-- at the items of each list a dart leads to the next one of its class
+abbrev pub AreSplitBy : (ℕ → ℕ) → (ℕ → ℕ) → List (List ℕ) → Type 0
+AreSplitBy class g [] = Unit {0}
+AreSplitBy class g (xs ∷ rows) =
+    ((d : ℕ) → Has d xs → g d ≡ follow (filter (λ y. eqb (class y) (class d)) xs) d) × AreSplitBy class g rows
 
 -- of a group of lists, those that grow from zs as far as it goes, and those that are left
 pub record Grown (zs : List ℕ) (group : List (List ℕ)) : Type 0 where

@@ -7,3 +7,4 @@ pub mod Trees
 pub mod Gluings
 pub mod Crossings
 pub mod Classes
+pub mod Blocks
