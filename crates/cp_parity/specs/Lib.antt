@@ -1,0 +1,4 @@
+pub mod Equations
+-- What the functions inside promise each other.
+pub mod EquationLists
+pub mod Search
