@@ -2,13 +2,14 @@
 use Rattle.std.proofs.Common.{◌≡◌, ℕ, ◌<◌, List, ap, ◌∙◌, subst, ⊎_elim, suc, ◌*◌, ◌≤◌, arith, zero, map, ◌↔◌}
 use Rattle.std.proofs.lemmas.Bool.{cases_eq}
 use Rattle.cp_lists.specs.CyclicLists.{Distinct, Has, follow}
+use Rattle.cp_lists.specs.Rows.{flat}
 use Rattle.cp_lists.proofs.DistinctLists.{Distinct-append, Has-append_cases, Has-append_left, Has-append_right, Lacks-from, has_lacks}
 use Rattle.cp_rot.specs.Genus.{HasGenusZero}
 use Rattle.cp_rot.specs.Systems.{IsRotation, System, darts, edges, list_of, next, vertex_of}
 use Rattle.cp_rot.proofs.Functions.{HasGenusZero-from, Turns-system, next-follow, zero_counts}
 use Rattle.cp_rot.proofs.ListSystems.{Listed, Listed-system}
 use Rattle.cp_maps.specs.Genus.{IsFlat, OneGenus}
-use Rattle.cp_maps.specs.Maps.{IsMapOf, Rings, flat}
+use Rattle.cp_maps.specs.Maps.{IsMapOf, Rings}
 use Rattle.cp_maps.specs.Names.{Names}
 use Rattle.cp_maps.proofs.FlatRotations.{flat_from_zero, zero_from_flat}
 use Rattle.cp_maps.proofs.Genus.{OneGenus-IsFlat, OneGenus-sym}

@@ -1,18 +1,19 @@
 -- A border taken away, or put in.
--- the darts inside, with one more
 use Rattle.std.proofs.Common.{◌≡◌, ℕ, List, [], ◌∷◌, ◌++◌, append_assoc, sym, refl, ap, ◌∙◌, subst, ◌*◌, map}
 use Rattle.std.proofs.lemmas.List.{append-nil, reverse-append}
 use Rattle.cp_lists.specs.CyclicLists.{Distinct}
+use Rattle.cp_lists.specs.Rows.{flat}
 use Rattle.cp_lists.proofs.TurnedLists.{turn_parts}
 use Rattle.cp_maps.specs.Borders.{Place, border_lists, closed_border, inside_darts, last_begin, outside_darts}
 use Rattle.cp_maps.specs.Genus.{Apart, Becomes, CanBeFlat, IsFlat, SameGenus}
-use Rattle.cp_maps.specs.Maps.{Below, IsMapOf, flat, next_by}
+use Rattle.cp_maps.specs.Maps.{Below, IsMapOf, next_by}
 use Rattle.cp_maps.specs.Twins.{twin}
 use Rattle.cp_maps.proofs.ContractedEdges.{contracted_edge-Becomes}
 use Rattle.cp_maps.proofs.CutLoops.{cut_loop-Apart, cut_loop-CanBeFlat, cut_loop-SameGenus}
 use Rattle.cp_maps.proofs.Genus.{SameGenus-IsFlat, SameGenus-sym, SameGenus-trans}
 use Rattle.cp_maps.proofs.MapLists.{IsMapOf-by, IsMapOf-swap, IsMapOf-turn}
 
+-- the darts inside, with one more
 inside-cons : (q : Place) (qs : List Place) (is : List ℕ)
     → inside_darts (q ∷ qs) ++ is ≡ inside_darts qs ++ q.inside ∷ is
 inside-cons q qs is = ap (λ zs. zs ++ is) (reverse-append (q.inside ∷ []) (map (λ p. p.inside) qs))

@@ -2,6 +2,7 @@
 use Rattle.std.proofs.Common.{◌≡◌, ℕ, ◌<◌, ◌≢◌, List, [], ◌∷◌, ◌++◌, append_assoc, sym, refl, ap, ◌∙◌, subst, inl, inr, ⊎_elim, ◌*◌, arith, map}
 use Rattle.std.proofs.lemmas.List.{append-nil}
 use Rattle.cp_lists.specs.CyclicLists.{Distinct, Has, Lacks, but}
+use Rattle.cp_lists.specs.Rows.{flat}
 use Rattle.cp_lists.specs.Turns.{IsTurn}
 use Rattle.cp_lists.proofs.CyclicLists.{next_from_at}
 use Rattle.cp_lists.proofs.DistinctLists.{Distinct-apart, Distinct-apart_right, Distinct-append, Distinct-append_left, Distinct-append_right, Has-append_cases, Has-append_left, Has-append_right, Has-but, Lacks-append, Lacks-append_left, Lacks-append_right, but-Distinct, but-Has, but-Lacks, has_lacks}
@@ -11,7 +12,7 @@ use Rattle.cp_orbits.proofs.OrbitLaws.{label_step}
 use Rattle.cp_faces.specs.Faces.{face_upto}
 use Rattle.cp_faces.proofs.Merges.{face_upto-twin}
 use Rattle.cp_maps.specs.Genus.{Becomes, OneFace, SameGenus}
-use Rattle.cp_maps.specs.Maps.{IsMapOf, flat, next_by, swapped}
+use Rattle.cp_maps.specs.Maps.{IsMapOf, next_by, swapped}
 use Rattle.cp_maps.specs.Twins.{twin}
 use Rattle.cp_maps.proofs.Edges.{lt_twin, slid-SameGenus, swapped_pendant-SameGenus}
 use Rattle.cp_maps.proofs.Genus.{SameGenus-sym, SameGenus-trans}

@@ -1,12 +1,13 @@
 -- A flat map whose lists are divided into copies that are in different components stays flat.
--- an item of filtered lists is one of the lists that passes
 use Rattle.std.proofs.Common.{◌≡◌, ℕ, ◌<◌, true, eqb, List, [], ◌∷◌, sym, ap, ◌∙◌, subst, ⊎_elim, ◌*◌, Bool, arith, map}
 use Rattle.std.proofs.lemmas.Bool.{eq-eqb, ne_eqb, false≢true, cond-true, cond-false, eqb-true, cases_Bool}
 use Rattle.std.specs.List.{filter}
 use Rattle.cp_lists.specs.CyclicLists.{Distinct, Has, Lacks, follow}
+use Rattle.cp_lists.specs.Rows.{flat}
 use Rattle.cp_lists.specs.Turns.{IsTurn}
 use Rattle.cp_lists.proofs.DistinctLists.{Distinct-append_left, Distinct-append_right, Has-append_cases, Has-append_left, Has-append_right, Lacks-from, has_cases, has_lacks}
 use Rattle.cp_lists.proofs.FilteredLists.{Has-filter, filter-Distinct, filter-Has, filter_agree}
+use Rattle.cp_lists.proofs.FlatLists.{flat-append, flat-filter}
 use Rattle.cp_lists.proofs.TurnedLists.{Has-of_turn, turn-follow}
 use Rattle.cp_orbits.specs.Classes.{labels}
 use Rattle.cp_orbits.specs.Orbits.{Permutes}
@@ -14,24 +15,21 @@ use Rattle.cp_orbits.proofs.ClassLabels.{labels-le, labels-respects}
 use Rattle.cp_orbits.proofs.OrbitLaws.{graph-respects}
 use Rattle.cp_maps.specs.Genus.{AllApart, CanBeFlat, IsFlat, OnePart, in_part, linked}
 use Rattle.cp_maps.specs.Gluings.{AreCopiesOf, AreDivided, AreSplitBy, EachTurnOf, all_copies}
-use Rattle.cp_maps.specs.Maps.{IsMapOf, Ring, Rings, flat, has, only}
+use Rattle.cp_maps.specs.Maps.{IsMapOf, Ring, Rings, has, only}
 use Rattle.cp_maps.specs.Twins.{twin}
 use Rattle.cp_maps.proofs.DividedMaps.{classes-IsFlat}
 use Rattle.cp_maps.proofs.Edges.{twin-OnePart}
 use Rattle.cp_maps.proofs.FlatMaps.{IsFlat-agree, linked-graph}
 use Rattle.cp_maps.proofs.KeptDarts.{kept_darts-CanBeFlat}
-use Rattle.cp_maps.proofs.ListFacts.{below_item, flat-append, has_no, has_yes}
+use Rattle.cp_maps.proofs.ListFacts.{below_item, has_no, has_yes}
 use Rattle.cp_maps.proofs.MapLists.{IsMapOf-Permutes}
 use Rattle.cp_maps.proofs.Parts.{Ring-OnePart}
 use Rattle.cp_maps.proofs.Rings.{Rings-append_left, Rings-append_right}
 
+-- an item of filtered lists is one of the lists that passes
 flat_filter-Has : (p : ℕ → Bool) (rows : List (List ℕ)) (d : ℕ) → Has d (flat (map (filter p) rows))
     → Has d (flat rows) × (p d ≡ true)
-flat_filter-Has p [] d h = absurd h
-flat_filter-Has p (xs ∷ rows) d h = ⊎_elim
-    (λ k. let w = filter-Has p d xs k in (Has-append_left d xs (flat rows) w.0, w.1))
-    (λ k. let w = flat_filter-Has p rows d k in (Has-append_right d xs (flat rows) w.0, w.1))
-    (Has-append_cases d (filter p xs) (flat (map (filter p) rows)) h)
+flat_filter-Has p rows d h = filter-Has p d (flat rows) (subst (Has d) (flat-filter p rows) h)
 
 -- the darts of one class have the same dart behind them in the lists restricted to it
 class_alone : (class g h : ℕ → ℕ) (c : ℕ) (rows : List (List ℕ)) (d : ℕ) → AreSplitBy class g rows

@@ -1,21 +1,22 @@
 -- Two parts that are joined to a vertex do not cross there in a flat map.
--- a vertex of a flat map with four darts, and the map of all other lists
 use Rattle.std.proofs.Common.{◌≡◌, ℕ, ◌≢◌, List, [], ◌∷◌, ◌++◌, append_assoc, sym, refl, ap, ◌∙◌, subst, inl, inr, ⊎_elim, suc, ◌*◌, lt-suc_self, length}
 use Rattle.cp_lists.specs.CyclicLists.{Distinct, Has, Lacks}
+use Rattle.cp_lists.specs.Rows.{flat}
 use Rattle.cp_lists.proofs.DistinctLists.{Distinct-apart, Distinct-append_left, Distinct-append_right, Has-append_cases, Has-append_left, Has-append_right, Lacks-from, has_lacks, has_other}
+use Rattle.cp_lists.proofs.FlatLists.{flat-append}
 use Rattle.cp_maps.specs.Genus.{Becomes, IsFlat, OnePart}
 use Rattle.cp_maps.specs.Gluings.{Grown, HoldsLeaving}
-use Rattle.cp_maps.specs.Maps.{IsMapOf, flat}
+use Rattle.cp_maps.specs.Maps.{IsMapOf}
 use Rattle.cp_maps.specs.Twins.{twin}
 use Rattle.cp_maps.proofs.CollapsedVertices.{collapsed-Becomes}
 use Rattle.cp_maps.proofs.CrossedVertices.{flat-no_crossing}
 use Rattle.cp_maps.proofs.Genus.{SameGenus-IsFlat, SameGenus-trans}
 use Rattle.cp_maps.proofs.GluedVertices.{flat-split}
 use Rattle.cp_maps.proofs.Growth.{OnePart-grown, grown, grown_two-OnePart, middle_cases, middle_item}
-use Rattle.cp_maps.proofs.ListFacts.{flat-append}
 use Rattle.cp_maps.proofs.MapLists.{IsMapOf-among, IsMapOf-exchanged, IsMapOf-front, IsMapOf-swap, IsMapOf-third}
 use Rattle.cp_maps.proofs.Twins.{twin-twin}
 
+-- a vertex of a flat map with four darts, and the map of all other lists
 module _ (e : ℕ) (f g : ℕ → ℕ) (a b c d : ℕ) (ps bs cs ds : List ℕ) (rows : List (List ℕ))
     (is_f : IsMapOf (2 * e) f ((a ∷ (ps ++ b ∷ (bs ++ c ∷ (cs ++ d ∷ ds)))) ∷ rows)) (is_g : IsMapOf (2 * e) g rows)
     (ha : Has (twin a) (flat rows)) (hb : Has (twin b) (flat rows)) (hc : Has (twin c) (flat rows))

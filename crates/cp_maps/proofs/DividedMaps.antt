@@ -1,13 +1,14 @@
 -- Maps in two parts, or in many, with no edge between: flat where the parts are.
--- a map divided by a test with one value on twins and on darts that follow each other, and its two parts
 use Rattle.std.proofs.Common.{◌≡◌, ℕ, ◌<◌, true, false, eqb, List, ◌++◌, sym, ap, ◌∙◌, subst, ⊎_elim, suc, ◌+◌, ◌*◌, ◌≤◌, Bool, arith, zero, ltb, ◌-◌, ◌↔◌, cond}
 use Rattle.std.proofs.lemmas.Bool.{cases_eq, eq-eqb, ne_eqb, false≢true, cond-true, cond-false, cases_lt, cases_Bool, lt-ltb, le-ltb}
 use Rattle.cp_lists.specs.CyclicLists.{Has, Lacks}
+use Rattle.cp_lists.specs.Rows.{flat}
 use Rattle.cp_lists.proofs.DistinctLists.{Lacks-append, Lacks-from, has_cases}
+use Rattle.cp_lists.proofs.FlatLists.{flat-append}
 use Rattle.cp_orbits.specs.Orbits.{Permutes}
 use Rattle.cp_orbits.proofs.OrbitLaws.{Permutes-same}
 use Rattle.cp_maps.specs.Genus.{IsFlat, OneGenus}
-use Rattle.cp_maps.specs.Maps.{IsMapOf, flat, only}
+use Rattle.cp_maps.specs.Maps.{IsMapOf, only}
 use Rattle.cp_maps.specs.Names.{Carries, Names}
 use Rattle.cp_maps.specs.Twins.{twin}
 use Rattle.cp_maps.proofs.Dipoles.{loose_edges-IsFlat}
@@ -15,12 +16,12 @@ use Rattle.cp_maps.proofs.FewerDarts.{CanBeFlat-IsFlat, first_lists-CanBeFlat, l
 use Rattle.cp_maps.proofs.FlatMaps.{IsFlat-agree}
 use Rattle.cp_maps.proofs.FlatUnions.{IsFlat-union, Permutes-union}
 use Rattle.cp_maps.proofs.Genus.{OneGenus-IsFlat, OneGenus-sym}
-use Rattle.cp_maps.proofs.ListFacts.{flat-append}
 use Rattle.cp_maps.proofs.MapLists.{IsMapOf-Permutes}
 use Rattle.cp_maps.proofs.Names.{Carries-OneGenus}
 use Rattle.cp_maps.proofs.Rings.{Rings-append_left, Rings-append_right, rings_same, rings_stay}
 use Rattle.cp_maps.proofs.Twins.{twin-farther}
 
+-- a map divided by a test with one value on twins and on darts that follow each other, and its two parts
 module _ (e : ℕ) (f one two : ℕ → ℕ) (p : ℕ → Bool) (perm : Permutes (2 * e) f) (perm_one : Permutes (2 * e) one)
     (perm_two : Permutes (2 * e) two) (twins : (d : ℕ) → d < 2 * e → p (twin d) ≡ p d)
     (same_part : (d : ℕ) → d < 2 * e → p (f d) ≡ p d) (in_one : (d : ℕ) → d < 2 * e → p d ≡ true → one d ≡ f d)

@@ -2,12 +2,13 @@
 use Rattle.std.proofs.Common.{◌≡◌, ℕ, ◌<◌, List, [], ◌∷◌, sym, refl, inl, ⊎_elim, ◌*◌, arith, ◌↔◌}
 use Rattle.std.proofs.lemmas.Bool.{cases_eq}
 use Rattle.cp_lists.specs.CyclicLists.{Has, Lacks}
+use Rattle.cp_lists.specs.Rows.{flat}
 use Rattle.cp_lists.proofs.DistinctLists.{Distinct-middle, Has-append_right, Lacks-append, Lacks-append_left, Lacks-append_right, has_other}
 use Rattle.cp_orbits.specs.Classes.{graph, labels}
 use Rattle.cp_orbits.specs.Orbits.{Permutes}
 use Rattle.cp_faces.specs.Faces.{face_upto}
 use Rattle.cp_maps.specs.Genus.{IsFlat, OneFace, OnePart, RaisesGenus, SameGenus}
-use Rattle.cp_maps.specs.Maps.{IsMapOf, flat, swapped}
+use Rattle.cp_maps.specs.Maps.{IsMapOf, swapped}
 use Rattle.cp_maps.specs.Twins.{twin}
 use Rattle.cp_maps.proofs.Edges.{lt_twin, put_between-SameGenus, put_between-one_face, put_edge-RaisesGenus, put_within-SameGenus, put_within-two_faces}
 use Rattle.cp_maps.proofs.Genus.{OneFace-agree, RaisesGenus-not_flat, SameGenus-trans}

@@ -1,20 +1,24 @@
 -- Genus by blocks: a map without loops is flat exactly where each block is and no two blocks cross at a vertex.
--- items in order: the first, and the others behind it
 use Rattle.std.proofs.Common.{◌≡◌, ℕ, ◌<◌, ◌≢◌, eqb, List, [], ◌∷◌, ◌++◌, append_assoc, sym, refl, ap, ◌∙◌, subst, inl, inr, ⊎_elim, suc, ◌*◌, Bool, lt-suc_self, length, map, ◌↔◌, cond}
 use Rattle.std.proofs.lemmas.Bool.{cases_eq, eq-eqb, ne_eqb, false≢true, cond-true, cond-false}
 use Rattle.std.specs.List.{filter}
+use Rattle.cp_lists.specs.Crossings.{InOrder, NoCross}
 use Rattle.cp_lists.specs.CyclicLists.{Distinct, Has, Lacks, follow}
+use Rattle.cp_lists.specs.Rows.{flat}
 use Rattle.cp_lists.proofs.CyclicLists.{follow-Has}
 use Rattle.cp_lists.proofs.DistinctLists.{Distinct-apart, Distinct-apart_right, Distinct-append, Distinct-append_left, Distinct-append_right, Has-append_cases, Has-append_left, Has-append_right, Lacks-from, has_cases, has_lacks}
+use Rattle.cp_lists.proofs.FlatLists.{flat-append}
+use Rattle.cp_lists.proofs.Orders.{order_cut}
 use Rattle.cp_lists.proofs.TurnedLists.{turn_parts}
 use Rattle.cp_orbits.specs.Classes.{labels}
 use Rattle.cp_orbits.specs.Orbits.{Permutes}
-use Rattle.cp_maps.specs.Blocks.{AllMade, AllUncrossed, AreBlocks}
-use Rattle.cp_maps.specs.Crossings.{EachClassOf, InOrder, IsUncrossed}
+use Rattle.cp_maps.specs.Blocks.{AllMade, AreBlocks, NoneCross}
 use Rattle.cp_maps.specs.Genus.{AllApart, Becomes, CanBeFlat, Evenly, IsFlat, OnePart, linked}
 use Rattle.cp_maps.specs.Gluings.{AreSplitBy, all_copies}
-use Rattle.cp_maps.specs.Maps.{IsMapOf, Rings, flat, has, next_by}
+use Rattle.cp_maps.specs.ListClasses.{EachClassOf}
+use Rattle.cp_maps.specs.Maps.{IsMapOf, Rings, has, next_by}
 use Rattle.cp_maps.specs.Twins.{twin}
+use Rattle.cp_maps.proofs.AssembledLists.{uncrossed-IsAssembled}
 use Rattle.cp_maps.proofs.AssembledVertices.{assembled-Becomes, assembled-Distinct, assembled_item, item_assembled}
 use Rattle.cp_maps.proofs.Copies.{split_classes-IsFlat}
 use Rattle.cp_maps.proofs.CrossedParts.{flat-no_crossing_parts}
@@ -22,21 +26,12 @@ use Rattle.cp_maps.proofs.Edges.{twin-OnePart}
 use Rattle.cp_maps.proofs.Genus.{SameGenus-IsFlat, SameGenus-trans}
 use Rattle.cp_maps.proofs.Growth.{Evenly-append, Evenly-append_left, Evenly-append_right, middle_cases, middle_item}
 use Rattle.cp_maps.proofs.KeptDarts.{kept_darts-CanBeFlat}
-use Rattle.cp_maps.proofs.ListFacts.{below_item, flat-append, has_no, has_yes}
+use Rattle.cp_maps.proofs.ListFacts.{below_item, has_no, has_yes}
 use Rattle.cp_maps.proofs.MapLists.{IsMapOf-Permutes, IsMapOf-among, IsMapOf-exchanged, IsMapOf-front, IsMapOf-some, IsMapOf-turn}
 use Rattle.cp_maps.proofs.MergedVertices.{same_lists-SameGenus}
 use Rattle.cp_maps.proofs.Parts.{Evenly-two_parts, Ring-OnePart}
 use Rattle.cp_maps.proofs.Rings.{Rings-append_left, Rings-append_right}
-use Rattle.cp_maps.proofs.Runs.{uncrossed-IsAssembled}
 use Rattle.cp_maps.proofs.Twins.{twin-twin}
-
-order_found : (w : ℕ) (ws l : List ℕ) → InOrder (w ∷ ws) l
-    → (p : List ℕ) × (q : List ℕ) × (l ≡ p ++ w ∷ q) × InOrder ws q
-order_found w ws [] h = absurd h
-order_found w ws (x ∷ l) h = ⊎_elim
-    (λ k. ([], l, ap (λ y. y ∷ l) k.0, k.1))
-    (λ k. let r = order_found w ws l k in (x ∷ r.0, r.1, ap (λ ys. x ∷ ys) r.2, r.3))
-    h
 
 -- two equations that follow from each other have one test
 eqb_same : (a b c d : ℕ) → (a ≡ b) ↔ (c ≡ d) → eqb a b ≡ eqb c d
@@ -55,22 +50,22 @@ without_list e f before xs behind is =
     (λ d h. Has-append_right d xs (flat (before ++ behind)) h)
 
 -- the blocks of a flat map do not cross at a vertex
-blocks-IsUncrossed : (e : ℕ) (f class : ℕ → ℕ) (rows before : List (List ℕ)) (xs : List ℕ) (behind : List (List ℕ))
-    → IsMapOf (2 * e) f rows → AreBlocks e class rows → rows ≡ before ++ xs ∷ behind → IsFlat e f → IsUncrossed class xs
-blocks-IsUncrossed e f class rows before xs behind is blocks whole z w x y v h wy xv =
+blocks-NoCross : (e : ℕ) (f class : ℕ → ℕ) (rows before : List (List ℕ)) (xs : List ℕ) (behind : List (List ℕ))
+    → IsMapOf (2 * e) f rows → AreBlocks e class rows → rows ≡ before ++ xs ∷ behind → IsFlat e f → NoCross class xs
+blocks-NoCross e f class rows before xs behind is blocks whole z w x y v h wy xv =
     ⊎_elim (λ s. s) (λ n. absurd (crossing n)) (cases_eq (class w) (class x))
   where
     one : (p : List ℕ) × (q : List ℕ) × (xs ≡ p ++ w ∷ q) × InOrder (x ∷ y ∷ v ∷ []) q
-    one = order_found w (x ∷ y ∷ v ∷ []) xs h
+    one = order_cut w (x ∷ y ∷ v ∷ []) xs h
 
     two : (p : List ℕ) × (q : List ℕ) × (one.1 ≡ p ++ x ∷ q) × InOrder (y ∷ v ∷ []) q
-    two = order_found x (y ∷ v ∷ []) one.1 one.3
+    two = order_cut x (y ∷ v ∷ []) one.1 one.3
 
     three : (p : List ℕ) × (q : List ℕ) × (two.1 ≡ p ++ y ∷ q) × InOrder (v ∷ []) q
-    three = order_found y (v ∷ []) two.1 two.3
+    three = order_cut y (v ∷ []) two.1 two.3
 
     four : (p : List ℕ) × (q : List ℕ) × (three.1 ≡ p ++ v ∷ q) × InOrder [] q
-    four = order_found v [] three.1 three.3
+    four = order_cut v [] three.1 three.3
 
     rest : List (List ℕ)
     rest = before ++ behind
@@ -130,17 +125,17 @@ blocks-IsUncrossed e f class rows before xs behind is blocks whole z w x y v h w
         (λ same. n ((blocks.at_vertex before xs behind whole w x has_w (behind_w x has_x)).1 same)) z
 
 -- at no vertex
-all_blocks-AllUncrossed : (e : ℕ) (f class : ℕ → ℕ) (rows before behind : List (List ℕ)) → IsMapOf (2 * e) f rows
-    → AreBlocks e class rows → rows ≡ before ++ behind → IsFlat e f → AllUncrossed class behind
-all_blocks-AllUncrossed e f class rows before [] is blocks whole z = tt
-all_blocks-AllUncrossed e f class rows before (xs ∷ behind) is blocks whole z = (
-  blocks-IsUncrossed e f class rows before xs behind is blocks whole z,
-  all_blocks-AllUncrossed e f class rows (before ++ xs ∷ []) behind is blocks
+all_blocks-NoneCross : (e : ℕ) (f class : ℕ → ℕ) (rows before behind : List (List ℕ)) → IsMapOf (2 * e) f rows
+    → AreBlocks e class rows → rows ≡ before ++ behind → IsFlat e f → NoneCross class behind
+all_blocks-NoneCross e f class rows before [] is blocks whole z = tt
+all_blocks-NoneCross e f class rows before (xs ∷ behind) is blocks whole z = (
+  blocks-NoCross e f class rows before xs behind is blocks whole z,
+  all_blocks-NoneCross e f class rows (before ++ xs ∷ []) behind is blocks
       (whole ∙ sym (append_assoc before (xs ∷ []) behind)) z,
 )
 
 -- each list is made of its classes
-made_of_classes : (class : ℕ → ℕ) (rows : List (List ℕ)) → Distinct (flat rows) → AllUncrossed class rows
+made_of_classes : (class : ℕ → ℕ) (rows : List (List ℕ)) → Distinct (flat rows) → NoneCross class rows
     → (groups : List (List ℕ × List (List ℕ))) × (map (λ x. x.0) groups ≡ rows) × AllMade class groups
 made_of_classes class [] dis uncrossed = ([], refl, tt)
 made_of_classes class (xs ∷ rows) dis uncrossed =
@@ -375,7 +370,7 @@ all_made_one e f class rows before (x ∷ groups) g is blocks whole made is_g =
 -- where each block is flat and no two cross, the map is flat
 blocks-IsFlat_from : (e : ℕ) (f class : ℕ → ℕ) (rows : List (List ℕ)) → IsMapOf (2 * e) f rows
     → AreBlocks e class rows → ((c : ℕ) → c < 2 * e → CanBeFlat e (map (filter (λ d. eqb (class d) c)) rows))
-    → AllUncrossed class rows → IsFlat e f
+    → NoneCross class rows → IsFlat e f
 blocks-IsFlat_from e f class rows is blocks flat_each uncrossed =
     let made : (groups : List (List ℕ × List (List ℕ))) × (map (λ x. x.0) groups ≡ rows) × AllMade class groups =
     made_of_classes class rows is.once uncrossed in
@@ -400,11 +395,11 @@ blocks-IsFlat_from e f class rows is blocks flat_each uncrossed =
 -- genus by blocks: a map is flat exactly where each block alone is and no two blocks cross at a vertex
 pub blocks-IsFlat : (e : ℕ) (f class : ℕ → ℕ) (rows : List (List ℕ)) → IsMapOf (2 * e) f rows → AreBlocks e class rows
     → IsFlat e f ↔ (((c : ℕ) → c < 2 * e → CanBeFlat e (map (filter (λ d. eqb (class d) c)) rows))
-    × AllUncrossed class rows)
+    × NoneCross class rows)
 blocks-IsFlat e f class rows is blocks = (
   λ z. (
     (λ c lt. kept_darts-CanBeFlat e f rows is z (λ d. eqb (class d) c)),
-    all_blocks-AllUncrossed e f class rows []
+    all_blocks-NoneCross e f class rows []
         rows is blocks refl z,
   ),
   λ w. blocks-IsFlat_from e f class rows is blocks w.0 w.1,

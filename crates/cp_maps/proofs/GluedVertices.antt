@@ -3,16 +3,18 @@ use Rattle.std.proofs.Common.{◌≡◌, ℕ, ◌≢◌, eqb, List, [], ◌∷�
 use Rattle.std.proofs.lemmas.Bool.{cases_eq, eq-eqb, ne_eqb, cond-true, cond-false}
 use Rattle.std.proofs.lemmas.List.{append-nil, map-append, reverse-append}
 use Rattle.cp_lists.specs.CyclicLists.{Distinct, Has, Lacks}
+use Rattle.cp_lists.specs.Rows.{flat}
 use Rattle.cp_lists.proofs.DistinctLists.{Distinct-apart, Distinct-apart_right, Distinct-append_right, Distinct-middle, Has-append_cases, Has-append_left, Has-append_right, Lacks-append_left, Lacks-append_right, has_lacks}
+use Rattle.cp_lists.proofs.FlatLists.{flat-append, flat-map}
 use Rattle.cp_lists.proofs.MappedLists.{Has-map_on}
 use Rattle.cp_lists.proofs.TurnedLists.{turn_parts}
 use Rattle.cp_maps.specs.Genus.{Apart, Becomes, CanBeFlat, IsFlat}
 use Rattle.cp_maps.specs.Gluings.{onto}
-use Rattle.cp_maps.specs.Maps.{IsMapOf, flat, swapped}
+use Rattle.cp_maps.specs.Maps.{IsMapOf, swapped}
 use Rattle.cp_maps.specs.Twins.{twin}
 use Rattle.cp_maps.proofs.ContractedEdges.{contracted_edge-Becomes}
 use Rattle.cp_maps.proofs.Genus.{SameGenus-IsFlat}
-use Rattle.cp_maps.proofs.ListFacts.{flat-append, from_dart}
+use Rattle.cp_maps.proofs.ListFacts.{from_dart}
 use Rattle.cp_maps.proofs.MapLists.{IsMapOf-among, IsMapOf-bare, IsMapOf-front, IsMapOf-merged, IsMapOf-split, IsMapOf-swap, IsMapOf-turn, IsMapOf-unbare}
 use Rattle.cp_maps.proofs.MergedVertices.{merged_between-SameGenus, split_list-IsFlat}
 use Rattle.cp_maps.proofs.Twins.{twin-twin}
@@ -193,14 +195,6 @@ rows_agree h k l (xs ∷ rows) same =
     ap₂ (λ ys zs. ys ∷ zs) (maps_agree h k l xs (λ d q. same d (Has-append_left d xs (flat rows) q)))
     (rows_agree h k l rows (λ d q. same d (Has-append_right d xs (flat rows) q)))
 
--- the items under names
-flat-map : (h : ℕ → ℕ) (rows : List (List ℕ)) (d : ℕ) → Has d (flat rows) → Has (h d) (flat (map (map h) rows))
-flat-map h [] d q = absurd q
-flat-map h (xs ∷ rows) d q = ⊎_elim
-    (λ k. Has-append_left (h d) (map h xs) (flat (map (map h) rows)) (Has-map_on h d xs k))
-    (λ k. Has-append_right (h d) (map h xs) (flat (map (map h) rows)) (flat-map h rows d k))
-    (Has-append_cases d xs (flat rows) q)
-
 -- pairs nested at one vertex, glued from the outermost on
 glued_nested : (e : ℕ) (f : ℕ → ℕ) (ps : List (ℕ × ℕ)) (rows : List (List ℕ)) → IsMapOf (2 * e) f (nested ps ∷ rows)
     → ((d : ℕ) → Has d (map (λ p. p.0) ps) → Has (twin d) (flat rows)) → IsFlat e f
@@ -236,7 +230,7 @@ glued_nested e f (p ∷ ps) rows is there z =
     (λ s. has_lacks d (nested ps) (nested-Has ps d q)
     (subst (λ y. Lacks y (nested ps)) (sym (twin-twin p.0) ∙ ap twin (sym s) ∙ twin-twin d)
     (Lacks-append_left p.0 (nested ps) (p.1 ∷ []) first))))
-    (flat-map h rows (twin d) (there d (inr q))))
+    (subst (Has (h (twin d))) (sym (flat-map h rows)) (Has-map_on h (twin d) (flat rows) (there d (inr q)))))
     (SameGenus-IsFlat e off.0 one.0 one.2 off.2) in
     let second : (c : ℕ) → Has c (map (λ q. q.0) ps)
     → p.1 ≢ twin c =

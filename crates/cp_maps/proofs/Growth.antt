@@ -1,22 +1,24 @@
 -- Lists that grow from one as far as it goes: its component.
--- a dart of the list whose twin is in all, if there is one
 use Rattle.std.proofs.Common.{◌≡◌, ℕ, ◌<◌, true, false, ◌||◌, List, [], ◌∷◌, ◌++◌, append_assoc, sym, refl, ap, ◌∙◌, subst, inl, inr, ⊎_elim, suc, ◌+◌, ◌*◌, Bool, arith, zero, ◌⊎◌, length, length-append, ap₂}
 use Rattle.std.proofs.lemmas.Bool.{false≢true, or_left, or_right, cases_Bool}
 use Rattle.std.proofs.lemmas.List.{append-nil}
 use Rattle.cp_lists.specs.CyclicLists.{Distinct, Has, Lacks}
+use Rattle.cp_lists.specs.Rows.{flat}
 use Rattle.cp_lists.proofs.DistinctLists.{Distinct-apart_right, Has-append_cases, Has-append_left, Has-append_right, has_cases}
+use Rattle.cp_lists.proofs.FlatLists.{flat-append}
 use Rattle.cp_orbits.specs.Orbits.{Permutes}
 use Rattle.cp_maps.specs.Genus.{Evenly, OnePart}
 use Rattle.cp_maps.specs.Gluings.{Grown, Grows}
-use Rattle.cp_maps.specs.Maps.{IsMapOf, Rings, flat, has}
+use Rattle.cp_maps.specs.Maps.{IsMapOf, Rings, has}
 use Rattle.cp_maps.specs.Twins.{twin}
 use Rattle.cp_maps.proofs.Edges.{twin-OnePart}
-use Rattle.cp_maps.proofs.ListFacts.{below_item, flat-append, has_no, has_yes}
+use Rattle.cp_maps.proofs.ListFacts.{below_item, has_no, has_yes}
 use Rattle.cp_maps.proofs.MapLists.{IsMapOf-Permutes, IsMapOf-among, IsMapOf-front}
 use Rattle.cp_maps.proofs.Parts.{Evenly-two_parts, Ring-OnePart}
 use Rattle.cp_maps.proofs.Rings.{Rings-append_left}
 use Rattle.cp_maps.proofs.Twins.{twin-twin}
 
+-- a dart of the list whose twin is in all, if there is one
 twin_in : (all ys : List ℕ) → ((x : ℕ) × Has x all × Has (twin x) ys) ⊎ ((d : ℕ) → Has d ys → Lacks (twin d) all)
 twin_in all [] = inr (λ d h. absurd h)
 twin_in all (y ∷ ys) = ⊎_elim

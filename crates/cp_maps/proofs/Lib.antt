@@ -36,5 +36,5 @@ pub mod Growth
 pub mod CrossedParts
 pub mod GenusByBlocks
 pub mod AssembledVertices
-pub mod Runs
+pub mod AssembledLists
 mod Examples

@@ -5,7 +5,7 @@ use Rattle.std.specs.List.{filter}
 use Rattle.cp_lists.specs.CyclicLists.{Distinct, Has, Lacks}
 use Rattle.cp_lists.proofs.DistinctLists.{Distinct-apart, Distinct-append, Distinct-append_left, Distinct-append_right, Distinct-turn, Has-append_cases, Has-append_left, Has-append_right, Has-split, Has-turn}
 use Rattle.cp_lists.proofs.FilteredLists.{filter_no, filter_yes}
-use Rattle.cp_maps.specs.Maps.{Below, flat, has}
+use Rattle.cp_maps.specs.Maps.{Below, has}
 
 -- an item less
 pub Distinct-less : (xs : List ℕ) (z : ℕ) (ys : List ℕ) → Distinct (xs ++ z ∷ ys) → Distinct (xs ++ ys)
@@ -68,12 +68,6 @@ has_yes d (x ∷ xs) h =
 pub has_no : (d : ℕ) (xs : List ℕ) → Lacks d xs → has d xs ≡ false
 has_no d [] l = refl
 has_no d (x ∷ xs) l = ap (λ b. b || has d xs) (ne_eqb x d l.0) ∙ has_no d xs l.1
-
--- the items of two rows of lists
-pub flat-append : (rows others : List (List ℕ)) → flat (rows ++ others) ≡ flat rows ++ flat others
-flat-append [] others = refl
-flat-append (xs ∷ rows) others = ap (λ ys. xs ++ ys) (flat-append rows others)
-    ∙ sym (append_assoc xs (flat rows) (flat others))
 
 -- lists that agree on names
 pub map-agree : (lists lists' : ℕ → List ℕ) (names : List ℕ) → ((w : ℕ) → Has w names → lists w ≡ lists' w)

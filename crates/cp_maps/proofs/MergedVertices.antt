@@ -1,12 +1,13 @@
 -- Two vertices made one, and one made two.
 use Rattle.std.proofs.Common.{◌≡◌, ℕ, ◌<◌, ◌≢◌, List, ◌∷◌, ◌++◌, sym, refl, ap, ◌∙◌, subst, inl, ◌*◌, arith}
 use Rattle.cp_lists.specs.CyclicLists.{Has, Lacks}
+use Rattle.cp_lists.specs.Rows.{flat}
 use Rattle.cp_lists.proofs.DistinctLists.{Distinct-apart_right, Has-append_left, Has-append_right, has_lacks}
 use Rattle.cp_orbits.specs.Classes.{graph, labels}
 use Rattle.cp_orbits.specs.Orbits.{Permutes}
 use Rattle.cp_orbits.proofs.OrbitLaws.{Permutes-exchange}
 use Rattle.cp_maps.specs.Genus.{IsFlat, OneFace, OnePart, RaisesGenus, SameGenus}
-use Rattle.cp_maps.specs.Maps.{IsMapOf, flat, swapped}
+use Rattle.cp_maps.specs.Maps.{IsMapOf, swapped}
 use Rattle.cp_maps.proofs.FlatMaps.{IsFlat-agree, exchanged, split-IsFlat}
 use Rattle.cp_maps.proofs.Genus.{SameGenus-agree, SameGenus-trans}
 use Rattle.cp_maps.proofs.ListFacts.{below_item}

@@ -2,8 +2,9 @@
 use Rattle.std.proofs.Common.{◌≡◌, ℕ, ◌≢◌, List, [], ◌∷◌, ◌++◌, sym, ap, ◌∙◌, subst, ⊎_elim, map}
 use Rattle.std.proofs.lemmas.List.{map-append}
 use Rattle.cp_lists.specs.CyclicLists.{Distinct, Has, Lacks, but}
+use Rattle.cp_lists.specs.Rows.{flat}
 use Rattle.cp_lists.proofs.DistinctLists.{Has-append_left, Has-append_right, Has-split, but-Distinct, but-Has, but_middle}
-use Rattle.cp_maps.specs.Maps.{IsMapOf, flat}
+use Rattle.cp_maps.specs.Maps.{IsMapOf}
 use Rattle.cp_maps.proofs.MapLists.{IsMapOf-among, IsMapOf-front}
 
 -- the lists of names, with that of u in front

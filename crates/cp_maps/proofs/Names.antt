@@ -1,12 +1,13 @@
 -- A map of m edges in a larger stock of e edges, under other names: its genus stays.
-use Rattle.std.proofs.Common.{◌≡◌, ℕ, ◌<◌, ◌≢◌, true, List, [], ◌∷◌, ◌++◌, sym, refl, ap, ◌∙◌, subst, ⊎_elim, suc, ◌+◌, ◌*◌, ◌≤◌, Bool, arith, zero, not, ltb, map, ◌-◌, ◌/◌, ◌%◌, cond}
+use Rattle.std.proofs.Common.{◌≡◌, ℕ, ◌<◌, ◌≢◌, true, List, [], ◌∷◌, sym, refl, ap, ◌∙◌, subst, ⊎_elim, suc, ◌+◌, ◌*◌, ◌≤◌, Bool, arith, zero, not, ltb, map, ◌-◌, ◌/◌, ◌%◌, cond}
 use Rattle.std.proofs.lemmas.Bool.{cases_eq, false≢true, cond-true, cond-false, cases_lt, cases_Bool, lt-ltb, le-ltb, not-true}
-use Rattle.std.proofs.lemmas.List.{map-append}
 use Rattle.cp_lists.specs.Count.{count}
 use Rattle.cp_lists.specs.CyclicLists.{Has, Lacks}
+use Rattle.cp_lists.specs.Rows.{flat}
 use Rattle.cp_lists.proofs.Choices.{choose}
 use Rattle.cp_lists.proofs.Counting.{count_all, count_both, count_inject, count_some}
 use Rattle.cp_lists.proofs.DistinctLists.{Has-append_cases, Has-append_left, Has-append_right, Lacks-from, has_cases, has_lacks}
+use Rattle.cp_lists.proofs.FlatLists.{flat-map}
 use Rattle.cp_lists.proofs.MappedLists.{Has-map_on, follow-map_on, map_on-Has}
 use Rattle.cp_orbits.specs.Orbits.{Permutes, Renumbers}
 use Rattle.cp_orbits.proofs.OrbitLaws.{Permutes-agree, Permutes-onto}
@@ -14,7 +15,7 @@ use Rattle.cp_faces.specs.Faces.{stands}
 use Rattle.cp_faces.proofs.Faces.{stands_at, stands_some}
 use Rattle.cp_faces.proofs.Merges.{partner-twin}
 use Rattle.cp_maps.specs.Genus.{OneGenus, SameGenus}
-use Rattle.cp_maps.specs.Maps.{IsMapOf, Rings, flat}
+use Rattle.cp_maps.specs.Maps.{IsMapOf, Rings}
 use Rattle.cp_maps.specs.Names.{Carries, Names}
 use Rattle.cp_maps.specs.Twins.{twin}
 use Rattle.cp_maps.proofs.Genus.{OneGenus-trans, SameGenus-agree}
@@ -187,11 +188,6 @@ Carries-OneGenus m e j f g le perm_f perm_g names carries =
 
 -- rows under other names
 module _ (j : ℕ → ℕ) where
-  -- the items of all lists
-  flat-names : (rows : List (List ℕ)) → flat (map (map j) rows) ≡ map j (flat rows)
-  flat-names [] = refl
-  flat-names (xs ∷ rows) = ap (λ ys. map j xs ++ ys) (flat-names rows) ∙ sym (map-append j xs (flat rows))
-
   -- where j gives different names, the rings are those under the names
   rings_names : (f g : ℕ → ℕ) (rows : List (List ℕ))
       → ((c d : ℕ) → Has c (flat rows) → Has d (flat rows) → j c ≡ j d → c ≡ d) → Rings f rows
@@ -223,7 +219,7 @@ named_lists-OneGenus m e j f g rows le names is_f is_g =
     })
   where
     named : (y : ℕ) → Has y (flat (map (map j) rows)) → (d : ℕ) × Has d (flat rows) × (j d ≡ y)
-    named y h = map_on-Has j y (flat rows) (subst (Has y) (flat-names j rows) h)
+    named y h = map_on-Has j y (flat rows) (subst (Has y) (flat-map j rows) h)
 
     free : (d : ℕ) → d < 2 * m → Lacks d (flat rows) → Lacks (j d) (flat (map (map j) rows))
     free d lt l = Lacks-from (j d) (flat (map (map j) rows)) (λ h.

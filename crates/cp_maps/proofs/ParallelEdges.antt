@@ -1,10 +1,11 @@
 -- Edges side by side are as one.
 use Rattle.std.proofs.Common.{◌≡◌, ℕ, List, [], ◌∷◌, ◌++◌, append_assoc, sym, refl, ap, ◌∙◌, subst, inl, inr, ⊎_elim, ◌*◌}
 use Rattle.std.proofs.lemmas.List.{append-nil}
+use Rattle.cp_lists.specs.Rows.{flat}
 use Rattle.cp_lists.proofs.DistinctLists.{Has-append_cases, Has-append_left, Has-append_right}
 use Rattle.cp_lists.proofs.TurnedLists.{turn_parts}
 use Rattle.cp_maps.specs.Genus.{Becomes, SameGenus}
-use Rattle.cp_maps.specs.Maps.{IsMapOf, flat, next_by}
+use Rattle.cp_maps.specs.Maps.{IsMapOf, next_by}
 use Rattle.cp_maps.specs.Twins.{mirror, twin}
 use Rattle.cp_maps.proofs.ContractedEdges.{contracted_edge-IsMapOf, contracted_edge-SameGenus, trivial_loop-SameGenus}
 use Rattle.cp_maps.proofs.Genus.{SameGenus-sym, SameGenus-trans}

@@ -2,13 +2,14 @@
 use Rattle.std.proofs.Common.{◌≡◌, ℕ, List, [], ◌∷◌, ◌++◌, sym, refl, ap, ◌∙◌, subst, inl, ⊎_elim}
 use Rattle.std.proofs.lemmas.Bool.{cases_eq, cond-true, cond-false}
 use Rattle.cp_lists.specs.CyclicLists.{Distinct, Has, Lacks, follow, next_from}
+use Rattle.cp_lists.specs.Rows.{flat}
 use Rattle.cp_lists.specs.Turns.{IsTurn}
 use Rattle.cp_lists.proofs.CyclicLists.{follow-Has, follow-apart, next_from-append_left, next_from-append_right, next_from_at, next_from_other}
 use Rattle.cp_lists.proofs.DistinctLists.{Distinct-apart, Distinct-apart_right, Distinct-append_left, Distinct-append_right, Has-append_cases, Has-append_left, Has-append_right, Lacks-append_left, Lacks-append_right, has_lacks, has_other}
 use Rattle.cp_lists.proofs.TurnedLists.{Has-of_turn, turn-Distinct, turn-follow}
 use Rattle.cp_orbits.specs.Orbits.{exchange}
 use Rattle.cp_orbits.proofs.OrbitLaws.{exchange_comm, exchange_left, exchange_other}
-use Rattle.cp_maps.specs.Maps.{Ring, Rings, flat, has, next_by, swapped}
+use Rattle.cp_maps.specs.Maps.{Ring, Rings, has, next_by, swapped}
 use Rattle.cp_maps.proofs.ListFacts.{has_no, has_yes}
 
 -- a row of items with another end

@@ -1,5 +1,4 @@
 -- Some of the darts of a flat map, under other names, are flat.
--- a map of m edges whose lists, under the names j, are those of the darts that a test keeps in a flat map
 use Rattle.std.proofs.Common.{ℕ, List, ◌*◌, ◌≤◌, Bool, map, ◌↔◌}
 use Rattle.std.specs.List.{filter}
 use Rattle.cp_maps.specs.Genus.{CanBeFlat, IsFlat, OneGenus}
@@ -9,6 +8,7 @@ use Rattle.cp_maps.proofs.Genus.{OneGenus-IsFlat, OneGenus-sym}
 use Rattle.cp_maps.proofs.KeptDarts.{kept_darts-CanBeFlat}
 use Rattle.cp_maps.proofs.Names.{named_lists-OneGenus}
 
+-- a map of m edges whose lists, under the names j, are those of the darts that a test keeps in a flat map
 pub subsystem-IsFlat : (m e : ℕ) (j f g : ℕ → ℕ) (keep : ℕ → Bool) (rows others : List (List ℕ)) → m ≤ e → Names m e j
     → IsMapOf (2 * e) f others → IsFlat e f → SameRings (2 * e) (map (filter keep) others) (map (map j) rows)
     → IsMapOf (2 * m) g rows → IsFlat m g

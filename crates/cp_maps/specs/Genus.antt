@@ -2,9 +2,10 @@
 -- and on, and it is flat where these and twice the components add up as in the plane (Euler 1758).
 use Rattle.std.specs.Prelude.{◌≡◌, ℕ, eqb, List, [], ◌∷◌, suc, ◌+◌, ◌*◌, ◌≤◌, Bool, zero}
 use Rattle.cp_lists.specs.CyclicLists.{Has}
+use Rattle.cp_lists.specs.Rows.{flat}
 use Rattle.cp_orbits.specs.Classes.{classes, graph, labels, orbits}
 use Rattle.cp_faces.specs.Faces.{face_upto}
-use Rattle.cp_maps.specs.Maps.{IsMapOf, flat, next_by}
+use Rattle.cp_maps.specs.Maps.{IsMapOf, next_by}
 
 -- the pairs of darts of one edge, of the first i edges, and of darts that follow each other
 abbrev pub linked : (ℕ → ℕ) → ℕ → ℕ → List (ℕ × ℕ)

@@ -2,9 +2,10 @@
 use Rattle.std.specs.Prelude.{◌≡◌, ℕ, eqb, List, [], ◌∷◌, ◌++◌, ◌⊎◌, cond}
 use Rattle.std.specs.List.{filter}
 use Rattle.cp_lists.specs.CyclicLists.{Has, Lacks, follow}
+use Rattle.cp_lists.specs.Rows.{flat}
 use Rattle.cp_lists.specs.Turns.{IsTurn}
 use Rattle.cp_maps.specs.Genus.{AllApart}
-use Rattle.cp_maps.specs.Maps.{IsMapOf, flat, has}
+use Rattle.cp_maps.specs.Maps.{IsMapOf, has}
 use Rattle.cp_maps.specs.Twins.{twin}
 
 -- the dart in place of d, where the second dart of each pair takes the place of the twin of the first

@@ -5,6 +5,6 @@ pub mod Names
 pub mod Borders
 pub mod Trees
 pub mod Gluings
-pub mod Crossings
+pub mod ListClasses
 pub mod Classes
 pub mod Blocks

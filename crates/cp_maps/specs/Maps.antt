@@ -1,7 +1,8 @@
 -- Maps of darts on a fixed stock of edges: edge i has the darts 2i and 2i + 1, a permutation leads from each dart to
 -- the dart behind it, and a dart that is not used is loose: it stays.
-use Rattle.std.specs.Prelude.{◌≡◌, ℕ, ◌<◌, false, ◌||◌, eqb, List, [], ◌∷◌, ◌++◌, Bool, cond}
+use Rattle.std.specs.Prelude.{◌≡◌, ℕ, ◌<◌, false, ◌||◌, eqb, List, [], ◌∷◌, Bool, cond}
 use Rattle.cp_lists.specs.CyclicLists.{Distinct, Has, Lacks, follow}
+use Rattle.cp_lists.specs.Rows.{flat}
 use Rattle.cp_orbits.specs.Orbits.{exchange}
 
 -- f, with what leads to a and what leads to b exchanged
@@ -12,11 +13,6 @@ swapped a b f d = exchange a b (f d)
 pub record Ring (f : ℕ → ℕ) (xs : List ℕ) : Type 0 where
   pub distinct : Distinct xs
   pub along : (d : ℕ) → Has d xs → f d ≡ follow xs d
-
--- all lists one behind the other
-abbrev pub flat : List (List ℕ) → List ℕ
-flat [] = []
-flat (xs ∷ rows) = xs ++ flat rows
 
 -- each list is a ring
 abbrev pub Rings : (ℕ → ℕ) → List (List ℕ) → Type 0
