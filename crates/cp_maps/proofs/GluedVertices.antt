@@ -1,5 +1,5 @@
 -- Lists of different components put one behind the other, and two vertices glued.
-use Rattle.std.proofs.Common.{◌≡◌, ℕ, ◌≢◌, eqb, List, [], ◌∷◌, ◌++◌, append_assoc, sym, refl, ap, ◌∙◌, subst, inl, inr, ⊎_elim, ◌*◌, map, ap₂, cond, reverse}
+use Rattle.std.proofs.Common.{◌≡◌, ℕ, ◌≢◌, eqb, List, [], ◌∷◌, ◌++◌, append_assoc, sym, refl, ap, ◌∙◌, subst, inl, inr, ⊎_elim, ◌*◌, map, ap₂, reverse}
 use Rattle.std.proofs.lemmas.Bool.{cases_eq, eq-eqb, ne_eqb, cond-true, cond-false}
 use Rattle.std.proofs.lemmas.List.{append-nil, map-append, reverse-append}
 use Rattle.cp_lists.specs.CyclicLists.{Distinct, Has, Lacks}
@@ -9,7 +9,7 @@ use Rattle.cp_lists.proofs.FlatLists.{flat-append, flat-map}
 use Rattle.cp_lists.proofs.MappedLists.{Has-map_on}
 use Rattle.cp_lists.proofs.TurnedLists.{turn_parts}
 use Rattle.cp_maps.specs.Genus.{Apart, Becomes, CanBeFlat, IsFlat}
-use Rattle.cp_maps.specs.Gluings.{onto}
+use Rattle.cp_maps.specs.Gluings.{in_place, onto}
 use Rattle.cp_maps.specs.Maps.{IsMapOf, swapped}
 use Rattle.cp_maps.specs.Twins.{twin}
 use Rattle.cp_maps.proofs.ContractedEdges.{contracted_edge-Becomes}
@@ -70,21 +70,17 @@ pair_split e f a b (c ∷ zs) rows is z =
           (swapped b c f) b c (a ∷ []) zs rows is two z,
     )
 
--- q in place of t
-abbrev in_place : ℕ → ℕ → ℕ → ℕ
-in_place t q d = cond (eqb d t) q d
-
 -- another dart stays
-in_place_other : (t q d : ℕ) → d ≢ t → in_place t q d ≡ d
+pub in_place_other : (t q d : ℕ) → d ≢ t → in_place t q d ≡ d
 in_place_other t q d ne = cond-false (eqb d t) q d (ne_eqb d t ne)
 
 -- lists without t stay
-lists_stay : (t q : ℕ) (xs : List ℕ) → Lacks t xs → map (in_place t q) xs ≡ xs
+pub lists_stay : (t q : ℕ) (xs : List ℕ) → Lacks t xs → map (in_place t q) xs ≡ xs
 lists_stay t q [] l = refl
 lists_stay t q (x ∷ xs) l = ap₂ (λ y ys. y ∷ ys) (in_place_other t q x l.0) (lists_stay t q xs l.1)
 
 -- all of them
-rows_stay : (t q : ℕ) (rows : List (List ℕ)) → Lacks t (flat rows) → map (map (in_place t q)) rows ≡ rows
+pub rows_stay : (t q : ℕ) (rows : List (List ℕ)) → Lacks t (flat rows) → map (map (in_place t q)) rows ≡ rows
 rows_stay t q [] l = refl
 rows_stay t q (xs ∷ rows) l =
     ap₂ (λ ys zs. ys ∷ zs) (lists_stay t q xs (Lacks-append_left t xs (flat rows) l))
@@ -103,7 +99,7 @@ flat-split d (xs ∷ rows) h = ⊎_elim
 -- a vertex of two darts contracted along the edge of one: the other takes the place of its twin
 pub straightened-Becomes : (e : ℕ) (f : ℕ → ℕ) (q p : ℕ) (rows : List (List ℕ))
     → IsMapOf (2 * e) f ((q ∷ p ∷ []) ∷ rows) → Has (twin p) (flat rows)
-    → Becomes e f (map (map (λ d. cond (eqb d (twin p)) q d)) rows)
+    → Becomes e f (map (map (in_place (twin p) q)) rows)
 straightened-Becomes e f q p rows is h = (
   one.0,
   subst (IsMapOf (2 * e) one.0) (sym whole)
@@ -183,7 +179,7 @@ onto_other (p ∷ ps) d far = cond-false (eqb d (twin p.0)) p.1 (onto ps d) (ne_
     ∙ onto_other ps d (λ c h. far c (inr h))
 
 -- a list under two names, one after the other, and under a third that agrees
-maps_agree : (h k l : ℕ → ℕ) (xs : List ℕ) → ((d : ℕ) → Has d xs → k (h d) ≡ l d) → map k (map h xs) ≡ map l xs
+pub maps_agree : (h k l : ℕ → ℕ) (xs : List ℕ) → ((d : ℕ) → Has d xs → k (h d) ≡ l d) → map k (map h xs) ≡ map l xs
 maps_agree h k l [] same = refl
 maps_agree h k l (x ∷ xs) same = ap₂ (λ y ys. y ∷ ys) (same x (inl refl)) (maps_agree h k l xs (λ d q. same d (inr q)))
 

@@ -35,6 +35,7 @@ pub mod CollapsedClasses
 pub mod Growth
 pub mod CrossedParts
 pub mod GenusByBlocks
+pub mod BondedVertices
 pub mod AssembledVertices
 pub mod AssembledLists
 mod Examples

@@ -1,9 +1,9 @@
 -- Facts of lists of lists that the maps need.
 use Rattle.std.proofs.Common.{◌≡◌, ℕ, ◌<◌, true, false, ◌||◌, eqb, List, [], ◌∷◌, ◌++◌, append_assoc, sym, refl, ap, ◌∙◌, subst, inl, inr, ⊎_elim, Bool, ◌⊎◌, ◌&&◌, map, ap₂}
-use Rattle.std.proofs.lemmas.Bool.{eq-eqb, ne_eqb, or_left, or_right, cases_Bool}
+use Rattle.std.proofs.lemmas.Bool.{eq-eqb, ne_eqb, false≢true, or_left, or_right, cases_Bool}
 use Rattle.std.specs.List.{filter}
 use Rattle.cp_lists.specs.CyclicLists.{Distinct, Has, Lacks}
-use Rattle.cp_lists.proofs.DistinctLists.{Distinct-apart, Distinct-append, Distinct-append_left, Distinct-append_right, Distinct-turn, Has-append_cases, Has-append_left, Has-append_right, Has-split, Has-turn}
+use Rattle.cp_lists.proofs.DistinctLists.{Distinct-apart, Distinct-append, Distinct-append_left, Distinct-append_right, Distinct-turn, Has-append_cases, Has-append_left, Has-append_right, Has-split, Has-turn, has_cases}
 use Rattle.cp_lists.proofs.FilteredLists.{filter_no, filter_yes}
 use Rattle.cp_maps.specs.Maps.{Below, has}
 
@@ -90,3 +90,7 @@ filter_twice p q r (x ∷ xs) both = ⊎_elim
     (λ u. ap (filter q) (filter_no p x xs u) ∙ filter_twice p q r xs both
     ∙ sym (filter_no r x xs (both x ∙ ap (λ a. a && q x) u)))
     (cases_Bool (p x))
+
+-- what passes the test is an item
+pub has_true : (d : ℕ) (xs : List ℕ) → has d xs ≡ true → Has d xs
+has_true d xs t = ⊎_elim (λ h. h) (λ l. absurd (false≢true (sym (has_no d xs l) ∙ t))) (has_cases d xs)

@@ -8,6 +8,10 @@ use Rattle.cp_maps.specs.Genus.{AllApart}
 use Rattle.cp_maps.specs.Maps.{IsMapOf, has}
 use Rattle.cp_maps.specs.Twins.{twin}
 
+-- q in place of t
+abbrev pub in_place : ℕ → ℕ → ℕ → ℕ
+in_place t q d = cond (eqb d t) q d
+
 -- the dart in place of d, where the second dart of each pair takes the place of the twin of the first
 abbrev pub onto : List (ℕ × ℕ) → ℕ → ℕ
 onto [] d = d

@@ -8,3 +8,4 @@ pub mod Gluings
 pub mod ListClasses
 pub mod Classes
 pub mod Blocks
+pub mod Bonds
