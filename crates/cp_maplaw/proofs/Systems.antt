@@ -56,7 +56,7 @@ module _ (v n : ℕ) (at : ℕ → ℕ) (lists : ℕ → List ℕ) (l : Listed v
     rings_upto w (omega arith),
   )
 
-  -- it is the map of the lists
+  -- the function that leads each dart to the next in the list of its vertex is the map of the lists
   pub IsMapOf-Listed : IsMapOf n f (rows_upto lists v)
   IsMapOf-Listed = record {
     once = once_upto v (omega arith);
@@ -67,7 +67,7 @@ module _ (v n : ℕ) (at : ℕ → ℕ) (lists : ℕ → List ℕ) (l : Listed v
         (own_upto v (omega arith) d lt (l.placed d lt)) lacks);
   }
 
--- they are those of its next darts
+-- the map of a rotation system has the lists of its vertices
 pub IsMapOf-system : (r : System) → IsRotation r → IsMapOf (2 * edges r) (next r) (rows_of r)
 IsMapOf-system r is =
     subst (λ n. IsMapOf n (next r) (rows_of r)) is.paired

@@ -353,8 +353,8 @@ mirrored_partners e along (x ∷ us) vs can there back =
     turn-trans (reverse (y ∷ map along us)) (y ∷ reverse (map along us)) vs (turn_reverse_head y (map along us))
     (turn-sym vs (y ∷ reverse (map along us)) (subst (λ zs. IsTurn vs (y ∷ zs)) plain t.1))
 
--- the two poles of a bond in a flat map mirror each other: each dart of the one goes on, along an edge or through a part
--- of the rest of its own, as a dart of the other, and these stand in the reverse order
+-- the two poles of a bond in a flat map mirror each other: each dart of the one goes on, along its edge or through a
+-- part of its own of the rest, as a dart of the other, and these stand in the reverse order
 pub bonded_vertices-IsTurn : (e : ℕ) (f along : ℕ → ℕ) (us vs : List ℕ) (rows : List (List ℕ))
     → IsMapOf (2 * e) f (us ∷ vs ∷ rows) → IsFlat e f → AreBonded e along us vs rows
     → IsTurn (reverse (map along us)) vs

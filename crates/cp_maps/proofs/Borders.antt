@@ -69,7 +69,7 @@ border-SameGenus e f g q qs rows is_f is_g apart =
     (subst (λ zs. IsMapOf (2 * e) g (zs ∷ outside_darts (q ∷ qs) ∷ rows)) whole is_g)
     (subst (λ zs. Apart e g zs (outside_darts (q ∷ qs))) whole apart)
 
--- where the darts of the border are fresh, it can be put in
+-- a border whose darts are fresh can be put in between a vertex and another that is apart
 pub border-Becomes : (e : ℕ) (g : ℕ → ℕ) (q : Place) (qs : List Place) (rows : List (List ℕ))
     → IsMapOf (2 * e) g (inside_darts (q ∷ qs) ∷ outside_darts (q ∷ qs) ∷ rows)
     → Apart e g (inside_darts (q ∷ qs)) (outside_darts (q ∷ qs)) → Distinct (flat (closed_border (q ∷ qs) ++ rows))

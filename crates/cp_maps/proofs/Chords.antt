@@ -96,14 +96,14 @@ module _ (e : ℕ) (f g : ℕ → ℕ) (x a b : ℕ) (xs ys : List ℕ) (rows : 
       (lt_twin e f perm_f x lt_x) twin_free)))
       is_g
 
-  -- within a face the genus stays
+  -- an edge put in between two places of a list that are in one face keeps the genus
   pub chord_within-SameGenus : OneFace e f a b → SameGenus e f g
   chord_within-SameGenus one =
       SameGenus-trans e f put_in g (put_within-SameGenus e f perm_f x lt_x (is_f.loose x lt_x x_new)
       (is_f.loose (twin x) (lt_twin e f perm_f x lt_x) twin_new) a b is_f.below.0 lt_b x_new.0 twin_new.0
       (has_other b x old b_old x_new) (has_other b (twin x) old b_old twin_new) one) after
 
-  -- else it grows
+  -- an edge put in between two places of a list that are in two faces raises the genus
   pub chord-RaisesGenus : (OneFace e f a b → ⊥) → RaisesGenus e f g
   chord-RaisesGenus two = omega (
     arith,

@@ -63,7 +63,7 @@ leaving_kept zs all d holds = (
   λ w. Has-filter (leaves all) d zs (holds.outward d w.0 w.1) (leaves_yes all d w.1),
 )
 
--- a class made one vertex without loops
+-- a class of lists of a flat map can be made one vertex without loops
 pub collapsed_class-CanBeFlat : (e : ℕ) (f : ℕ → ℕ) (zs : List ℕ) (group rows : List (List ℕ))
     → IsMapOf (2 * e) f (zs ∷ (group ++ rows)) → Grows zs group → IsFlat e f
     → (ws : List ℕ) × CanBeFlat e (ws ∷ rows) × IsClassList (zs, group) ws

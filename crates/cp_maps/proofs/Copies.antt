@@ -102,7 +102,7 @@ own_copy e g xs (zs ∷ copies) d turned apart rings h = ⊎_elim
     ))
     (Has-append_cases d zs (flat copies) h)
 
--- the items of copies are those of the list
+-- each item of a copy is one of the list
 pub copies-Has : (xs : List ℕ) (copies : List (List ℕ)) (d : ℕ) → EachTurnOf xs copies → Has d (flat copies) → Has d xs
 copies-Has xs [] d turned h = absurd h
 copies-Has xs (ys ∷ copies) d turned h = ⊎_elim

@@ -30,7 +30,7 @@ loose_edges-IsFlat e = OneGenus-IsFlat 0 (λ d. d) e (λ d. d) (all e) (omega ar
         OneGenus-trans 0 (λ d. d) k (λ d. d) (suc k) (λ d. d) (all k)
         (loose_edge-OneGenus k (λ d. d) (Permutes-same (2 * suc k)) refl refl)
 
--- two vertices alone with their edges, in reverse orders: they are flat
+-- two vertices that are alone with their edges, in reverse orders, make a flat map
 pub mirrored_dipole-IsFlat : (e : ℕ) (f : ℕ → ℕ) (x : ℕ) (xs : List ℕ)
     → IsMapOf (2 * e) f ((x ∷ xs) ∷ (twin x ∷ mirror xs) ∷ []) → IsFlat e f
 mirrored_dipole-IsFlat e f x xs is =
@@ -92,7 +92,7 @@ no_rest e f x y xs us (b ∷ vs) is back z = absurd (
     lacks : Lacks (twin y) (b ∷ vs)
     lacks = (Distinct-middle (twin y) (xs ++ us) (b ∷ vs) is_g.rings.0.distinct.1).1
 
--- and where they are flat, they are in reverse orders
+-- two vertices that are alone with their edges in a flat map have them in reverse orders
 pub flat_dipole-mirror : (e : ℕ) (f : ℕ → ℕ) (x : ℕ) (xs ys : List ℕ)
     → IsMapOf (2 * e) f ((x ∷ xs) ∷ (twin x ∷ ys) ∷ []) → ((d : ℕ) → Has d xs → Has (twin d) ys)
     → ((d : ℕ) → Has d ys → Has (twin d) xs) → IsFlat e f → ys ≡ mirror xs

@@ -94,13 +94,13 @@ module _ (e : ℕ) (f one two : ℕ → ℕ) (p : ℕ → Bool) (perm : Permutes
         (cases_lt y (2 * e));
   }
 
-  -- so the genus is that of both
+  -- a map divided by a test has the genus of its two parts side by side
   pub divided-OneGenus : OneGenus e f (e + e) both
   divided-OneGenus =
       Carries-OneGenus e (e + e) name f both (omega arith) perm
       (Permutes-union e e one two both perm_one perm_two both_low both_high) names carries
 
-  -- where both parts are flat, the whole is
+  -- a map divided by a test is flat where both parts are
   pub divided_parts-IsFlat : IsFlat e one → IsFlat e two → IsFlat e f
   divided_parts-IsFlat flat_one flat_two =
       OneGenus-IsFlat (e + e) both e f (OneGenus-sym e f (e + e) both divided-OneGenus)
@@ -188,7 +188,7 @@ module _ (e : ℕ) (f : ℕ → ℕ) (class : ℕ → ℕ) (perm : Permutes (2 *
       cond-false (eqb (class d) k) (f d) d (ne_eqb (class d) k (λ s. omega arith)))
       (first-IsFlat k (omega arith)) (each k (omega arith))
 
-  -- where each class alone is flat, the map is
+  -- a map divided into classes is flat where each class alone is
   pub classes-IsFlat : IsFlat e f
   classes-IsFlat =
       IsFlat-agree e (first (2 * e)) f (perm_first (2 * e)) (λ d lt. first_in (2 * e) d (bound d lt))
@@ -221,7 +221,7 @@ module _ (e : ℕ) (f one two : ℕ → ℕ) (rows others : List (List ℕ)) (p 
       (has_cases d (flat others)))
       (has_cases d (flat rows))
 
-  -- so they are flat exactly where both parts are
+  -- lists in two parts with no edge between are flat exactly where both parts are
   pub divided-IsFlat : IsFlat e f ↔ (IsFlat e one × IsFlat e two)
   divided-IsFlat = (
     λ z. (

@@ -19,7 +19,7 @@ use Rattle.cp_maps.proofs.MapLists.{IsMapOf-among, IsMapOf-bare, IsMapOf-front, 
 use Rattle.cp_maps.proofs.MergedVertices.{merged_between-SameGenus, split_list-IsFlat}
 use Rattle.cp_maps.proofs.Twins.{twin-twin}
 
--- two lists of different components as one
+-- two lists of different components can be put one behind the other
 pub concatenated-Becomes : (e : ℕ) (f : ℕ → ℕ) (xs ys : List ℕ) (rows : List (List ℕ))
     → IsMapOf (2 * e) f (xs ∷ ys ∷ rows) → Apart e f xs ys → Becomes e f ((xs ++ ys) ∷ rows)
 concatenated-Becomes e f [] ys rows is apart = (f, IsMapOf-unbare (2 * e) f (ys ∷ rows) is, refl)
@@ -70,23 +70,23 @@ pair_split e f a b (c ∷ zs) rows is z =
           (swapped b c f) b c (a ∷ []) zs rows is two z,
     )
 
--- another dart stays
+-- a dart that is not replaced stays
 pub in_place_other : (t q d : ℕ) → d ≢ t → in_place t q d ≡ d
 in_place_other t q d ne = cond-false (eqb d t) q d (ne_eqb d t ne)
 
--- lists without t stay
+-- a list without the dart that is replaced stays
 pub lists_stay : (t q : ℕ) (xs : List ℕ) → Lacks t xs → map (in_place t q) xs ≡ xs
 lists_stay t q [] l = refl
 lists_stay t q (x ∷ xs) l = ap₂ (λ y ys. y ∷ ys) (in_place_other t q x l.0) (lists_stay t q xs l.1)
 
--- all of them
+-- lists without the dart that is replaced stay
 pub rows_stay : (t q : ℕ) (rows : List (List ℕ)) → Lacks t (flat rows) → map (map (in_place t q)) rows ≡ rows
 rows_stay t q [] l = refl
 rows_stay t q (xs ∷ rows) l =
     ap₂ (λ ys zs. ys ∷ zs) (lists_stay t q xs (Lacks-append_left t xs (flat rows) l))
     (rows_stay t q rows (Lacks-append_right t xs (flat rows) l))
 
--- the list that has a dart
+-- a dart in several lists: the list that has it, and where it stands there
 pub flat-split : (d : ℕ) (rows : List (List ℕ)) → Has d (flat rows)
     → (before : List (List ℕ)) × (us : List ℕ) × (vs : List ℕ) × (behind : List (List ℕ))
     × (rows ≡ before ++ (us ++ d ∷ vs) ∷ behind)
@@ -178,7 +178,7 @@ onto_other [] d far = refl
 onto_other (p ∷ ps) d far = cond-false (eqb d (twin p.0)) p.1 (onto ps d) (ne_eqb d (twin p.0) (far p.0 (inl refl)))
     ∙ onto_other ps d (λ c h. far c (inr h))
 
--- a list under two names, one after the other, and under a third that agrees
+-- a list under two names, one after the other, is a list under a third that agrees
 pub maps_agree : (h k l : ℕ → ℕ) (xs : List ℕ) → ((d : ℕ) → Has d xs → k (h d) ≡ l d) → map k (map h xs) ≡ map l xs
 maps_agree h k l [] same = refl
 maps_agree h k l (x ∷ xs) same = ap₂ (λ y ys. y ∷ ys) (same x (inl refl)) (maps_agree h k l xs (λ d q. same d (inr q)))

@@ -52,7 +52,7 @@ middle_cases d before ys behind h = ⊎_elim
     (Has-append_cases d ys (flat behind) k))
     (Has-append_cases d (flat before) (ys ++ flat behind) (subst (Has d) (flat-append before (ys ∷ behind)) h))
 
--- and back
+-- an item of a list among others, or of the others, is one of all of them
 pub middle_item : (d : ℕ) (before : List (List ℕ)) (ys : List ℕ) (behind : List (List ℕ))
     → Has d ys ⊎ Has d (flat (before ++ behind)) → Has d (flat (before ++ ys ∷ behind))
 middle_item d before ys behind h = subst (Has d) (sym (flat-append before (ys ∷ behind))) (⊎_elim
@@ -63,7 +63,7 @@ middle_item d before ys behind h = subst (Has d) (sym (flat-append before (ys �
     (Has-append_cases d (flat before) (flat behind) (subst (Has d) (flat-append before behind) k)))
     h)
 
--- lists grow from one as far as it goes
+-- of some lists those that grow from one as far as it goes can be taken
 pub grown : (n : ℕ) (zs : List ℕ) (group : List (List ℕ)) → length group < n → Grown zs group
 grown zero zs group lt = absurd (omega arith)
 grown (suc n) zs group lt = ⊎_elim
@@ -124,18 +124,18 @@ Evenly-same p b (xs ∷ rows) same = (
   Evenly-same p b rows (λ d h. same d (Has-append_right d xs (flat rows) h)),
 )
 
--- in two parts
+-- a test with one value on each of some lists and on each of others has one on each of both
 pub Evenly-append : (p : ℕ → Bool) (rows others : List (List ℕ)) → Evenly p rows → Evenly p others
     → Evenly p (rows ++ others)
 Evenly-append p [] others one two = two
 Evenly-append p (xs ∷ rows) others one two = (one.0, Evenly-append p rows others one.1 two)
 
--- the first of two parts
+-- a test with one value on each of both has one on each of the first lists
 pub Evenly-append_left : (p : ℕ → Bool) (rows others : List (List ℕ)) → Evenly p (rows ++ others) → Evenly p rows
 Evenly-append_left p [] others even = tt
 Evenly-append_left p (xs ∷ rows) others even = (even.0, Evenly-append_left p rows others even.1)
 
--- and the second
+-- a test with one value on each of both has one on each of the others
 pub Evenly-append_right : (p : ℕ → Bool) (rows others : List (List ℕ)) → Evenly p (rows ++ others) → Evenly p others
 Evenly-append_right p [] others even = even
 Evenly-append_right p (xs ∷ rows) others even = Evenly-append_right p rows others even.1
@@ -218,7 +218,7 @@ module _ (e : ℕ) (g : ℕ → ℕ) (zs : List ℕ) (taken left : List (List �
       (λ s. false≢true (sym (near_left y k) ∙ sym s ∙ near_in x hx)) one))
       (Has-append_cases y inner (flat left) (subst (Has y) regroup hy))
 
-  -- two of the darts are of one component
+  -- a dart of the first list and one of those that have grown from it are of one component
   pub grown_two-OnePart : (x y : ℕ) → Has x zs → Has y inner → OnePart e g x y
   grown_two-OnePart x y hx hy =
       let perm : Permutes (2 * e) g = IsMapOf-Permutes (2 * e) g (zs ∷ (taken ++ left)) is in

@@ -57,7 +57,7 @@ module _ (n : ℕ) (f : ℕ → ℕ) (perm : Permutes n f) (z : ℕ) (ltz : z < 
         (λ d h. below_item n d (xs ++ flat rows) below (Has-append_right d xs (flat rows) h))) rings.1,
   )
 
-  -- so it is the map of the lists without it
+  -- a map with a dart taken out has the lists without it
   pub IsMapOf-but : (rows : List (List ℕ)) → IsMapOf n f rows → IsMapOf n out (map (but z) rows)
   IsMapOf-but rows is = record {
     once = subst Distinct (sym (flat-but z rows)) (but-Distinct z (flat rows) is.once);
@@ -75,7 +75,7 @@ module _ (n : ℕ) (f : ℕ → ℕ) (perm : Permutes n f) (z : ℕ) (ltz : z < 
         (cases_eq d z);
   }
 
--- what is flat stays flat
+-- a flat map stays flat with a dart taken out
 pub but-IsFlat : (e : ℕ) (f : ℕ → ℕ) (perm : Permutes (2 * e) f) (z : ℕ) → z < 2 * e → IsFlat e f
     → IsFlat e (swapped z (f z) f)
 but-IsFlat e f perm z lt flat_f = ⊎_elim

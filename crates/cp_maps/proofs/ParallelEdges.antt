@@ -14,7 +14,7 @@ use Rattle.cp_maps.proofs.MapLists.{IsMapOf-some, IsMapOf-swap, IsMapOf-turn}
 use Rattle.cp_maps.proofs.MergedVertices.{same_lists-SameGenus}
 use Rattle.cp_maps.proofs.Twins.{mirror-cons, twin-twin}
 
--- a second edge beside an edge
+-- a second edge beside an edge keeps the genus
 pub parallel_edge-SameGenus : (e : ℕ) (f g : ℕ → ℕ) (x y : ℕ) (xs ys : List ℕ) (rows : List (List ℕ))
     → IsMapOf (2 * e) f ((x ∷ y ∷ xs) ∷ (twin y ∷ twin x ∷ ys) ∷ rows)
     → IsMapOf (2 * e) g ((x ∷ xs) ∷ (twin x ∷ ys) ∷ rows) → SameGenus e f g
@@ -85,7 +85,7 @@ parallel_edges-Becomes e f x (y ∷ zs) xs ys rows is_f =
     parallel_edges-Becomes e one.0 x zs xs ys rows one.1 in
     (rest.0, rest.1, SameGenus-trans e f one.0 rest.0 one.2 rest.2)
 
--- edges side by side are as one
+-- any number of edges beside an edge keep the genus
 pub parallel_edges-SameGenus : (e : ℕ) (f g : ℕ → ℕ) (x : ℕ) (zs xs ys : List ℕ) (rows : List (List ℕ))
     → IsMapOf (2 * e) f ((x ∷ (zs ++ xs)) ∷ (twin x ∷ (ys ++ mirror zs)) ∷ rows)
     → IsMapOf (2 * e) g ((x ∷ xs) ∷ (twin x ∷ ys) ∷ rows) → SameGenus e f g

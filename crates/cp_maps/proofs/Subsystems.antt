@@ -17,7 +17,7 @@ subsystem-IsFlat m e j f g keep rows others le names is flat_f same is_g =
     OneGenus-IsFlat e kept.0 m g (OneGenus-sym m g e kept.0
     (named_lists-OneGenus m e j g kept.0 rows le names is_g (same kept.0 kept.1))) kept.2
 
--- with all darts, both are flat or none
+-- a map whose lists are, under other names, all those of another: both are flat or none
 pub renamed_lists-IsFlat : (m e : ℕ) (j f g : ℕ → ℕ) (rows others : List (List ℕ)) → m ≤ e → Names m e j
     → IsMapOf (2 * e) f others → SameRings (2 * e) others (map (map j) rows) → IsMapOf (2 * m) g rows
     → IsFlat m g ↔ IsFlat e f

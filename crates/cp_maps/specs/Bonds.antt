@@ -15,8 +15,8 @@ pub record Leads (e : ℕ) (h along : ℕ → ℕ) (us vs : List ℕ) (left : Li
   pub joined : (x : ℕ) → Has x todo → OnePart e h (twin x) (twin (along x))
   pub apart : (x y : ℕ) → Has x todo → Has y todo → OnePart e h (twin x) (twin y) → x ≡ y
 
--- each dart of the one vertex goes on as a dart of the other, as which no other dart does: along its own edge, or through
--- a component of the map without the two vertices, of which no other dart of the first vertex is
+-- each dart of the one vertex goes on as a dart of the other, and each dart of the other is met: along its own edge, or
+-- through a component of the map without the two vertices, into which no other dart of the first vertex leads
 pub record AreBonded (e : ℕ) (along : ℕ → ℕ) (us vs : List ℕ) (rows : List (List ℕ)) : Type 0 where
   pub within : (x : ℕ) → Has x us → Has (along x) vs
   pub onto : (y : ℕ) → Has y vs → (x : ℕ) × Has x us × (along x ≡ y)

@@ -8,7 +8,7 @@ use Rattle.cp_maps.specs.Genus.{AllApart}
 use Rattle.cp_maps.specs.Maps.{IsMapOf, has}
 use Rattle.cp_maps.specs.Twins.{twin}
 
--- q in place of t
+-- the dart q in place of t, and all others as they are
 abbrev pub in_place : ℕ → ℕ → ℕ → ℕ
 in_place t q d = cond (eqb d t) q d
 
@@ -32,7 +32,7 @@ abbrev pub IsAssembled : List ℕ → List (List ℕ) → Type 0
 IsAssembled row [] = row ≡ []
 IsAssembled row (xs ∷ copies) = (rest : List ℕ) × IsTurn (xs ++ rest) row × IsAssembled rest copies
 
--- each list is, up to a turn, what it has of xs
+-- each list is, up to a turn, what the list xs has of its items
 abbrev pub EachTurnOf : List ℕ → List (List ℕ) → Type 0
 EachTurnOf xs [] = Unit {0}
 EachTurnOf xs (ys ∷ copies) = IsTurn (filter (λ d. has d ys) xs) ys × EachTurnOf xs copies

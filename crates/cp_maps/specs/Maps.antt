@@ -31,12 +31,12 @@ pub record IsMapOf (n : ℕ) (f : ℕ → ℕ) (rows : List (List ℕ)) : Type 0
   pub rings : Rings f rows
   pub loose : (d : ℕ) → d < n → Lacks d (flat rows) → f d ≡ d
 
--- d is an item of the list
+-- the test whether d is an item of the list
 abbrev pub has : ℕ → List ℕ → Bool
 has d [] = false
 has d (x ∷ xs) = eqb x d || has d xs
 
--- the dart behind d by the lists
+-- the map made of lists: the dart behind d in its list, and d itself where it is in none
 abbrev pub next_by : List (List ℕ) → ℕ → ℕ
 next_by [] d = d
 next_by (xs ∷ rows) d = cond (has d xs) (follow xs d) (next_by rows d)
@@ -45,6 +45,6 @@ next_by (xs ∷ rows) d = cond (has d xs) (follow xs d) (next_by rows d)
 abbrev pub only : (ℕ → Bool) → (ℕ → ℕ) → ℕ → ℕ
 only p f d = cond (p d) (f d) d
 
--- each map with the first lists has the second ones, too: they are the same up to turns, order and bare vertices
+-- the lists are the same up to turns, order and bare vertices: each map with the first ones has the second ones
 abbrev pub SameRings : ℕ → List (List ℕ) → List (List ℕ) → Type 0
 SameRings n rows others = (f : ℕ → ℕ) → IsMapOf n f rows → IsMapOf n f others
