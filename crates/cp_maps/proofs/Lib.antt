@@ -9,7 +9,7 @@ pub mod MapLists
 pub mod NamedLists
 pub mod Parts
 pub mod NamedParts
-pub mod Swaps
+mod Swaps
 pub mod Edges
 pub mod MergedVertices
 pub mod ContractedEdges
@@ -18,7 +18,7 @@ pub mod Chords
 pub mod CutLoops
 pub mod ParallelEdges
 pub mod Borders
-pub mod Stocks
+mod Stocks
 pub mod Names
 pub mod CarriedFaces
 pub mod Dipoles
