@@ -1,6 +1,6 @@
 -- A rotation is flat by its darts exactly where Euler's formula holds.
 use Rattle.std.proofs.Common.{◌≡◌, ℕ, ◌<◌, true, false, eqb, sym, refl, ap, ◌∙◌, ⊎_elim, suc, ◌+◌, ◌*◌, ◌≤◌, Bool, arith, zero, not, ◌&&◌, ap₂}
-use Rattle.std.proofs.lemmas.Bool.{eq-eqb, ne_eqb, false≢true, eqb-true, cases_Bool, not-true, not_from_true, not_from_false, and_from, and_parts}
+use Rattle.std.proofs.lemmas.Bool.{not-true, eq-eqb, ne_eqb, false≢true, eqb-true, cases_Bool, not_from_true, not_from_false, and_from, and_parts}
 use Rattle.cp_lists.specs.Count.{count}
 use Rattle.cp_lists.proofs.Choices.{choose}
 use Rattle.cp_lists.proofs.Counting.{count_agree, count_inject, count_no, count_yes}

@@ -39,3 +39,4 @@ pub mod BondedVertices
 pub mod AssembledVertices
 pub mod AssembledLists
 mod Examples
+mod NestedBorders

@@ -1,6 +1,6 @@
 -- A map of m edges in a larger stock of e edges, under other names: its genus stays.
 use Rattle.std.proofs.Common.{◌≡◌, ℕ, ◌<◌, ◌≢◌, true, List, [], ◌∷◌, sym, refl, ap, ◌∙◌, subst, ⊎_elim, suc, ◌+◌, ◌*◌, ◌≤◌, Bool, arith, zero, not, ltb, map, ◌-◌, ◌/◌, ◌%◌, cond}
-use Rattle.std.proofs.lemmas.Bool.{cases_eq, false≢true, cond-true, cond-false, cases_lt, cases_Bool, lt-ltb, le-ltb, not-true}
+use Rattle.std.proofs.lemmas.Bool.{not-true, cases_eq, false≢true, cond-true, cond-false, cases_lt, cases_Bool, lt-ltb, le-ltb}
 use Rattle.cp_lists.specs.Count.{count}
 use Rattle.cp_lists.specs.CyclicLists.{Has, Lacks}
 use Rattle.cp_lists.specs.Rows.{flat}
