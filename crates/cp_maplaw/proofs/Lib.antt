@@ -1,3 +1,4 @@
 pub mod Systems
 pub mod Numbers
 pub mod Matches
+pub mod BondedPoles
