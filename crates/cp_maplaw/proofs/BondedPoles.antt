@@ -1,22 +1,22 @@
 -- The two poles of a bond in a flat rotation of a graph with names mirror each other.
-use Rattle.std.proofs.Common.{◌≡◌, ℕ, ◌≢◌, true, eqb, List, [], ◌∷◌, ◌++◌, sym, refl, ap, ◌∙◌, subst, inl, inr, ⊎_elim, ◌*◌, not, length, map, reverse}
+use Rattle.std.proofs.Common.{◌≡◌, ℕ, ◌≢◌, true, eqb, List, ◌∷◌, ◌++◌, sym, refl, ap, ◌∙◌, subst, inl, inr, ⊎_elim, ◌*◌, not, length, map, reverse}
 use Rattle.std.proofs.lemmas.Bool.{eq-eqb, ne_eqb, false≢true, and_from, and_parts}
 use Rattle.std.specs.List.{Contains}
 use Rattle.cp_lists.specs.CyclicLists.{Distinct, Has, but}
 use Rattle.cp_lists.specs.Rows.{flat}
 use Rattle.cp_lists.specs.Turns.{IsTurn}
-use Rattle.cp_lists.proofs.DistinctLists.{Distinct-append_right, Has-append_cases, Has-append_right, Has-but, but-Distinct, but-Has, but-Lacks, has_other}
-use Rattle.cp_lists.proofs.MappedLists.{Has-map_on, map_on-Has, map_undone}
+use Rattle.cp_lists.proofs.DistinctLists.{Distinct-append_right, Has-append_right, Has-but, but-Distinct, but-Has, but-Lacks, has_other}
+use Rattle.cp_lists.proofs.MappedLists.{map_on-Has, map_undone}
 use Rattle.cp_lists.proofs.ReversedLists.{map-reverse}
 use Rattle.cp_lists.proofs.TurnedLists.{turn-map}
-use Rattle.cp_orbits.specs.Connected.{Connected, Joins, here, step}
+use Rattle.cp_orbits.specs.Connected.{Connected, Joins}
 use Rattle.cp_conn.specs.Bonds.{ConnectedWithout, IsAlong, IsBond}
 use Rattle.cp_conn.specs.CutVertex.{avoids, without_vertex}
 use Rattle.cp_conn.specs.NamedGraphs.{NamedGraph, edges_at, far, pairs}
 use Rattle.cp_conn.proofs.Bonds.{ConnectedWithout-first, GoesOn-within}
 use Rattle.cp_conn.proofs.CutVertices.{kept_of, kept_pair}
 use Rattle.cp_conn.proofs.EqualBonds.{along_onto}
-use Rattle.cp_conn.proofs.NamedGraphs.{Contains-edges_at, edges_at-Contains, far_edges_at, far_joins, joins_ends, joins_far, pairs_from, pairs_have}
+use Rattle.cp_conn.proofs.NamedGraphs.{Contains-edges_at, far_edges_at, joins_ends, joins_far, pairs_from, pairs_have}
 use Rattle.cp_maps.specs.Bonds.{AreBonded}
 use Rattle.cp_maps.specs.Genus.{IsFlat, OnePart}
 use Rattle.cp_maps.specs.Maps.{IsMapOf, next_by}
@@ -25,17 +25,8 @@ use Rattle.cp_maps.proofs.BondedVertices.{bonded_vertices-IsTurn}
 use Rattle.cp_maps.proofs.GluedVertices.{maps_agree}
 use Rattle.cp_maps.proofs.MapLists.{IsMapOf-some}
 use Rattle.cp_maps.proofs.NamedLists.{named_item, two_named_front}
-use Rattle.cp_maps.proofs.NamedParts.{Connected-OnePart, OnePart-Connected_names}
 use Rattle.cp_maplaw.specs.NamedDarts.{AreDartsOf, IsArrangedBy, dart_list}
-
--- an item of lists under names is one of the list of a name
-named_some : (lists : ℕ → List ℕ) (names : List ℕ) (d : ℕ) → Has d (flat (map lists names))
-    → (w : ℕ) × Has w names × Has d (lists w)
-named_some lists [] d h = absurd h
-named_some lists (w ∷ names) d h = ⊎_elim
-    (λ k. (w, inl refl, k))
-    (λ k. let r = named_some lists names d k in (r.0, inr r.1, r.2))
-    (Has-append_cases d (lists w) (flat (map lists names)) h)
+use Rattle.cp_maplaw.proofs.NamedRests.{dart_edge, edge_dart, rest-OnePart, rest_dart}
 
 -- what does not pass the negated test is another number
 not_equal : (a b : ℕ) → not (eqb a b) ≡ true → a ≢ b
@@ -96,14 +87,6 @@ module _ (n : ℕ) (g : NamedGraph) (dart : ℕ → ℕ → ℕ) (s : ℕ → Li
   others_vertex : (w : ℕ) → Has w others → Has w g.verts
   others_vertex w h = Has-but v w g.verts (Has-but u w (but v g.verts) h)
 
-  -- a dart of a vertex is that of an edge
-  dart_edge : (w d : ℕ) → Has w g.verts → Has d (lists w) → (e : ℕ) × Contains (edges_at g w) e × (dart w e ≡ d)
-  dart_edge w d hw h = let r = map_on-Has (dart w) d (s w) h in (r.0, (arr.arranged w r.0 hw).0 r.1, r.2)
-
-  -- and each edge has one
-  edge_dart : (w e : ℕ) → Contains (edges_at g w) e → Has (dart w e) (lists w)
-  edge_dart w e c = Has-map_on (dart w) e (s w) ((arr.arranged w e (arr.ends_in w e c)).1 c)
-
   -- the far end of an edge is a vertex
   far_in : (w e : ℕ) → Contains (edges_at g w) e → Has (far g w e) g.verts
   far_in w e c = arr.ends_in (far g w e) e (far_edges_at g w e c)
@@ -111,74 +94,45 @@ module _ (n : ℕ) (g : NamedGraph) (dart : ℕ → ℕ → ℕ) (s : ℕ → Li
   -- the dart at an end that is neither pole is in the rest
   dart_rest : (w e : ℕ) → Contains (edges_at g w) e → w ≢ u → w ≢ v → Has (dart w e) (flat rows)
   dart_rest w e c nu nv =
-      named_item lists others w (dart w e) (other_vertex_in w (arr.ends_in w e c) nu nv) (edge_dart w e c)
-
-  -- a dart of an edge that is in the rest stands at another vertex
-  rest_dart : (w e : ℕ) → Contains (edges_at g w) e → Has (dart w e) (flat rows) → Has w others
-  rest_dart w e c h =
-      let r = named_some lists others (dart w e) h in
-      let k = dart_edge r.0 (dart w e) (others_vertex r.0 r.1) r.2 in
-      subst (λ y. Has y others) (sym (darts.placed r.0 k.0 k.1) ∙ ap darts.at k.2 ∙ darts.placed w e c) r.1
+      named_item lists others w (dart w e) (other_vertex_in w (arr.ends_in w e c) nu nv)
+      (edge_dart g dart s darts arr w e c)
 
   -- the pairs that touch neither pole
   abbrev es : List (ℕ × ℕ)
   es = without_vertex u (without_vertex v (pairs g))
 
-  -- each is an edge between two other vertices
-  pair_edge : (p : ℕ × ℕ) → Contains es p
-      → (x : ℕ) × Has p.0 others × Has p.1 others × Has x (lists p.0) × Has (twin x) (lists p.1)
-  pair_edge p c =
+  -- each is the pair of an edge between other vertices
+  between : (p : ℕ × ℕ) → Contains es p
+      → (e : ℕ) × Contains g.edges e × (g.ends e ≡ p) × Has p.0 others × Has p.1 others
+  between p c =
       let a = kept_pair (avoids u) (without_vertex v (pairs g)) p c in
       let b = kept_pair (avoids v) (pairs g) p a.0 in
       let k = pairs_from g p b.0 in
       let ua = and_parts (not (eqb p.0 u)) (not (eqb p.1 u)) a.1 in
       let va = and_parts (not (eqb p.0 v)) (not (eqb p.1 v)) b.1 in
       let j : Joins (g.ends k.0) p.0 p.1 = inl (ap (λ q. q.0) k.2, ap (λ q. q.1) k.2) in
-      let at_first : Contains (edges_at g p.0) k.0 = Contains-edges_at g p.0 k.0 k.1 (joins_ends g p.0 p.1 k.0 j) in
-      let end : far g p.0 k.0 ≡ p.1 = joins_far g p.0 p.1 k.0 j in
-      let at_second : Contains (edges_at g p.1) k.0 =
-      subst (λ w. Contains (edges_at g w) k.0) end (far_edges_at g p.0 k.0 at_first) in (
-        dart p.0 k.0,
-        other_vertex_in p.0 (arr.ends_in p.0 k.0 at_first) (not_equal p.0 u ua.0) (not_equal p.0 v va.0),
-        other_vertex_in p.1 (arr.ends_in p.1 k.0 at_second) (not_equal p.1 u ua.1) (not_equal p.1 v va.1),
-        edge_dart p.0 k.0 at_first,
-        subst (λ d. Has d (lists p.1)) (ap (λ w. dart w k.0) (sym end) ∙ darts.twins p.0 k.0 at_first)
-            (edge_dart p.1 k.0 at_second),
+      let first : Contains (edges_at g p.0) k.0 = Contains-edges_at g p.0 k.0 k.1 (joins_ends g p.0 p.1 k.0 j) in
+      let second : Contains (edges_at g p.1) k.0 =
+      subst (λ w. Contains (edges_at g w) k.0) (joins_far g p.0 p.1 k.0 j) (far_edges_at g p.0 k.0 first) in (
+        k.0,
+        k.1,
+        k.2,
+        other_vertex_in p.0 (arr.ends_in p.0 k.0 first) (not_equal p.0 u ua.0) (not_equal p.0 v va.0),
+        other_vertex_in p.1 (arr.ends_in p.1 k.0 second) (not_equal p.1 u ua.1) (not_equal p.1 v va.1),
       )
 
-  -- an edge whose ends are other vertices is such a pair
-  edge_pair : (w e : ℕ) → Contains (edges_at g w) e → Has w others → Has (far g w e) others → Connected es w (far g w e)
-  edge_pair w e c hw hf =
-      let t = edges_at-Contains g w e c in
-      let j : Joins (g.ends e) w (far g w e) = far_joins g w e t.1 in
-      let a = others_not w hw in
-      let b = others_not (far g w e) hf in
-      let kept : (y : ℕ) → w ≢ y → far g w e ≢ y → avoids y (g.ends e) ≡ true = λ y ny nf. ⊎_elim
-      (λ h. and_from (not (eqb (g.ends e).0 y)) (not (eqb (g.ends e).1 y))
-      (equal_not (g.ends e).0 y (λ q. ny (sym h.0 ∙ q))) (equal_not (g.ends e).1 y (λ q. nf (sym h.1 ∙ q))))
-      (λ h. and_from (not (eqb (g.ends e).0 y)) (not (eqb (g.ends e).1 y))
-      (equal_not (g.ends e).0 y (λ q. nf (sym h.0 ∙ q))) (equal_not (g.ends e).1 y (λ q. ny (sym h.1 ∙ q))))
-      j in
-      step here (g.ends e) (kept_of (avoids u) (without_vertex v (pairs g)) (g.ends e)
-      (kept_of (avoids v) (pairs g) (g.ends e) (pairs_have g e t.0) (kept v a.1 b.1)) (kept u a.0 b.0)) j
-
-  -- twins in the rest stand at connected vertices
-  twins_connected : (d : ℕ) → Has d (flat rows) → Has (twin d) (flat rows)
-      → Connected es (darts.at d) (darts.at (twin d))
-  twins_connected d h k =
-      let r = named_some lists others d h in
-      let e = dart_edge r.0 d (others_vertex r.0 r.1) r.2 in
-      let w : ℕ = r.0 in
-      let t : dart (far g w e.0) e.0 ≡ twin d = darts.twins w e.0 e.1 ∙ ap twin e.2 in
-      let c : Contains (edges_at g (far g w e.0)) e.0 = far_edges_at g w e.0 e.1 in
-      let hf : Has (far g w e.0) others = rest_dart (far g w e.0) e.0 c (subst (λ y. Has y (flat rows)) (sym t) k) in
-      subst (λ y. Connected es y (darts.at (twin d))) (sym (darts.placed w e.0 e.1) ∙ ap darts.at e.2)
-      (subst (λ y. Connected es w y) (sym (darts.placed (far g w e.0) e.0 c) ∙ ap darts.at t)
-      (edge_pair w e.0 e.1 r.1 hf))
-
-  -- a dart of the rest stands at its vertex
-  rest_placed : (w d : ℕ) → Has w others → Has d (lists w) → darts.at d ≡ w
-  rest_placed w d hw h = let e = dart_edge w d (others_vertex w hw) h in ap darts.at (sym e.2) ∙ darts.placed w e.0 e.1
+  -- and each of these is one
+  all_between : (e : ℕ) → Contains g.edges e → Has (g.ends e).0 others → Has (g.ends e).1 others
+      → Contains es (g.ends e)
+  all_between e c h0 h1 =
+      let a = others_not (g.ends e).0 h0 in
+      let b = others_not (g.ends e).1 h1 in
+      kept_of (avoids u) (without_vertex v (pairs g)) (g.ends e)
+      (kept_of (avoids v) (pairs g) (g.ends e) (pairs_have g e c)
+      (and_from (not (eqb (g.ends e).0 v)) (not (eqb (g.ends e).1 v)) (equal_not (g.ends e).0 v a.1)
+      (equal_not (g.ends e).1 v b.1)))
+      (and_from (not (eqb (g.ends e).0 u)) (not (eqb (g.ends e).1 u)) (equal_not (g.ends e).0 u a.0)
+      (equal_not (g.ends e).1 u b.0))
 
   -- the dart as which a dart of u goes on
   abbrev onward_dart : ℕ → ℕ
@@ -195,36 +149,39 @@ module _ (n : ℕ) (g : NamedGraph) (dart : ℕ → ℕ → ℕ) (s : ℕ → Li
   -- the poles are bonded in the map
   bonded : AreBonded n onward_dart (lists u) (lists v) rows
   bonded = record {
-    within = λ x h. let e = dart_edge u x hu h in
+    within = λ x h. let e = dart_edge g dart s darts arr u x hu h in
         subst (λ y. Has (onward_dart y) (lists v)) e.2
-        (subst (λ y. Has y (lists v)) (sym (onward_is e.0 e.1)) (edge_dart v (along e.0) (along_at e.0 e.1)));
+        (subst (λ y. Has y (lists v)) (sym (onward_is e.0 e.1))
+        (edge_dart g dart s darts arr v (along e.0) (along_at e.0 e.1)));
     onto = λ y h.
-        let k = dart_edge v y hv h in
+        let k = dart_edge g dart s darts arr v y hv h in
         let e = along_onto g u v bond arr.once_edges equal along goes k.0 k.1 in
-        (dart u e.0, edge_dart u e.0 e.1, onward_is e.0 e.1 ∙ ap (dart v) e.2 ∙ k.2);
+        (dart u e.0, edge_dart g dart s darts arr u e.0 e.1, onward_is e.0 e.1 ∙ ap (dart v) e.2 ∙ k.2);
     onward = λ x h.
-        let e = dart_edge u x hu h in
+        let e = dart_edge g dart s darts arr u x hu h in
         ⊎_elim
         (λ q. inl (ap onward_dart (sym e.2) ∙ onward_is e.0 e.1 ∙ ap (dart v) q.1 ∙ ap (λ w. dart w e.0) (sym q.0)
         ∙ darts.twins u e.0 e.1 ∙ ap twin e.2))
         (λ q. inr (through e.0 x e.1 e.2 q.0 q.1 q.2))
         (goes e.0 e.1);
     one_each = λ x y hx hy tx ty one.
-        let e = dart_edge u x hu hx in
-        let k = dart_edge u y hu hy in
+        let e = dart_edge g dart s darts arr u x hu hx in
+        let k = dart_edge g dart s darts arr u y hu hy in
         let wx : Has (far g u e.0) others =
-        rest_dart (far g u e.0) e.0 (far_edges_at g u e.0 e.1)
+        rest_dart g dart s darts arr n rest others es once_others is_rest others_vertex between all_between
+        (far g u e.0) e.0 (far_edges_at g u e.0 e.1)
         (subst (λ d. Has d (flat rows)) (ap twin (sym e.2) ∙ sym (darts.twins u e.0 e.1)) tx) in
         let wy : Has (far g u k.0) others =
-        rest_dart (far g u k.0) k.0 (far_edges_at g u k.0 k.1)
+        rest_dart g dart s darts arr n rest others es once_others is_rest others_vertex between all_between
+        (far g u k.0) k.0 (far_edges_at g u k.0 k.1)
         (subst (λ d. Has d (flat rows)) (ap twin (sym k.2) ∙ sym (darts.twins u k.0 k.1)) ty) in
         let joined : Connected es (far g u e.0) (far g u k.0) =
-        OnePart-Connected_names n rest lists others es is_rest once_others darts.at rest_placed twins_connected
+        (rest-OnePart g dart s darts arr n rest others es once_others is_rest others_vertex between all_between
         (far g u e.0) (far g u k.0) (twin x) (twin y) wx wy
         (subst (λ d. Has d (lists (far g u e.0))) (darts.twins u e.0 e.1 ∙ ap twin e.2)
-        (edge_dart (far g u e.0) e.0 (far_edges_at g u e.0 e.1)))
+        (edge_dart g dart s darts arr (far g u e.0) e.0 (far_edges_at g u e.0 e.1)))
         (subst (λ d. Has d (lists (far g u k.0))) (darts.twins u k.0 k.1 ∙ ap twin k.2)
-        (edge_dart (far g u k.0) k.0 (far_edges_at g u k.0 k.1))) one in
+        (edge_dart g dart s darts arr (far g u k.0) k.0 (far_edges_at g u k.0 k.1)))).0 one in
         sym e.2 ∙ ap (dart u) (bond.one_each e.0 k.0 e.1 k.1 (others_not (far g u e.0) wx).1 joined) ∙ k.2;
   }
     where
@@ -245,11 +202,13 @@ module _ (n : ℕ) (g : NamedGraph) (dart : ℕ → ℕ → ℕ) (s : ℕ → Li
           let ca : Contains (edges_at g (far g v (along e))) (along e) = far_edges_at g v (along e) cv in (
             subst (λ d. Has d (flat rows)) tx (dart_rest (far g u e) e ce nu off),
             subst (λ d. Has d (flat rows)) ty (dart_rest (far g v (along e)) (along e) ca fu fv),
-            Connected-OnePart n rest lists others es is_rest once_others pair_edge (far g u e)
-                (far g v (along e)) joined (twin x) (twin (onward_dart x))
+            (rest-OnePart g dart s darts arr n rest others es once_others is_rest others_vertex between all_between
+                (far g u e) (far g v (along e)) (twin x) (twin (onward_dart x))
                 (other_vertex_in (far g u e) (far_in u e c) nu off)
-                (subst (λ d. Has d (lists (far g u e))) tx (edge_dart (far g u e) e ce))
-                (subst (λ d. Has d (lists (far g v (along e)))) ty (edge_dart (far g v (along e)) (along e) ca)),
+                (other_vertex_in (far g v (along e)) (far_in v (along e) cv) fu fv)
+                (subst (λ d. Has d (lists (far g u e))) tx (edge_dart g dart s darts arr (far g u e) e ce))
+                (subst (λ d. Has d (lists (far g v (along e)))) ty
+                (edge_dart g dart s darts arr (far g v (along e)) (along e) ca))).1 joined,
           )
 
   -- the list of v is, up to a turn, the reverse of that of u, each edge in it gone on along the bond

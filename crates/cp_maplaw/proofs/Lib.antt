@@ -1,4 +1,5 @@
 pub mod Systems
 pub mod Numbers
 pub mod Matches
+pub mod NamedRests
 pub mod BondedPoles
