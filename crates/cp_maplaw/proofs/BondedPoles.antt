@@ -1,6 +1,6 @@
 -- The two poles of a bond in a flat rotation of a graph with names mirror each other.
-use Rattle.std.proofs.Common.{◌≡◌, ℕ, ◌≢◌, true, eqb, List, ◌∷◌, ◌++◌, sym, refl, ap, ◌∙◌, subst, inl, inr, ⊎_elim, ◌*◌, not, length, map, reverse}
-use Rattle.std.proofs.lemmas.Bool.{eq-eqb, ne_eqb, false≢true, and_from, and_parts}
+use Rattle.std.proofs.Common.{◌≡◌, ℕ, ◌≢◌, eqb, List, ◌∷◌, ◌++◌, sym, refl, ap, ◌∙◌, subst, inl, inr, ⊎_elim, ◌*◌, not, length, map, reverse}
+use Rattle.std.proofs.lemmas.Bool.{and_from, and_parts}
 use Rattle.std.specs.List.{Contains}
 use Rattle.cp_lists.specs.CyclicLists.{Distinct, Has, but}
 use Rattle.cp_lists.specs.Rows.{flat}
@@ -26,15 +26,7 @@ use Rattle.cp_maps.proofs.GluedVertices.{maps_agree}
 use Rattle.cp_maps.proofs.MapLists.{IsMapOf-some}
 use Rattle.cp_maps.proofs.NamedLists.{named_item, two_named_front}
 use Rattle.cp_maplaw.specs.NamedDarts.{AreDartsOf, IsArrangedBy, dart_list}
-use Rattle.cp_maplaw.proofs.NamedRests.{dart_edge, edge_dart, rest-OnePart, rest_dart}
-
--- what does not pass the negated test is another number
-not_equal : (a b : ℕ) → not (eqb a b) ≡ true → a ≢ b
-not_equal a b t e = false≢true (sym (ap not (eq-eqb a b e)) ∙ t)
-
--- and another number passes it
-equal_not : (a b : ℕ) → a ≢ b → not (eqb a b) ≡ true
-equal_not a b ne = ap not (ne_eqb a b ne)
+use Rattle.cp_maplaw.proofs.NamedRests.{dart_edge, edge_dart, equal_not, not_equal, rest-OnePart, rest_dart}
 
 -- a flat rotation of a graph with names, and a bond of equal degrees
 module _ (n : ℕ) (g : NamedGraph) (dart : ℕ → ℕ → ℕ) (s : ℕ → List ℕ) (f : ℕ → ℕ) (darts : AreDartsOf g dart)

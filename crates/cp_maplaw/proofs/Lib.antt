@@ -3,3 +3,4 @@ pub mod Numbers
 pub mod Matches
 pub mod NamedRests
 pub mod BondedPoles
+pub mod NamedBlocks

@@ -1,5 +1,6 @@
 -- The map of some vertices of a graph with names: its components are those of the pairs between them.
-use Rattle.std.proofs.Common.{◌≡◌, ℕ, List, [], ◌∷◌, sym, refl, ap, ◌∙◌, subst, inl, inr, ⊎_elim, ◌*◌, map, ◌↔◌}
+use Rattle.std.proofs.Common.{◌≡◌, ℕ, ◌≢◌, true, eqb, List, [], ◌∷◌, sym, refl, ap, ◌∙◌, subst, inl, inr, ⊎_elim, ◌*◌, not, map, ◌↔◌}
+use Rattle.std.proofs.lemmas.Bool.{eq-eqb, ne_eqb, false≢true}
 use Rattle.std.specs.List.{Contains}
 use Rattle.cp_lists.specs.CyclicLists.{Distinct, Has}
 use Rattle.cp_lists.specs.Rows.{flat}
@@ -22,6 +23,14 @@ named_some lists (w ∷ names) d h = ⊎_elim
     (λ k. (w, inl refl, k))
     (λ k. let r = named_some lists names d k in (r.0, inr r.1, r.2))
     (Has-append_cases d (lists w) (flat (map lists names)) h)
+
+-- what does not pass the negated test is another number
+pub not_equal : (a b : ℕ) → not (eqb a b) ≡ true → a ≢ b
+not_equal a b t e = false≢true (sym (ap not (eq-eqb a b e)) ∙ t)
+
+-- and another number passes it
+pub equal_not : (a b : ℕ) → a ≢ b → not (eqb a b) ≡ true
+equal_not a b ne = ap not (ne_eqb a b ne)
 
 -- the darts of a graph with names that is arranged
 module _ (g : NamedGraph) (dart : ℕ → ℕ → ℕ) (s : ℕ → List ℕ) (darts : AreDartsOf g dart) (arr : IsArrangedBy g s) where

@@ -40,8 +40,8 @@ eqb_same a b c d both = ⊎_elim
     (λ n. ne_eqb a b n ∙ sym (ne_eqb c d (λ h. n (both.1 h))))
     (cases_eq a b)
 
--- the map of all lists but one
-without_list : (e : ℕ) (f : ℕ → ℕ) (before : List (List ℕ)) (xs : List ℕ) (behind : List (List ℕ))
+-- there is a map of all lists but one
+pub without_list : (e : ℕ) (f : ℕ → ℕ) (before : List (List ℕ)) (xs : List ℕ) (behind : List (List ℕ))
     → IsMapOf (2 * e) f (before ++ xs ∷ behind) → IsMapOf (2 * e) (next_by (before ++ behind)) (before ++ behind)
 without_list e f before xs behind is =
     let front : IsMapOf (2 * e) f (xs ∷ (before ++ behind)) = IsMapOf-front (2 * e) f xs before behind is in
