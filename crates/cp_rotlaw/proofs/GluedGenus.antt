@@ -13,9 +13,11 @@ use Rattle.cp_faces.proofs.Merges.{partner-twin}
 use Rattle.cp_faces.proofs.Parts.{partner_more, partner_shift}
 use Rattle.cp_lists.proofs.DistinctLists.{Has_at, Has-place, Distinct-from}
 use Rattle.cp_lists.proofs.FollowedLists.{follow_at, follow_last}
-use Rattle.cp_rot.specs.Systems.{System, darts, edges, twin, vertex_of, list_of, next, place_after, IsRotation}
+use Rattle.cp_rot.specs.Systems.{System, darts, edges, vertex_of, list_of, next, place_after, IsRotation}
+use Rattle.cp_faces.specs.Twins.{twin}
 use Rattle.cp_rot.specs.Genus.{HasGenusZero}
-use Rattle.cp_rot.proofs.Rotations.{twin-twin, twin-below, twin_even, twin_odd, place_after_last, place_after_other, item_stands, next_stands, next_of_item}
+use Rattle.cp_rot.proofs.Rotations.{place_after_last, place_after_other, item_stands, next_stands, next_of_item}
+use Rattle.cp_faces.proofs.Twins.{twin-twin, twin-below, twin_even, twin_odd}
 use Rattle.cp_rot.proofs.Functions.{next-follow, Turns-system, zero_counts, HasGenusZero-from}
 use Rattle.cp_rot.proofs.ListSystems.{Listed-system}
 use Rattle.cp_rotlaw.specs.Systems.{HasNoLoopAt}
