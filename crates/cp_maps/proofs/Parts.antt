@@ -1,6 +1,7 @@
 -- How to show that two darts are of two components: by a test.
 use Rattle.std.proofs.Common.{◌≡◌, ℕ, ◌<◌, ◌≢◌, List, [], ◌∷◌, sym, ap, ◌∙◌, subst, ⊎_elim, ◌*◌, Bool, arith, ◌%◌}
 use Rattle.cp_lists.specs.CyclicLists.{Has}
+use Rattle.cp_lists.specs.Rows.{flat}
 use Rattle.cp_lists.proofs.CyclicLists.{follow-Has}
 use Rattle.cp_lists.proofs.DistinctLists.{Has-append_cases, has_cases}
 use Rattle.cp_lists.proofs.FollowedLists.{iterate_in_list}
@@ -9,7 +10,7 @@ use Rattle.cp_orbits.proofs.ClassLabels.{same_labels}
 use Rattle.cp_orbits.proofs.ListOrbits.{follow-reaches}
 use Rattle.cp_orbits.proofs.OrbitLaws.{Respects-graph, labels_reached}
 use Rattle.cp_maps.specs.Genus.{Evenly, OnePart, linked}
-use Rattle.cp_maps.specs.Maps.{IsMapOf, Ring, Rings, flat}
+use Rattle.cp_maps.specs.Maps.{IsMapOf, Ring, Rings}
 use Rattle.cp_maps.specs.Twins.{twin}
 use Rattle.cp_maps.proofs.FlatMaps.{linked-from}
 use Rattle.cp_maps.proofs.Swaps.{vertex-OnePart}

@@ -49,7 +49,7 @@ twin-other x e =
     ⊎_elim (λ h. let t : twin x ≡ x + 1 = twin_even x h in
     omega (arith, t, e)) (λ nh. let t : twin x ≡ x - 1 = twin_odd x nh in omega (arith, t, e)) (cases_eq (x % 2) 0)
 
--- a dart farther on by whole edges
+-- the twin of a dart farther on by whole edges is the twin, farther on
 pub twin-farther : (e d : ℕ) → twin (2 * e + d) ≡ 2 * e + twin d
 twin-farther e d = ⊎_elim
     (λ h. let a : twin (2 * e + d) ≡ 2 * e + d + 1 = twin_even (2 * e + d) (omega arith) in
@@ -58,6 +58,6 @@ twin-farther e d = ⊎_elim
     let b : twin d ≡ d - 1 = twin_odd d nh in omega arith)
     (cases_eq (d % 2) 0)
 
--- an item more
+-- the mirror of a list with a dart more in front has its twin at the end
 pub mirror-cons : (y : ℕ) (xs : List ℕ) → mirror (y ∷ xs) ≡ mirror xs ++ twin y ∷ []
 mirror-cons y xs = reverse-append (twin y ∷ []) (map twin xs)

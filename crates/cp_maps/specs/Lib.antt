@@ -5,5 +5,7 @@ pub mod Names
 pub mod Borders
 pub mod Trees
 pub mod Gluings
-pub mod Crossings
+pub mod ListClasses
 pub mod Classes
+pub mod Blocks
+pub mod Bonds
