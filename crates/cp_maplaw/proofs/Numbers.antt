@@ -5,7 +5,6 @@ use Rattle.cp_lists.specs.CyclicLists.{Distinct, Has}
 use Rattle.cp_lists.specs.Rows.{flat}
 use Rattle.cp_lists.proofs.DistinctLists.{Distinct-apart_right, Distinct-append_right, Has-append_cases, Has-append_left, Has-append_right, has_cases, has_lacks}
 use Rattle.cp_orbits.specs.Orbits.{Permutes}
-use Rattle.cp_conn.specs.Blocks.{item}
 use Rattle.cp_rot.specs.Genus.{HasGenusZero}
 use Rattle.cp_rot.specs.Rewrites.{system}
 use Rattle.cp_rot.specs.Systems.{IsRotation, System, edges, next}

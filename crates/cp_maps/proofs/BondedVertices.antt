@@ -11,8 +11,6 @@ use Rattle.cp_lists.proofs.FilteredLists.{Has-filter, filter-Distinct, filter-Ha
 use Rattle.cp_lists.proofs.FlatLists.{flat-append}
 use Rattle.cp_lists.proofs.MappedLists.{Has-map_on, map_agree_on, map_on-Has}
 use Rattle.cp_lists.proofs.TurnedLists.{Has-of_turn, turn-Distinct, turn-Has, turn-refl, turn-sym, turn-trans, turn_reverse_head, turn_to_item}
-use Rattle.cp_orbits.specs.Classes.{joined}
-use Rattle.cp_faces.specs.Faces.{partner}
 use Rattle.cp_faces.specs.Twins.{twin}
 use Rattle.cp_faces.proofs.Twins.{twin-twin}
 use Rattle.cp_maps.specs.Bonds.{AreBonded, Leads}
