@@ -10,6 +10,7 @@ use Rattle.cp_lists.proofs.MappedLists.{map_on-Has, map_undone}
 use Rattle.cp_lists.proofs.ReversedLists.{map-reverse}
 use Rattle.cp_lists.proofs.TurnedLists.{turn-map}
 use Rattle.cp_orbits.specs.Connected.{Connected, Joins}
+use Rattle.cp_faces.specs.Twins.{twin}
 use Rattle.cp_conn.specs.Bonds.{ConnectedWithout, IsAlong, IsBond}
 use Rattle.cp_conn.specs.CutVertex.{avoids, without_vertex}
 use Rattle.cp_conn.specs.NamedGraphs.{NamedGraph, edges_at, far, pairs}
@@ -20,7 +21,6 @@ use Rattle.cp_conn.proofs.NamedGraphs.{Contains-edges_at, far_edges_at, joins_en
 use Rattle.cp_maps.specs.Bonds.{AreBonded}
 use Rattle.cp_maps.specs.Genus.{IsFlat, OnePart}
 use Rattle.cp_maps.specs.Maps.{IsMapOf, next_by}
-use Rattle.cp_maps.specs.Twins.{twin}
 use Rattle.cp_maps.proofs.BondedVertices.{bonded_vertices-IsTurn}
 use Rattle.cp_maps.proofs.GluedVertices.{maps_agree}
 use Rattle.cp_maps.proofs.MapLists.{IsMapOf-some}

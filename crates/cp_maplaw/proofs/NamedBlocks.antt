@@ -6,6 +6,7 @@ use Rattle.std.specs.List.{Contains, filter}
 use Rattle.cp_lists.specs.CyclicLists.{Distinct, Has, Lacks}
 use Rattle.cp_lists.proofs.DistinctLists.{Distinct-middle, Has-append_cases, Has-append_left, Has-append_right, Lacks-from, has_other}
 use Rattle.cp_orbits.specs.Connected.{Joins}
+use Rattle.cp_faces.specs.Twins.{twin}
 use Rattle.cp_conn.specs.Blocks.{HaveNoLoop}
 use Rattle.cp_conn.specs.CutVertex.{avoids, without_vertex}
 use Rattle.cp_conn.specs.NamedGraphs.{InOneBlock, NamedGraph, edges_at, far, pairs, rank}
@@ -15,7 +16,6 @@ use Rattle.cp_conn.proofs.NamedGraphs.{Contains-edges_at, edges_at-Contains, far
 use Rattle.cp_maps.specs.Blocks.{AreBlocks, NoneCross}
 use Rattle.cp_maps.specs.Genus.{CanBeFlat, IsFlat, OnePart}
 use Rattle.cp_maps.specs.Maps.{IsMapOf, next_by}
-use Rattle.cp_maps.specs.Twins.{twin}
 use Rattle.cp_maps.proofs.GenusByBlocks.{blocks-IsFlat, without_list}
 use Rattle.cp_maps.proofs.ListFacts.{Distinct-less}
 use Rattle.cp_maps.proofs.NamedLists.{named_item}

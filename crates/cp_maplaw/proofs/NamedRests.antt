@@ -7,11 +7,11 @@ use Rattle.cp_lists.specs.Rows.{flat}
 use Rattle.cp_lists.proofs.DistinctLists.{Has-append_cases}
 use Rattle.cp_lists.proofs.MappedLists.{Has-map_on, map_on-Has}
 use Rattle.cp_orbits.specs.Connected.{Connected, Joins, here, step}
+use Rattle.cp_faces.specs.Twins.{twin}
 use Rattle.cp_conn.specs.NamedGraphs.{NamedGraph, edges_at, far}
 use Rattle.cp_conn.proofs.NamedGraphs.{Contains-edges_at, edges_at-Contains, far_edges_at, far_joins, joins_ends, joins_far}
 use Rattle.cp_maps.specs.Genus.{OnePart}
 use Rattle.cp_maps.specs.Maps.{IsMapOf}
-use Rattle.cp_maps.specs.Twins.{twin}
 use Rattle.cp_maps.proofs.NamedParts.{Connected-OnePart, OnePart-Connected_names}
 use Rattle.cp_maplaw.specs.NamedDarts.{AreDartsOf, IsArrangedBy, dart_list}
 

@@ -2,8 +2,8 @@
 use Rattle.std.specs.Prelude.{◌≡◌, ℕ, ◌≢◌, List, map, ◌↔◌}
 use Rattle.std.specs.List.{Contains}
 use Rattle.cp_lists.specs.CyclicLists.{Distinct, Has}
+use Rattle.cp_faces.specs.Twins.{twin}
 use Rattle.cp_conn.specs.NamedGraphs.{NamedGraph, edges_at, far}
-use Rattle.cp_maps.specs.Twins.{twin}
 
 -- dart w e is the dart of edge e at its end w: vertex and edge can be read off it, and at the far end stands its twin
 pub record AreDartsOf (g : NamedGraph) (dart : ℕ → ℕ → ℕ) : Type 0 where

@@ -11,11 +11,13 @@ use Rattle.cp_lists.proofs.FilteredLists.{Has-filter, filter-Distinct, filter-Ha
 use Rattle.cp_lists.proofs.FlatLists.{flat-append}
 use Rattle.cp_lists.proofs.MappedLists.{Has-map_on, map_agree_on, map_on-Has}
 use Rattle.cp_lists.proofs.TurnedLists.{Has-of_turn, turn-Distinct, turn-Has, turn-refl, turn-sym, turn-trans, turn_reverse_head, turn_to_item}
+use Rattle.cp_faces.specs.Twins.{twin}
+use Rattle.cp_faces.proofs.Twins.{twin-twin}
 use Rattle.cp_maps.specs.Bonds.{AreBonded, Leads}
 use Rattle.cp_maps.specs.Genus.{Becomes, CanBeFlat, IsFlat, OnePart}
 use Rattle.cp_maps.specs.Gluings.{Grown, HoldsLeaving, in_place}
 use Rattle.cp_maps.specs.Maps.{IsMapOf, has, next_by}
-use Rattle.cp_maps.specs.Twins.{mirror, twin}
+use Rattle.cp_maps.specs.Mirrors.{mirror}
 use Rattle.cp_maps.proofs.CollapsedVertices.{collapsed-Becomes}
 use Rattle.cp_maps.proofs.Dipoles.{flat_dipole-mirror}
 use Rattle.cp_maps.proofs.FewerDarts.{first_lists-CanBeFlat, two_kept-CanBeFlat}
@@ -24,7 +26,6 @@ use Rattle.cp_maps.proofs.GluedVertices.{flat-split, in_place_other, lists_stay,
 use Rattle.cp_maps.proofs.Growth.{OnePart-grown, grown, grown_two-OnePart, middle_cases, middle_item}
 use Rattle.cp_maps.proofs.ListFacts.{has_true, has_yes}
 use Rattle.cp_maps.proofs.MapLists.{IsMapOf-among, IsMapOf-exchanged, IsMapOf-front, IsMapOf-some, IsMapOf-swap, IsMapOf-third, IsMapOf-turn}
-use Rattle.cp_maps.proofs.Twins.{twin-twin}
 
 -- the dart in place of d, where each dart of the list gives way to the twin of its partner
 abbrev passed : (ℕ → ℕ) → List ℕ → ℕ → ℕ

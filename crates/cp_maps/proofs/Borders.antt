@@ -4,10 +4,10 @@ use Rattle.std.proofs.lemmas.List.{append-nil, reverse-append}
 use Rattle.cp_lists.specs.CyclicLists.{Distinct}
 use Rattle.cp_lists.specs.Rows.{flat}
 use Rattle.cp_lists.proofs.TurnedLists.{turn_parts}
+use Rattle.cp_faces.specs.Twins.{twin}
 use Rattle.cp_maps.specs.Borders.{Place, border_lists, closed_border, inside_darts, last_begin, outside_darts}
 use Rattle.cp_maps.specs.Genus.{Apart, Becomes, CanBeFlat, IsFlat, SameGenus}
 use Rattle.cp_maps.specs.Maps.{Below, IsMapOf, next_by}
-use Rattle.cp_maps.specs.Twins.{twin}
 use Rattle.cp_maps.proofs.ContractedEdges.{contracted_edge-Becomes}
 use Rattle.cp_maps.proofs.CutLoops.{cut_loop-Apart, cut_loop-CanBeFlat, cut_loop-SameGenus}
 use Rattle.cp_maps.proofs.Genus.{SameGenus-IsFlat, SameGenus-sym, SameGenus-trans}

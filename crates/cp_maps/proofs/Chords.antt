@@ -5,16 +5,16 @@ use Rattle.cp_lists.specs.Rows.{flat}
 use Rattle.cp_lists.proofs.DistinctLists.{Distinct-middle, Has-append_left, Has-append_right, Lacks-append, Lacks-append_left, Lacks-append_right, has_other}
 use Rattle.cp_lists.proofs.TurnedLists.{turn_parts}
 use Rattle.cp_orbits.specs.Orbits.{Permutes}
+use Rattle.cp_faces.specs.Twins.{twin}
+use Rattle.cp_faces.proofs.Twins.{twin-other}
 use Rattle.cp_maps.specs.Genus.{OneFace, RaisesGenus, SameGenus}
 use Rattle.cp_maps.specs.Maps.{IsMapOf, swapped}
-use Rattle.cp_maps.specs.Twins.{twin}
 use Rattle.cp_maps.proofs.Edges.{lt_twin, put_edge-RaisesGenus, put_within-SameGenus}
 use Rattle.cp_maps.proofs.Genus.{SameGenus-trans}
 use Rattle.cp_maps.proofs.ListFacts.{below_item}
 use Rattle.cp_maps.proofs.MapLists.{IsMapOf-Permutes, IsMapOf-loose, IsMapOf-merged, IsMapOf-turn, one_vertex}
 use Rattle.cp_maps.proofs.MergedVertices.{same_lists-SameGenus}
 use Rattle.cp_maps.proofs.Swaps.{vertex-OnePart}
-use Rattle.cp_maps.proofs.Twins.{twin-other}
 
 -- an edge between two places of a list
 module _ (e : ℕ) (f g : ℕ → ℕ) (x a b : ℕ) (xs ys : List ℕ) (rows : List (List ℕ))

@@ -8,11 +8,11 @@ use Rattle.cp_lists.specs.Rows.{flat}
 use Rattle.cp_lists.proofs.DistinctLists.{Distinct-apart, Distinct-apart_right, Distinct-append_left, Distinct-append_right, Has-append_left, Has-append_right, Lacks-from}
 use Rattle.cp_lists.proofs.FilteredLists.{Has-filter, filter-Has, filter_agree, filter_all}
 use Rattle.cp_lists.proofs.FlatLists.{flat-append}
+use Rattle.cp_faces.specs.Twins.{twin}
 use Rattle.cp_maps.specs.Classes.{AllGrow, AreClassLists, IsClassList, class_lists}
 use Rattle.cp_maps.specs.Genus.{Becomes, CanBeFlat, IsFlat}
 use Rattle.cp_maps.specs.Gluings.{Grows, HoldsLeaving}
 use Rattle.cp_maps.specs.Maps.{IsMapOf, has}
-use Rattle.cp_maps.specs.Twins.{twin}
 use Rattle.cp_maps.proofs.CollapsedVertices.{collapsed-Becomes}
 use Rattle.cp_maps.proofs.Genus.{SameGenus-IsFlat}
 use Rattle.cp_maps.proofs.KeptDarts.{kept_darts-CanBeFlat}

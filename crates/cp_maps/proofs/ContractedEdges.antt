@@ -10,17 +10,17 @@ use Rattle.cp_orbits.specs.Classes.{graph, labels}
 use Rattle.cp_orbits.specs.Orbits.{Permutes}
 use Rattle.cp_orbits.proofs.OrbitLaws.{label_step}
 use Rattle.cp_faces.specs.Faces.{face_upto}
+use Rattle.cp_faces.specs.Twins.{twin}
 use Rattle.cp_faces.proofs.Merges.{face_upto-twin}
+use Rattle.cp_faces.proofs.Twins.{twin-below, twin-other, twin-twin}
 use Rattle.cp_maps.specs.Genus.{Becomes, OneFace, SameGenus}
 use Rattle.cp_maps.specs.Maps.{IsMapOf, next_by, swapped}
-use Rattle.cp_maps.specs.Twins.{twin}
 use Rattle.cp_maps.proofs.Edges.{lt_twin, slid-SameGenus, swapped_pendant-SameGenus}
 use Rattle.cp_maps.proofs.Genus.{SameGenus-sym, SameGenus-trans}
 use Rattle.cp_maps.proofs.ListFacts.{Below-from, Distinct-less, below_item, map-agree}
 use Rattle.cp_maps.proofs.MapLists.{IsMapOf-Permutes, IsMapOf-by, IsMapOf-loose, IsMapOf-merged, IsMapOf-some, IsMapOf-split, IsMapOf-swap, IsMapOf-third, IsMapOf-turn, IsMapOf-unbare, IsMapOf-unloose, other_vertex}
 use Rattle.cp_maps.proofs.MergedVertices.{merged_within-SameGenus, same_lists-SameGenus}
 use Rattle.cp_maps.proofs.NamedLists.{named_front, two_named_front}
-use Rattle.cp_maps.proofs.Twins.{twin-below, twin-other, twin-twin}
 
 -- an edge hung in at a vertex, whose other dart stands alone
 pub pendant-SameGenus : (e : ℕ) (f g : ℕ → ℕ) (x : ℕ) (xs : List ℕ) (rows : List (List ℕ))

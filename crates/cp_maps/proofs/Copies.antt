@@ -13,10 +13,10 @@ use Rattle.cp_orbits.specs.Classes.{labels}
 use Rattle.cp_orbits.specs.Orbits.{Permutes}
 use Rattle.cp_orbits.proofs.ClassLabels.{labels-le, labels-respects}
 use Rattle.cp_orbits.proofs.OrbitLaws.{graph-respects}
+use Rattle.cp_faces.specs.Twins.{twin}
 use Rattle.cp_maps.specs.Genus.{AllApart, CanBeFlat, IsFlat, OnePart, in_part, linked}
 use Rattle.cp_maps.specs.Gluings.{AreCopiesOf, AreDivided, AreSplitBy, EachTurnOf, all_copies}
 use Rattle.cp_maps.specs.Maps.{IsMapOf, Ring, Rings, has, only}
-use Rattle.cp_maps.specs.Twins.{twin}
 use Rattle.cp_maps.proofs.DividedMaps.{classes-IsFlat}
 use Rattle.cp_maps.proofs.Edges.{twin-OnePart}
 use Rattle.cp_maps.proofs.FlatMaps.{IsFlat-agree, linked-graph}

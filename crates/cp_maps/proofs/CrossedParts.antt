@@ -4,17 +4,17 @@ use Rattle.cp_lists.specs.CyclicLists.{Distinct, Has, Lacks}
 use Rattle.cp_lists.specs.Rows.{flat}
 use Rattle.cp_lists.proofs.DistinctLists.{Distinct-apart, Distinct-append_left, Distinct-append_right, Has-append_cases, Has-append_left, Has-append_right, Lacks-from, has_lacks, has_other}
 use Rattle.cp_lists.proofs.FlatLists.{flat-append}
+use Rattle.cp_faces.specs.Twins.{twin}
+use Rattle.cp_faces.proofs.Twins.{twin-twin}
 use Rattle.cp_maps.specs.Genus.{Becomes, IsFlat, OnePart}
 use Rattle.cp_maps.specs.Gluings.{Grown, HoldsLeaving}
 use Rattle.cp_maps.specs.Maps.{IsMapOf}
-use Rattle.cp_maps.specs.Twins.{twin}
 use Rattle.cp_maps.proofs.CollapsedVertices.{collapsed-Becomes}
 use Rattle.cp_maps.proofs.CrossedVertices.{flat-no_crossing}
 use Rattle.cp_maps.proofs.Genus.{SameGenus-IsFlat, SameGenus-trans}
 use Rattle.cp_maps.proofs.GluedVertices.{flat-split}
 use Rattle.cp_maps.proofs.Growth.{OnePart-grown, grown, grown_two-OnePart, middle_cases, middle_item}
 use Rattle.cp_maps.proofs.MapLists.{IsMapOf-among, IsMapOf-exchanged, IsMapOf-front, IsMapOf-swap, IsMapOf-third}
-use Rattle.cp_maps.proofs.Twins.{twin-twin}
 
 -- a vertex of a flat map with four darts, and the map of all other lists
 module _ (e : ℕ) (f g : ℕ → ℕ) (a b c d : ℕ) (ps bs cs ds : List ℕ) (rows : List (List ℕ))

@@ -8,9 +8,10 @@ use Rattle.cp_lists.proofs.TurnedLists.{turn_parts}
 use Rattle.cp_orbits.specs.Classes.{graph, labels}
 use Rattle.cp_orbits.specs.Orbits.{Permutes}
 use Rattle.cp_faces.specs.Faces.{face_upto}
+use Rattle.cp_faces.specs.Twins.{twin}
+use Rattle.cp_faces.proofs.Twins.{twin-twin}
 use Rattle.cp_maps.specs.Genus.{Apart, Becomes, CanBeFlat, IsFlat, OneFace, OnePart, SameGenus}
 use Rattle.cp_maps.specs.Maps.{IsMapOf, next_by, swapped}
-use Rattle.cp_maps.specs.Twins.{twin}
 use Rattle.cp_maps.proofs.ContractedEdges.{trivial_loop-SameGenus}
 use Rattle.cp_maps.proofs.Edges.{twin-OnePart}
 use Rattle.cp_maps.proofs.EdgesBetween.{edge-RaisesGenus, edge_between-SameGenus, edge_between-one_face, edge_within-two_faces}
@@ -19,7 +20,6 @@ use Rattle.cp_maps.proofs.ListFacts.{Distinct-less}
 use Rattle.cp_maps.proofs.MapLists.{IsMapOf-Permutes, IsMapOf-some, IsMapOf-split, IsMapOf-swap, IsMapOf-turn, IsMapOf-unbare, one_vertex}
 use Rattle.cp_maps.proofs.MergedVertices.{merged-RaisesGenus, merged_within-SameGenus}
 use Rattle.cp_maps.proofs.Swaps.{vertex-OnePart}
-use Rattle.cp_maps.proofs.Twins.{twin-twin}
 
 -- a loop cut open, where what it encloses is apart from the rest, keeps the genus
 pub cut_loop-SameGenus : (e : ℕ) (f g : ℕ → ℕ) (x : ℕ) (xs ys : List ℕ) (rows : List (List ℕ))

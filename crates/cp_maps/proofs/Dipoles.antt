@@ -6,9 +6,11 @@ use Rattle.cp_lists.specs.Rows.{flat}
 use Rattle.cp_lists.proofs.DistinctLists.{Distinct-apart, Distinct-middle, Has-append_cases, Has-append_left, Has-append_right, Has-split, Lacks-append_left, has_lacks}
 use Rattle.cp_lists.proofs.TurnedLists.{turn_parts}
 use Rattle.cp_orbits.proofs.OrbitLaws.{Permutes-same}
+use Rattle.cp_faces.specs.Twins.{twin}
+use Rattle.cp_faces.proofs.Twins.{twin-twin}
 use Rattle.cp_maps.specs.Genus.{IsFlat, OneGenus}
 use Rattle.cp_maps.specs.Maps.{IsMapOf, next_by}
-use Rattle.cp_maps.specs.Twins.{mirror, twin}
+use Rattle.cp_maps.specs.Mirrors.{mirror}
 use Rattle.cp_maps.proofs.ContractedEdges.{contracted_edge-IsMapOf, contracted_edge-SameGenus}
 use Rattle.cp_maps.proofs.CutLoops.{cut_loop-Apart}
 use Rattle.cp_maps.proofs.Edges.{twin-OnePart}
@@ -16,9 +18,9 @@ use Rattle.cp_maps.proofs.FlatMaps.{IsFlat-agree}
 use Rattle.cp_maps.proofs.Genus.{OneGenus-IsFlat, OneGenus-trans, SameGenus-IsFlat, SameGenus-sym}
 use Rattle.cp_maps.proofs.ListFacts.{Distinct-less}
 use Rattle.cp_maps.proofs.MapLists.{IsMapOf-Permutes, IsMapOf-some, IsMapOf-swap, IsMapOf-turn, IsMapOf-unique, IsMapOf-unloose}
+use Rattle.cp_maps.proofs.Mirrors.{mirror-cons}
 use Rattle.cp_maps.proofs.ParallelEdges.{parallel_edge-IsMapOf, parallel_edge-SameGenus, parallel_edges-SameGenus}
 use Rattle.cp_maps.proofs.Stocks.{loose_edge-OneGenus}
-use Rattle.cp_maps.proofs.Twins.{mirror-cons, twin-twin}
 
 -- loose edges alone are flat
 pub loose_edges-IsFlat : (e : ℕ) → IsFlat e (λ d. d)

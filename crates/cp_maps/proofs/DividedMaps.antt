@@ -7,19 +7,19 @@ use Rattle.cp_lists.proofs.DistinctLists.{Lacks-append, Lacks-from, has_cases}
 use Rattle.cp_lists.proofs.FlatLists.{flat-append}
 use Rattle.cp_orbits.specs.Orbits.{Permutes}
 use Rattle.cp_orbits.proofs.OrbitLaws.{Permutes-same}
+use Rattle.cp_faces.specs.Twins.{twin}
 use Rattle.cp_maps.specs.Genus.{IsFlat, OneGenus}
 use Rattle.cp_maps.specs.Maps.{IsMapOf, only}
 use Rattle.cp_maps.specs.Names.{Carries, Names}
-use Rattle.cp_maps.specs.Twins.{twin}
 use Rattle.cp_maps.proofs.Dipoles.{loose_edges-IsFlat}
 use Rattle.cp_maps.proofs.FewerDarts.{CanBeFlat-IsFlat, first_lists-CanBeFlat, last_lists-CanBeFlat}
 use Rattle.cp_maps.proofs.FlatMaps.{IsFlat-agree}
 use Rattle.cp_maps.proofs.FlatUnions.{IsFlat-union, Permutes-union}
 use Rattle.cp_maps.proofs.Genus.{OneGenus-IsFlat, OneGenus-sym}
 use Rattle.cp_maps.proofs.MapLists.{IsMapOf-Permutes}
+use Rattle.cp_maps.proofs.Mirrors.{twin-farther}
 use Rattle.cp_maps.proofs.Names.{Carries-OneGenus}
 use Rattle.cp_maps.proofs.Rings.{Rings-append_left, Rings-append_right, rings_same, rings_stay}
-use Rattle.cp_maps.proofs.Twins.{twin-farther}
 
 -- a map divided by a test with one value on twins and on darts that follow each other, and its two parts
 module _ (e : ℕ) (f one two : ℕ → ℕ) (p : ℕ → Bool) (perm : Permutes (2 * e) f) (perm_one : Permutes (2 * e) one)

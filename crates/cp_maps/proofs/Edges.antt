@@ -6,15 +6,15 @@ use Rattle.cp_orbits.specs.Orbits.{Permutes, exchange}
 use Rattle.cp_orbits.proofs.ClassLabels.{classes_equal, labels-respects, same_labels}
 use Rattle.cp_orbits.proofs.OrbitLaws.{Respects-graph, exchange-exchange, exchange_case, exchange_left, exchange_other, exchange_right, graph_agree, label_step, orbits_agree}
 use Rattle.cp_faces.specs.Faces.{face_upto, partner}
+use Rattle.cp_faces.specs.Twins.{twin}
 use Rattle.cp_faces.proofs.Faces.{face_upto-Permutes}
 use Rattle.cp_faces.proofs.Merges.{face_upto-partner, face_upto-twin, partner-twin}
+use Rattle.cp_faces.proofs.Twins.{half_twin, same_half, twin-below, twin-other}
 use Rattle.cp_maps.specs.Genus.{RaisesGenus, SameGenus, linked, parts, rounds}
 use Rattle.cp_maps.specs.Maps.{swapped}
-use Rattle.cp_maps.specs.Twins.{twin}
 use Rattle.cp_maps.proofs.FlatMaps.{linked-from, linked-graph, linked-partner}
 use Rattle.cp_maps.proofs.Genus.{SameGenus-trans}
 use Rattle.cp_maps.proofs.Swaps.{Permutes-swapped, face-OnePart, swapped-RaisesGenus, swapped-Respects, swapped-Respects_back, swapped-other_face, swapped-other_part, swapped_apart-OneFace_kept, swapped_apart-OnePart_kept, swapped_apart-SameGenus, swapped_apart-one_face, swapped_apart-one_part, swapped_one-orbits, swapped_one-two_orbits, swapped_two-one_orbit, swapped_two-orbit_kept, swapped_two-orbits, swapped_within_face-SameGenus, swapped_within_face-two_faces, vertex-OnePart}
-use Rattle.cp_maps.proofs.Twins.{half_twin, same_half, twin-below, twin-other}
 
 -- a fixed number is of no other's orbit
 pub fixed_alone : (n : ℕ) (f : ℕ → ℕ) (c d : ℕ) → Permutes n f → c < n → f c ≡ c → d ≢ c

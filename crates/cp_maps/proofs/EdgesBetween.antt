@@ -7,15 +7,15 @@ use Rattle.cp_lists.proofs.DistinctLists.{Distinct-middle, Has-append_right, Lac
 use Rattle.cp_orbits.specs.Classes.{graph, labels}
 use Rattle.cp_orbits.specs.Orbits.{Permutes}
 use Rattle.cp_faces.specs.Faces.{face_upto}
+use Rattle.cp_faces.specs.Twins.{twin}
+use Rattle.cp_faces.proofs.Twins.{twin-other}
 use Rattle.cp_maps.specs.Genus.{IsFlat, OneFace, OnePart, RaisesGenus, SameGenus}
 use Rattle.cp_maps.specs.Maps.{IsMapOf, swapped}
-use Rattle.cp_maps.specs.Twins.{twin}
 use Rattle.cp_maps.proofs.Edges.{lt_twin, put_between-SameGenus, put_between-one_face, put_edge-RaisesGenus, put_within-SameGenus, put_within-two_faces}
 use Rattle.cp_maps.proofs.Genus.{OneFace-agree, RaisesGenus-not_flat, SameGenus-trans}
 use Rattle.cp_maps.proofs.ListFacts.{below_item}
 use Rattle.cp_maps.proofs.MapLists.{IsMapOf-Permutes, IsMapOf-loose, IsMapOf-merged, IsMapOf-swap, IsMapOf-unique}
 use Rattle.cp_maps.proofs.MergedVertices.{same_lists-SameGenus}
-use Rattle.cp_maps.proofs.Twins.{twin-other}
 
 -- an edge between two lists
 module _ (e : ℕ) (f g : ℕ → ℕ) (x a b : ℕ) (xs ys : List ℕ) (rows : List (List ℕ))

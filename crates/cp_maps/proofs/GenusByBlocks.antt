@@ -12,12 +12,13 @@ use Rattle.cp_lists.proofs.Orders.{order_cut}
 use Rattle.cp_lists.proofs.TurnedLists.{turn_parts}
 use Rattle.cp_orbits.specs.Classes.{labels}
 use Rattle.cp_orbits.specs.Orbits.{Permutes}
+use Rattle.cp_faces.specs.Twins.{twin}
+use Rattle.cp_faces.proofs.Twins.{twin-twin}
 use Rattle.cp_maps.specs.Blocks.{AllMade, AreBlocks, NoneCross}
 use Rattle.cp_maps.specs.Genus.{AllApart, Becomes, CanBeFlat, Evenly, IsFlat, OnePart, linked}
 use Rattle.cp_maps.specs.Gluings.{AreSplitBy, all_copies}
 use Rattle.cp_maps.specs.ListClasses.{EachClassOf}
 use Rattle.cp_maps.specs.Maps.{IsMapOf, Rings, has, next_by}
-use Rattle.cp_maps.specs.Twins.{twin}
 use Rattle.cp_maps.proofs.AssembledLists.{uncrossed-IsAssembled}
 use Rattle.cp_maps.proofs.AssembledVertices.{assembled-Becomes, assembled-Distinct, assembled_item, item_assembled}
 use Rattle.cp_maps.proofs.Copies.{split_classes-IsFlat}
@@ -31,7 +32,6 @@ use Rattle.cp_maps.proofs.MapLists.{IsMapOf-Permutes, IsMapOf-among, IsMapOf-exc
 use Rattle.cp_maps.proofs.MergedVertices.{same_lists-SameGenus}
 use Rattle.cp_maps.proofs.Parts.{Evenly-two_parts, Ring-OnePart}
 use Rattle.cp_maps.proofs.Rings.{Rings-append_left, Rings-append_right}
-use Rattle.cp_maps.proofs.Twins.{twin-twin}
 
 -- two equations that follow from each other have one test
 eqb_same : (a b c d : ℕ) → (a ≡ b) ↔ (c ≡ d) → eqb a b ≡ eqb c d

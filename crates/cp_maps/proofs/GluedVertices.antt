@@ -8,16 +8,16 @@ use Rattle.cp_lists.proofs.DistinctLists.{Distinct-apart, Distinct-apart_right, 
 use Rattle.cp_lists.proofs.FlatLists.{flat-append, flat-map}
 use Rattle.cp_lists.proofs.MappedLists.{Has-map_on}
 use Rattle.cp_lists.proofs.TurnedLists.{turn_parts}
+use Rattle.cp_faces.specs.Twins.{twin}
+use Rattle.cp_faces.proofs.Twins.{twin-twin}
 use Rattle.cp_maps.specs.Genus.{Apart, Becomes, CanBeFlat, IsFlat}
 use Rattle.cp_maps.specs.Gluings.{in_place, onto}
 use Rattle.cp_maps.specs.Maps.{IsMapOf, swapped}
-use Rattle.cp_maps.specs.Twins.{twin}
 use Rattle.cp_maps.proofs.ContractedEdges.{contracted_edge-Becomes}
 use Rattle.cp_maps.proofs.Genus.{SameGenus-IsFlat}
 use Rattle.cp_maps.proofs.ListFacts.{from_dart}
 use Rattle.cp_maps.proofs.MapLists.{IsMapOf-among, IsMapOf-bare, IsMapOf-front, IsMapOf-merged, IsMapOf-split, IsMapOf-swap, IsMapOf-turn, IsMapOf-unbare}
 use Rattle.cp_maps.proofs.MergedVertices.{merged_between-SameGenus, split_list-IsFlat}
-use Rattle.cp_maps.proofs.Twins.{twin-twin}
 
 -- two lists of different components can be put one behind the other
 pub concatenated-Becomes : (e : ℕ) (f : ℕ → ℕ) (xs ys : List ℕ) (rows : List (List ℕ))

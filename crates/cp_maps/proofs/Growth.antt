@@ -7,16 +7,16 @@ use Rattle.cp_lists.specs.Rows.{flat}
 use Rattle.cp_lists.proofs.DistinctLists.{Distinct-apart_right, Has-append_cases, Has-append_left, Has-append_right, has_cases}
 use Rattle.cp_lists.proofs.FlatLists.{flat-append}
 use Rattle.cp_orbits.specs.Orbits.{Permutes}
+use Rattle.cp_faces.specs.Twins.{twin}
+use Rattle.cp_faces.proofs.Twins.{twin-twin}
 use Rattle.cp_maps.specs.Genus.{Evenly, OnePart}
 use Rattle.cp_maps.specs.Gluings.{Grown, Grows}
 use Rattle.cp_maps.specs.Maps.{IsMapOf, Rings, has}
-use Rattle.cp_maps.specs.Twins.{twin}
 use Rattle.cp_maps.proofs.Edges.{twin-OnePart}
 use Rattle.cp_maps.proofs.ListFacts.{below_item, has_no, has_yes}
 use Rattle.cp_maps.proofs.MapLists.{IsMapOf-Permutes, IsMapOf-among, IsMapOf-front}
 use Rattle.cp_maps.proofs.Parts.{Evenly-two_parts, Ring-OnePart}
 use Rattle.cp_maps.proofs.Rings.{Rings-append_left}
-use Rattle.cp_maps.proofs.Twins.{twin-twin}
 
 -- a dart of the list whose twin is in all, if there is one
 twin_in : (all ys : List ℕ) → ((x : ℕ) × Has x all × Has (twin x) ys) ⊎ ((d : ℕ) → Has d ys → Lacks (twin d) all)

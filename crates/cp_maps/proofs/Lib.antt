@@ -1,4 +1,4 @@
-pub mod Twins
+pub mod Mirrors
 pub mod FlatMaps
 pub mod FlatUnions
 pub mod FlatRotations

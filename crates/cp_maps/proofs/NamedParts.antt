@@ -11,9 +11,10 @@ use Rattle.cp_orbits.specs.Connected.{Connected, here, step}
 use Rattle.cp_orbits.specs.Orbits.{Permutes}
 use Rattle.cp_orbits.proofs.ClassLabels.{connected_labels, labels_connected, same_labels}
 use Rattle.cp_orbits.proofs.OrbitLaws.{Respects-graph}
+use Rattle.cp_faces.specs.Twins.{twin}
+use Rattle.cp_faces.proofs.Twins.{twin-twin, twin_even}
 use Rattle.cp_maps.specs.Genus.{OnePart, linked}
 use Rattle.cp_maps.specs.Maps.{IsMapOf, Ring, Rings, has}
-use Rattle.cp_maps.specs.Twins.{twin}
 use Rattle.cp_maps.proofs.Edges.{twin-OnePart}
 use Rattle.cp_maps.proofs.FlatMaps.{linked-from}
 use Rattle.cp_maps.proofs.ListFacts.{below_item, has_no, has_yes}
@@ -21,7 +22,6 @@ use Rattle.cp_maps.proofs.MapLists.{IsMapOf-Permutes}
 use Rattle.cp_maps.proofs.NamedLists.{named_front, named_item}
 use Rattle.cp_maps.proofs.Parts.{Ring-OnePart}
 use Rattle.cp_maps.proofs.Rings.{rings_stay}
-use Rattle.cp_maps.proofs.Twins.{twin-twin, twin_even}
 
 -- a map whose lists have names, and pairs of names
 module _ (e : ℕ) (f : ℕ → ℕ) (lists : ℕ → List ℕ) (names : List ℕ) (es : List (ℕ × ℕ))

@@ -12,18 +12,18 @@ use Rattle.cp_lists.proofs.MappedLists.{Has-map_on, follow-map_on, map_on-Has}
 use Rattle.cp_orbits.specs.Orbits.{Permutes, Renumbers}
 use Rattle.cp_orbits.proofs.OrbitLaws.{Permutes-agree, Permutes-onto}
 use Rattle.cp_faces.specs.Faces.{stands}
+use Rattle.cp_faces.specs.Twins.{twin}
 use Rattle.cp_faces.proofs.Faces.{stands_at, stands_some}
 use Rattle.cp_faces.proofs.Merges.{partner-twin}
+use Rattle.cp_faces.proofs.Twins.{half_twin, twin-below, twin_even, twin_odd}
 use Rattle.cp_maps.specs.Genus.{OneGenus, SameGenus}
 use Rattle.cp_maps.specs.Maps.{IsMapOf, Rings}
 use Rattle.cp_maps.specs.Names.{Carries, Names}
-use Rattle.cp_maps.specs.Twins.{twin}
 use Rattle.cp_maps.proofs.Genus.{OneGenus-trans, SameGenus-agree}
 use Rattle.cp_maps.proofs.ListFacts.{below_item}
 use Rattle.cp_maps.proofs.MapLists.{IsMapOf-Permutes}
 use Rattle.cp_maps.proofs.Rings.{rings_same}
 use Rattle.cp_maps.proofs.Stocks.{loose_edge-OneGenus, renumbered-SameGenus}
-use Rattle.cp_maps.proofs.Twins.{half_twin, twin-below, twin_even, twin_odd}
 
 -- fewer numbers than e leave one free
 free_number : (m e : ℕ) (p : ℕ → ℕ) → m < e → (y : ℕ) × (y < e) × ((i : ℕ) → i < m → p i ≢ y)

@@ -5,10 +5,12 @@ use Rattle.cp_lists.specs.CyclicLists.{Distinct, Has}
 use Rattle.cp_lists.specs.Rows.{flat}
 use Rattle.cp_lists.proofs.DistinctLists.{Lacks-from}
 use Rattle.cp_lists.proofs.TurnedLists.{turn_parts}
+use Rattle.cp_faces.specs.Twins.{twin}
+use Rattle.cp_faces.proofs.Twins.{twin-below, twin-twin}
 use Rattle.cp_maps.specs.Borders.{Place, closed_border}
 use Rattle.cp_maps.specs.Genus.{Apart, Becomes, CanBeFlat, Evenly, IsFlat}
 use Rattle.cp_maps.specs.Maps.{Below, IsMapOf, has, next_by}
-use Rattle.cp_maps.specs.Twins.{mirror, twin}
+use Rattle.cp_maps.specs.Mirrors.{mirror}
 use Rattle.cp_maps.proofs.Borders.{border-Becomes}
 use Rattle.cp_maps.proofs.Dipoles.{mirrored_dipole-IsFlat}
 use Rattle.cp_maps.proofs.DividedMaps.{divided-IsFlat}
@@ -16,7 +18,6 @@ use Rattle.cp_maps.proofs.Genus.{SameGenus-IsFlat, SameGenus-trans}
 use Rattle.cp_maps.proofs.ListFacts.{Below-from, has_yes}
 use Rattle.cp_maps.proofs.MapLists.{IsMapOf-by, IsMapOf-front, IsMapOf-turn}
 use Rattle.cp_maps.proofs.Parts.{Evenly-two_parts}
-use Rattle.cp_maps.proofs.Twins.{twin-below, twin-twin}
 
 -- no item of the list stands twice, as a test
 abbrev differing : List ℕ → Bool

@@ -9,12 +9,12 @@ use Rattle.cp_orbits.specs.Orbits.{Permutes}
 use Rattle.cp_orbits.proofs.ClassLabels.{same_labels}
 use Rattle.cp_orbits.proofs.ListOrbits.{follow-reaches}
 use Rattle.cp_orbits.proofs.OrbitLaws.{Respects-graph, labels_reached}
+use Rattle.cp_faces.specs.Twins.{twin}
+use Rattle.cp_faces.proofs.Twins.{twin_even}
 use Rattle.cp_maps.specs.Genus.{Evenly, OnePart, linked}
 use Rattle.cp_maps.specs.Maps.{IsMapOf, Ring, Rings}
-use Rattle.cp_maps.specs.Twins.{twin}
 use Rattle.cp_maps.proofs.FlatMaps.{linked-from}
 use Rattle.cp_maps.proofs.Swaps.{vertex-OnePart}
-use Rattle.cp_maps.proofs.Twins.{twin_even}
 
 -- so it has one value on a dart and the one behind
 evenly_step : (f : ℕ → ℕ) (p : ℕ → Bool) (rows : List (List ℕ)) (d : ℕ) → Rings f rows → Evenly p rows

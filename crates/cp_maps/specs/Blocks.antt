@@ -3,11 +3,11 @@ use Rattle.std.specs.Prelude.{◌≡◌, ℕ, ◌<◌, List, [], ◌∷◌, ◌+
 use Rattle.cp_lists.specs.Crossings.{NoCross}
 use Rattle.cp_lists.specs.CyclicLists.{Has, Lacks}
 use Rattle.cp_lists.specs.Rows.{flat}
+use Rattle.cp_faces.specs.Twins.{twin}
 use Rattle.cp_maps.specs.Genus.{OnePart}
 use Rattle.cp_maps.specs.Gluings.{IsAssembled}
 use Rattle.cp_maps.specs.ListClasses.{EachClassOf}
 use Rattle.cp_maps.specs.Maps.{next_by}
-use Rattle.cp_maps.specs.Twins.{twin}
 
 -- the class has one value on twins, the lists are without loops and each edge has both its darts in them, and two
 -- darts at one vertex are of one class exactly where their twins are in one component of the map without the vertex

@@ -2,9 +2,9 @@
 use Rattle.std.specs.Prelude.{◌≡◌, ℕ, List, ◌⊎◌}
 use Rattle.cp_lists.specs.CyclicLists.{Has}
 use Rattle.cp_lists.specs.Rows.{flat}
+use Rattle.cp_faces.specs.Twins.{twin}
 use Rattle.cp_maps.specs.Genus.{OnePart}
 use Rattle.cp_maps.specs.Maps.{next_by}
-use Rattle.cp_maps.specs.Twins.{twin}
 
 -- the darts of the list lead into parts of the rest, each into one of its own, with the partner's twin in it
 pub record Leads (e : ℕ) (h along : ℕ → ℕ) (us vs : List ℕ) (left : List (List ℕ)) (todo : List ℕ) : Type 0 where

@@ -3,9 +3,9 @@ use Rattle.std.specs.Prelude.{◌≡◌, ℕ, List, [], ◌∷◌, ◌++◌, not
 use Rattle.std.specs.List.{filter}
 use Rattle.cp_lists.specs.CyclicLists.{Has, Lacks}
 use Rattle.cp_lists.specs.Rows.{flat}
+use Rattle.cp_faces.specs.Twins.{twin}
 use Rattle.cp_maps.specs.Gluings.{Grows}
 use Rattle.cp_maps.specs.Maps.{has}
-use Rattle.cp_maps.specs.Twins.{twin}
 
 -- the darts of a class: its first list, and those that grow from it
 abbrev pub class_darts : List ℕ × List (List ℕ) → List ℕ

@@ -4,9 +4,9 @@ use Rattle.std.specs.List.{filter}
 use Rattle.cp_lists.specs.CyclicLists.{Has, Lacks, follow}
 use Rattle.cp_lists.specs.Rows.{flat}
 use Rattle.cp_lists.specs.Turns.{IsTurn}
+use Rattle.cp_faces.specs.Twins.{twin}
 use Rattle.cp_maps.specs.Genus.{AllApart}
 use Rattle.cp_maps.specs.Maps.{IsMapOf, has}
-use Rattle.cp_maps.specs.Twins.{twin}
 
 -- the dart q in place of t, and all others as they are
 abbrev pub in_place : ℕ → ℕ → ℕ → ℕ

@@ -1,4 +1,4 @@
-pub mod Twins
+pub mod Mirrors
 pub mod Maps
 pub mod Genus
 pub mod Names
