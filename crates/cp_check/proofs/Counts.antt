@@ -7,7 +7,7 @@ use Rattle.cp_rot.specs.Genus.{FaceCount, ComponentCount, HasGenusZero}
 use Rattle.cp_rot.proofs.Euler.{FaceCount-le, ComponentCount-le}
 use Rattle.cp_border.specs.Borders.{borders}
 use Rattle.cp_border.specs.Good.{IsArranged, IsGood}
-use Rattle.cp_border.specs.Views.{IsTold}
+use Rattle.cp_border.specs.Tables.{Tables, HasPlaces, HasPlacesFor}
 use Rattle.cp_border.proofs.RotationLaw.{length-borders_at-graph}
 use Rattle.cp_check.specs.Sizes.{Sizes, Fits, dart_number}
 use Rattle.cp_check.specs.Judging.{HasWrongGenus, IsGenusReason, IsLayoutReason}
@@ -33,10 +33,23 @@ layout_told g l r is arranged (Some (NodeLine i)) why = absurd why
 layout_told g l r is arranged (Some (ClusterLine k)) why = absurd why
 layout_told g l r is arranged (Some (Genus v e f c)) why = record { arranged = arranged; counts = subst (λ s. HasWrongGenus s v e f c) is why }
 
--- equal tables tell the same
-pub told_again : (g : Clustered) (l : Layout) (first at next begins first' at' next' begins' : List ℕ) → first' ≡ first → at' ≡ at → next' ≡ next → begins' ≡ begins → IsTold g l first at next begins → IsTold g l first' at' next' begins'
-told_again g l first at next begins first' at' next' begins' same_first same_at same_next same_begins told =
-    let one = subst (λ z. IsTold g l z at next begins) (sym same_first) told in
-    let two = subst (λ z. IsTold g l first' z next begins) (sym same_at) one in
-    let three = subst (λ z. IsTold g l first' at' z begins) (sym same_next) two in
-    subst (λ z. IsTold g l first' at' next' z) (sym same_begins) three
+-- tables with places for the numbers have places for a graph that has them, and the other way round
+pub places_for : (s : Sizes) (g : Clustered) (t : Tables) → Fits s g → HasPlaces s.nodes s.edges s.borders t → HasPlacesFor g t
+places_for s g t fits places = record {
+  few_vertices = omega (arith, places.few_vertices, fits.nodes_fit, fits.borders_fit);
+  few_edges = omega (arith, places.few_edges, fits.edges_fit, fits.borders_fit);
+  first_places = omega (arith, places.first_places, fits.edges_fit);
+  at_places = omega (arith, places.at_places, fits.edges_fit, fits.borders_fit);
+  following_places = omega (arith, places.following_places, fits.edges_fit, fits.borders_fit);
+  begins_places = omega (arith, places.begins_places, fits.borders_fit);
+}
+
+pub places_of : (s : Sizes) (g : Clustered) (t : Tables) → Fits s g → HasPlacesFor g t → HasPlaces s.nodes s.edges s.borders t
+places_of s g t fits places = record {
+  few_vertices = omega (arith, places.few_vertices, fits.nodes_fit, fits.borders_fit);
+  few_edges = omega (arith, places.few_edges, fits.edges_fit, fits.borders_fit);
+  first_places = omega (arith, places.first_places, fits.edges_fit);
+  at_places = omega (arith, places.at_places, fits.edges_fit, fits.borders_fit);
+  following_places = omega (arith, places.following_places, fits.edges_fit, fits.borders_fit);
+  begins_places = omega (arith, places.begins_places, fits.borders_fit);
+}

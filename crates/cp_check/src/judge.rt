@@ -60,9 +60,8 @@ fn wrong_genus(g: &CGraph, lay: &Layout, s: &mut Scratch) -> Option<Reject>
     ensures reason { MatchOption result (IsGood g.now lay.now) (IsLayoutReason g.now lay.now) }
     ensures kept { s.new ≡ s.old }
 {
-    let _nodes = g.nodes();
-    write_tables(g, lay, &mut s.first, &mut s.at, &mut s.next, &mut s.begins);
-    let view = View::new(g, lay, &s.first, &s.at, &s.next, &s.begins);
+    write_tables(g, lay, &mut s.tables);
+    let view = View::new(g, lay, &s.tables);
     genus_reason(&view, &mut s.dart_marks, &mut s.marks, &mut s.stack)
 }
 
