@@ -74,11 +74,13 @@ border_piece g l k = ap (λ (m : ℕ). length (border_ends g l m)) (let e : 1 + 
 pub length-segment_at : (g : Clustered) → length (segment_at g) ≡ 2 * segments g
 length-segment_at g = pieces_length (segment_ends g) (segment_size g) 0 (edges g) (λ k lt. segment_piece g k) ∙ segment_sizes g (edges g)
 
-pub length-border_at : (g : Clustered) (l : Layout) → length (border_at g l) ≡ 2 * before (border_length l) (length g.parents)
+pub length-border_at : (g : Clustered) (l : Layout) →
+    length (border_at g l) ≡ 2 * before (border_length l) (length g.parents)
 length-border_at g l = pieces_length (border_ends g l) (border_size l) 1 (length g.parents) (λ k lt. border_piece g l k) ∙ border_sizes l (length g.parents)
 
 -- the darts are two for each segment and each border edge
-pub length-borders_at : (g : Clustered) (l : Layout) → length (borders g l).at ≡ 2 * (segments g + before (border_length l) (length g.parents))
+pub length-borders_at : (g : Clustered) (l : Layout) →
+    length (borders g l).at ≡ 2 * (segments g + before (border_length l) (length g.parents))
 length-borders_at g l =
     length-append (segment_at g) (border_at g l) ∙ ap₂ (λ (a b : ℕ). a + b) (length-segment_at g) (length-border_at g l)
     ∙ (let h : 2 * segments g + 2 * before (border_length l) (length g.parents) ≡ 2 * (segments g + before (border_length l) (length g.parents)) = omega arith in h)
@@ -90,7 +92,8 @@ first_segment-le g e i lt within =
     omega (arith, segment_sizes g e, segment_sizes g (edges g))
 
 -- dart j of the segments of edge e
-segment_stands : (g : Clustered) (l : Layout) (e j : ℕ) → e < edges g → j < segment_size g e → slice_index (borders g l).at (2 * first_segment g e + j) ≡ slice_index (segment_ends g e) j
+segment_stands : (g : Clustered) (l : Layout) (e j : ℕ) → e < edges g → j < segment_size g e →
+    slice_index (borders g l).at (2 * first_segment g e + j) ≡ slice_index (segment_ends g e) j
 segment_stands g l e j lt within =
     let below : before (segment_size g) e + j < before (segment_size g) (edges g) = before_within (segment_size g) e j (edges g) lt within in
     ap (slice_index (borders g l).at) (let h : 2 * first_segment g e + j ≡ before (segment_size g) e + j = omega (arith, segment_sizes g e) in h)
@@ -99,7 +102,8 @@ segment_stands g l e j lt within =
     ∙ ap (λ (m : ℕ). slice_index (segment_ends g m) j) (let h : 0 + e ≡ e = omega arith in h)
 
 -- dart j of the border edges of cluster c
-border_stands : (g : Clustered) (l : Layout) (c j : ℕ) → 0 < c → c < clusters g → j < 2 * length (cluster_list l c) → slice_index (borders g l).at (2 * first_border_edge g l c + j) ≡ slice_index (border_ends g l c) j
+border_stands : (g : Clustered) (l : Layout) (c j : ℕ) → 0 < c → c < clusters g → j < 2 * length (cluster_list l c) →
+    slice_index (borders g l).at (2 * first_border_edge g l c + j) ≡ slice_index (border_ends g l c) j
 border_stands g l c j above lt within =
     let same : border_size l (c - 1) ≡ 2 * length (cluster_list l c) = ap (λ (m : ℕ). 2 * length (cluster_list l m)) (let h : c - 1 + 1 ≡ c = omega arith in h) in
     ap (slice_index (borders g l).at) (let h : 2 * first_border_edge g l c + j ≡ length (segment_at g) + (before (border_size l) (c - 1) + j) = omega (arith, length-segment_at g, border_sizes l (c - 1)) in h)
@@ -108,18 +112,21 @@ border_stands g l c j above lt within =
     ∙ ap (λ (m : ℕ). slice_index (border_ends g l m) j) (let h : 1 + (c - 1) ≡ c = omega arith in h)
 
 -- the first dart of an edge stands at its source
-pub stands_source : (g : Clustered) (l : Layout) (e : ℕ) → e < edges g → slice_index (borders g l).at (2 * first_segment g e) ≡ source g e
+pub stands_source : (g : Clustered) (l : Layout) (e : ℕ) → e < edges g →
+    slice_index (borders g l).at (2 * first_segment g e) ≡ source g e
 stands_source g l e lt = ap (slice_index (borders g l).at) (let h : 2 * first_segment g e ≡ 2 * first_segment g e + 0 = omega arith in h) ∙ segment_stands g l e 0 lt (omega arith)
 
 -- the last one at its target
-pub stands_target : (g : Clustered) (l : Layout) (e : ℕ) → e < edges g → slice_index (borders g l).at (2 * (first_segment g e + crossed g e) + 1) ≡ target g e
+pub stands_target : (g : Clustered) (l : Layout) (e : ℕ) → e < edges g →
+    slice_index (borders g l).at (2 * (first_segment g e + crossed g e) + 1) ≡ target g e
 stands_target g l e lt =
     ap (slice_index (borders g l).at) (let h : 2 * (first_segment g e + crossed g e) + 1 ≡ 2 * first_segment g e + suc (2 * crossed g e) = omega arith in h)
     ∙ segment_stands g l e (suc (2 * crossed g e)) lt (omega arith)
     ∙ get_or_at (pairs (λ b. b) (λ b. b) (first_border g e) (crossed g e)) (target g e) [] 0 (2 * crossed g e) (length-pairs (λ b. b) (λ b. b) (first_border g e) (crossed g e))
 
 -- the two darts between neighbouring segments at the border vertex between them
-pub stands_toward_source : (g : Clustered) (l : Layout) (e i : ℕ) → e < edges g → i < crossed g e → slice_index (borders g l).at (toward_source g e i) ≡ first_border g e + i
+pub stands_toward_source : (g : Clustered) (l : Layout) (e i : ℕ) → e < edges g → i < crossed g e →
+    slice_index (borders g l).at (toward_source g e i) ≡ first_border g e + i
 stands_toward_source g l e i lt within =
     let long : length (pairs (λ b. b) (λ b. b) (first_border g e) (crossed g e)) ≡ 2 * crossed g e = length-pairs (λ b. b) (λ b. b) (first_border g e) (crossed g e) in
     ap (slice_index (borders g l).at) (let h : toward_source g e i ≡ 2 * first_segment g e + suc (2 * i) = omega arith in h)
@@ -127,7 +134,8 @@ stands_toward_source g l e i lt within =
     ∙ get_or_append_left (pairs (λ b. b) (λ b. b) (first_border g e) (crossed g e)) (target g e ∷ []) 0 (2 * i) (omega arith)
     ∙ pairs_first (λ b. b) (λ b. b) (first_border g e) (crossed g e) i within
 
-pub stands_toward_target : (g : Clustered) (l : Layout) (e i : ℕ) → e < edges g → i < crossed g e → slice_index (borders g l).at (toward_target g e i) ≡ first_border g e + i
+pub stands_toward_target : (g : Clustered) (l : Layout) (e i : ℕ) → e < edges g → i < crossed g e →
+    slice_index (borders g l).at (toward_target g e i) ≡ first_border g e + i
 stands_toward_target g l e i lt within =
     let long : length (pairs (λ b. b) (λ b. b) (first_border g e) (crossed g e)) ≡ 2 * crossed g e = length-pairs (λ b. b) (λ b. b) (first_border g e) (crossed g e) in
     ap (slice_index (borders g l).at) (let h : toward_target g e i ≡ 2 * first_segment g e + suc (2 * i + 1) = omega arith in h)
@@ -136,7 +144,8 @@ stands_toward_target g l e i lt within =
     ∙ pairs_second (λ b. b) (λ b. b) (first_border g e) (crossed g e) i within
 
 -- a border edge runs from the border vertex of its item
-pub stands_begin : (g : Clustered) (l : Layout) (c k : ℕ) → 0 < c → c < clusters g → k < length (cluster_list l c) → slice_index (borders g l).at (begin_dart g l c k) ≡ border_vertex g (slice_index (cluster_list l c) k) c
+pub stands_begin : (g : Clustered) (l : Layout) (c k : ℕ) → 0 < c → c < clusters g → k < length (cluster_list l c) →
+    slice_index (borders g l).at (begin_dart g l c k) ≡ border_vertex g (slice_index (cluster_list l c) k) c
 stands_begin g l c k above lt within =
     ap (slice_index (borders g l).at) (let h : begin_dart g l c k ≡ 2 * first_border_edge g l c + 2 * k = omega arith in h)
     ∙ border_stands g l c (2 * k) above lt (omega arith)
@@ -144,7 +153,8 @@ stands_begin g l c k above lt within =
     ∙ ap (λ (m : ℕ). border_vertex g (slice_index (cluster_list l c) m) c) (let h : 0 + k ≡ k = omega arith in h)
 
 -- to the border vertex of the item behind it
-pub stands_finish : (g : Clustered) (l : Layout) (c k : ℕ) → 0 < c → c < clusters g → k < length (cluster_list l c) → slice_index (borders g l).at (finish_dart g l c k) ≡ border_vertex g (slice_index (cluster_list l c) (place_after (length (cluster_list l c)) k)) c
+pub stands_finish : (g : Clustered) (l : Layout) (c k : ℕ) → 0 < c → c < clusters g → k < length (cluster_list l c) →
+    slice_index (borders g l).at (finish_dart g l c k) ≡ border_vertex g (slice_index (cluster_list l c) (place_after (length (cluster_list l c)) k)) c
 stands_finish g l c k above lt within =
     ap (slice_index (borders g l).at) (let h : finish_dart g l c k ≡ 2 * first_border_edge g l c + (2 * k + 1) = omega arith in h)
     ∙ border_stands g l c (2 * k + 1) above lt (omega arith)
@@ -157,11 +167,14 @@ pub data DartOf (g : Clustered) (l : Layout) (x : ℕ) : Type 0 where
   reaches_target : (e : ℕ) → e < edges g → x ≡ 2 * (first_segment g e + crossed g e) + 1 → DartOf g l x
   looks_to_source : (e i : ℕ) → e < edges g → i < crossed g e → x ≡ toward_source g e i → DartOf g l x
   looks_to_target : (e i : ℕ) → e < edges g → i < crossed g e → x ≡ toward_target g e i → DartOf g l x
-  begins_border : (c k : ℕ) → 0 < c → c < clusters g → k < length (cluster_list l c) → x ≡ begin_dart g l c k → DartOf g l x
-  finishes_border : (c k : ℕ) → 0 < c → c < clusters g → k < length (cluster_list l c) → x ≡ finish_dart g l c k → DartOf g l x
+  begins_border : (c k : ℕ) → 0 < c → c < clusters g → k < length (cluster_list l c) → x ≡ begin_dart g l c k →
+      DartOf g l x
+  finishes_border : (c k : ℕ) → 0 < c → c < clusters g → k < length (cluster_list l c) → x ≡ finish_dart g l c k →
+      DartOf g l x
 
 -- a dart of edge e, by its place among the darts of the edge
-segment_kind : (g : Clustered) (l : Layout) (x e j : ℕ) → e < edges g → j < segment_size g e → x ≡ 2 * first_segment g e + j → DartOf g l x
+segment_kind : (g : Clustered) (l : Layout) (x e j : ℕ) → e < edges g → j < segment_size g e →
+    x ≡ 2 * first_segment g e + j → DartOf g l x
 segment_kind g l x e j lt within is =
     ⊎_elim
     (λ even. ⊎_elim
@@ -175,7 +188,8 @@ segment_kind g l x e j lt within is =
     (cases_eq (j % 2) 0)
 
 -- a dart of the border of cluster k + 1, by its place among the darts of that border
-border_kind : (g : Clustered) (l : Layout) (x k j : ℕ) → k < length g.parents → j < border_size l k → x ≡ 2 * (segments g + before (border_length l) k) + j → DartOf g l x
+border_kind : (g : Clustered) (l : Layout) (x k j : ℕ) → k < length g.parents → j < border_size l k →
+    x ≡ 2 * (segments g + before (border_length l) k) + j → DartOf g l x
 border_kind g l x k j lt within is =
     let start : first_border_edge g l (k + 1) ≡ segments g + before (border_length l) k = ap (λ (m : ℕ). segments g + before (border_length l) m) (let h : k + 1 - 1 ≡ k = omega arith in h) in
     ⊎_elim

@@ -50,7 +50,8 @@ before_apart f i j h k within_i within_h e =
     (cases_order i h)
 
 -- one piece more
-flat_map_last : {A : Type 0} (F : ℕ → List A) (a n : ℕ) → flat_map F (range_with_len a (suc n)) ≡ flat_map F (range_with_len a n) ++ F (a + n)
+flat_map_last : {A : Type 0} (F : ℕ → List A) (a n : ℕ) →
+    flat_map F (range_with_len a (suc n)) ≡ flat_map F (range_with_len a n) ++ F (a + n)
 flat_map_last F a zero = append-nil (F a) ∙ ap F (let e : a ≡ a + 0 = omega arith in e)
 flat_map_last {A = A} F a (suc n) =
     ap (λ (xs : List A). F a ++ xs) (flat_map_last F (a + 1) n)
@@ -58,14 +59,17 @@ flat_map_last {A = A} F a (suc n) =
     ∙ ap (λ (m : ℕ). (F a ++ flat_map F (range_with_len (a + 1) n)) ++ F m) (let e : a + 1 + n ≡ a + suc n = omega arith in e)
 
 -- the pieces together are as long as the sum of their lengths
-pub pieces_length : {A : Type 0} (F : ℕ → List A) (f : ℕ → ℕ) (a n : ℕ) → ((k : ℕ) → k < n → length (F (a + k)) ≡ f k) → length (flat_map F (range_with_len a n)) ≡ before f n
+pub pieces_length : {A : Type 0} (F : ℕ → List A) (f : ℕ → ℕ) (a n : ℕ) → ((k : ℕ) → k < n → length (F (a + k)) ≡ f k) →
+    length (flat_map F (range_with_len a n)) ≡ before f n
 pieces_length F f a zero same = refl
 pieces_length F f a (suc n) same =
     ap length (flat_map_last F a n) ∙ length-append (flat_map F (range_with_len a n)) (F (a + n))
     ∙ ap₂ (λ (x y : ℕ). x + y) (pieces_length F f a n (λ k lt. same k (omega arith))) (same n (lt-suc_self n))
 
 -- item j of piece i stands behind the earlier pieces
-pub piece_at : {A : Type 0} (F : ℕ → List A) (f : ℕ → ℕ) (a n i j : ℕ) (d : A) → ((k : ℕ) → k < n → length (F (a + k)) ≡ f k) → i < n → j < f i → get_or (flat_map F (range_with_len a n)) (before f i + j) d ≡ get_or (F (a + i)) j d
+pub piece_at : {A : Type 0} (F : ℕ → List A) (f : ℕ → ℕ) (a n i j : ℕ) (d : A) →
+    ((k : ℕ) → k < n → length (F (a + k)) ≡ f k) → i < n → j < f i →
+    get_or (flat_map F (range_with_len a n)) (before f i + j) d ≡ get_or (F (a + i)) j d
 piece_at F f a zero i j d same lt within = absurd (omega arith)
 piece_at {A = A} F f a (suc n) i j d same lt within =
     let so_long : length (flat_map F (range_with_len a n)) ≡ before f n = pieces_length F f a n (λ k l. same k (omega arith)) in

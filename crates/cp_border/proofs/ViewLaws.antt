@@ -17,11 +17,13 @@ use Rattle.cp_border.proofs.RotationLaw.{length-borders_at-graph}
 use Rattle.cp_border.proofs.TurnLaws.{next_told, viewed_vertex}
 
 -- a node has as many darts as in the layout
-pub node_degree : (g : Clustered) (l : Layout) → IsArranged g l → (v : ℕ) → v < nodes g → length (node_list l v) ≡ length (list_of (borders g l) v)
+pub node_degree : (g : Clustered) (l : Layout) → IsArranged g l → (v : ℕ) → v < nodes g →
+    length (node_list l v) ≡ length (list_of (borders g l) v)
 node_degree g l ar v lt = sym (length-map (node_list l v) (end_dart g)) ∙ sym (ap (λ (xs : List ℕ). length xs) (list_of_node g l ar v lt))
 
 -- and a border vertex four
-pub border_degree : (g : Clustered) (l : Layout) → IsArranged g l → (v : ℕ) → nodes g ≤ v → v < first_border g (edges g) → 4 ≡ length (list_of (borders g l) v)
+pub border_degree : (g : Clustered) (l : Layout) → IsArranged g l → (v : ℕ) → nodes g ≤ v →
+    v < first_border g (edges g) → 4 ≡ length (list_of (borders g l) v)
 border_degree g l ar v low lt =
     let p : Place (crossed g) (edges g) (v - nodes g) = located (crossed g) (edges g) (v - nodes g) (omega arith) in
     let vertex : first_border g p.piece + p.place ≡ v = omega (arith, p.is) in
@@ -30,7 +32,9 @@ border_degree g l ar v low lt =
     subst (λ (u : ℕ). 4 ≡ length (list_of (borders g l) u)) vertex (four ∙ sym (ap (λ (xs : List ℕ). length xs) (list_of_border g l ar p.piece p.place p.is_piece p.is_place)))
 
 -- the next dart of an item is the item behind it
-pub item_after : (r : System) → IsRotation r → (table : List ℕ) (v k dart : ℕ) → IsTable (darts r) table (next r) → v < r.vertices → k + 1 < length (list_of r v) → dart ≡ slice_index (list_of r v) k → slice_index table dart ≡ slice_index (list_of r v) (k + 1)
+pub item_after : (r : System) → IsRotation r → (table : List ℕ) (v k dart : ℕ) → IsTable (darts r) table (next r) →
+    v < r.vertices → k + 1 < length (list_of r v) → dart ≡ slice_index (list_of r v) k →
+    slice_index table dart ≡ slice_index (list_of r v) (k + 1)
 item_after r is table v k dart told ltv ltk at =
     ap (slice_index table) at ∙ told.told (slice_index (list_of r v) k) (item_stands r is v k ltv (omega arith)).0
     ∙ next_of_item r is v k ltv (omega arith)

@@ -15,41 +15,18 @@ use Rattle.cp_check.specs.declared.verdict.Reject.{Reject}
 use Rattle.cp_check.specs.declared.verdict.Reject.TheVariants.{NoLayout, NodeLine, ClusterLine, Genus}
 
 -- counts that are not too many fit 64 bits
-pub small_sums : (r : System) (v n f c : ℕ) → v ≡ r.vertices → n ≡ darts r → v < 2 ^ 60 → n < 2 ^ 60 → FaceCount r f → ComponentCount r c → FitsIn w64 (v + f) × FitsIn w64 (2 * c) × FitsIn w64 (n / 2 + 2 * c)
+pub small_sums : (r : System) (v n f c : ℕ) → v ≡ r.vertices → n ≡ darts r → v < 2 ^ 60 → n < 2 ^ 60 → FaceCount r f →
+    ComponentCount r c → FitsIn w64 (v + f) × FitsIn w64 (2 * c) × FitsIn w64 (n / 2 + 2 * c)
 small_sums r v n f c ev en bv bn faces components =
     let few = FaceCount-le r f faces in
     let fewer = ComponentCount-le r c components in
     (omega (arith, ev, en, bv, bn, few), omega (arith, ev, bv, fewer), omega (arith, ev, bv, bn, fewer))
 
--- the border graph of each arranged layout has the same number of darts
-pub dart_total : (g : Clustered) (l : Layout) (s : Sizes) → IsClustered g → IsArranged g l → Fits s g → darts (borders g l) ≡ dart_number s
-dart_total g l s is arranged fits = omega (arith, length-borders_at-graph g l is arranged, fits.edges_fit, fits.borders_fit)
-
 -- what is told of the border graph of an arranged layout is told of the layout
-pub layout_told : (g : Clustered) (l : Layout) (r : System) → r ≡ borders g l → IsArranged g l → (o : Option Reject) → MatchOption o (HasGenusZero r) (IsGenusReason r) → MatchOption o (IsGood g l) (IsLayoutReason g l)
+pub layout_told : (g : Clustered) (l : Layout) (r : System) → r ≡ borders g l → IsArranged g l → (o : Option Reject) →
+    MatchOption o (HasGenusZero r) (IsGenusReason r) → MatchOption o (IsGood g l) (IsLayoutReason g l)
 layout_told g l r is arranged None zero = record { arranged = arranged; flat = subst HasGenusZero is zero }
 layout_told g l r is arranged (Some NoLayout) why = why
 layout_told g l r is arranged (Some (NodeLine i)) why = absurd why
 layout_told g l r is arranged (Some (ClusterLine k)) why = absurd why
 layout_told g l r is arranged (Some (Genus v e f c)) why = record { arranged = arranged; counts = subst (λ s. HasWrongGenus s v e f c) is why }
-
--- tables with places for the numbers have places for a graph that has them, and the other way round
-pub places_for : (s : Sizes) (g : Clustered) (t : Tables) → Fits s g → HasPlaces s.nodes s.edges s.borders t → HasPlacesFor g t
-places_for s g t fits places = record {
-  few_vertices = omega (arith, places.few_vertices, fits.nodes_fit, fits.borders_fit);
-  few_edges = omega (arith, places.few_edges, fits.edges_fit, fits.borders_fit);
-  first_places = omega (arith, places.first_places, fits.edges_fit);
-  at_places = omega (arith, places.at_places, fits.edges_fit, fits.borders_fit);
-  following_places = omega (arith, places.following_places, fits.edges_fit, fits.borders_fit);
-  begins_places = omega (arith, places.begins_places, fits.borders_fit);
-}
-
-pub places_of : (s : Sizes) (g : Clustered) (t : Tables) → Fits s g → HasPlacesFor g t → HasPlaces s.nodes s.edges s.borders t
-places_of s g t fits places = record {
-  few_vertices = omega (arith, places.few_vertices, fits.nodes_fit, fits.borders_fit);
-  few_edges = omega (arith, places.few_edges, fits.edges_fit, fits.borders_fit);
-  first_places = omega (arith, places.first_places, fits.edges_fit);
-  at_places = omega (arith, places.at_places, fits.edges_fit, fits.borders_fit);
-  following_places = omega (arith, places.following_places, fits.edges_fit, fits.borders_fit);
-  begins_places = omega (arith, places.begins_places, fits.borders_fit);
-}
