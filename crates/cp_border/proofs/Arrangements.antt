@@ -29,6 +29,7 @@ pub record IsFour (n : ℕ) (p : ℕ → Bool) (a b c d : ℕ) : Type 0 where
   pub third_fourth : c ≢ d
   pub no_other : (x : ℕ) → x < n → p x ≡ true → (x ≡ a) ⊎ ((x ≡ b) ⊎ ((x ≡ c) ⊎ (x ≡ d)))
 
+-- four numbers that alone pass, and are distinct, are exactly what passes
 pub Exactly-four : (n : ℕ) (p : ℕ → Bool) (a b c d : ℕ) → IsFour n p a b c d → Exactly n p (a ∷ b ∷ c ∷ d ∷ [])
 Exactly-four n p a b c d four = record {
   each_passes = λ i lt. passing i 0 lt;

@@ -29,6 +29,7 @@ list_at-four g l is ar c k above lt within =
     ap (λ (b : ℕ). four_darts g l (slice_index (cluster_list l c) k) (position_or_len (λ (x : ℕ). x == c) (crossings g (slice_index (cluster_list l c) k))) b (position_or_len (λ (x : ℕ). x == slice_index (cluster_list l c) k) (cluster_list l b))) cross.is
     ∙ ap (four_darts g l (slice_index (cluster_list l c) k) (position_or_len (λ (x : ℕ). x == c) (crossings g (slice_index (cluster_list l c) k))) c) item.place_is
 
+-- lists of four equal items are equal
 same_four : (a b c d p q r s : ℕ) → a ≡ p → b ≡ q → c ≡ r → d ≡ s → (a ∷ b ∷ c ∷ d ∷ []) ≡ (p ∷ q ∷ r ∷ s ∷ [])
 same_four a b c d p q r s e f g h = cc
 

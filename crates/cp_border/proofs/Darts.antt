@@ -21,6 +21,7 @@ toward_target g e i = 2 * (first_segment g e + i + 1)
 abbrev pub begin_dart : Clustered → Layout → ℕ → ℕ → ℕ
 begin_dart g l c k = 2 * (first_border_edge g l c + k)
 
+-- the second dart of a border edge, at the item behind
 abbrev pub finish_dart : Clustered → Layout → ℕ → ℕ → ℕ
 finish_dart g l c k = 2 * (first_border_edge g l c + k) + 1
 
@@ -32,15 +33,19 @@ segment_size g e = 2 * (crossed g e + 1)
 abbrev pub border_length : Layout → ℕ → ℕ
 border_length l k = length (cluster_list l (k + 1))
 
+-- how many darts the border of a cluster has
 abbrev pub border_size : Layout → ℕ → ℕ
 border_size l k = 2 * length (cluster_list l (k + 1))
 
+-- the vertices of the darts of all segments
 abbrev pub segment_at : Clustered → List ℕ
 segment_at g = flat_map (segment_ends g) (range_with_len 0 (edges g))
 
+-- the vertices of the darts of all borders
 abbrev pub border_at : Clustered → Layout → List ℕ
 border_at g l = flat_map (border_ends g l) (range_with_len 1 (length g.parents))
 
+-- how many darts the segments of an edge have
 length-segment_ends : (g : Clustered) (e : ℕ) → length (segment_ends g e) ≡ segment_size g e
 length-segment_ends g e =
     let inner : length (pairs (λ b. b) (λ b. b) (first_border g e) (crossed g e)) ≡ 2 * crossed g e = length-pairs (λ b. b) (λ b. b) (first_border g e) (crossed g e) in
@@ -48,32 +53,41 @@ length-segment_ends g e =
     length-append (pairs (λ b. b) (λ b. b) (first_border g e) (crossed g e)) (target g e ∷ []) in
     ap suc whole ∙ (let h : suc (length (pairs (λ b. b) (λ b. b) (first_border g e) (crossed g e)) + 1) ≡ 2 * (crossed g e + 1) = omega arith in h)
 
+-- how many darts the border of a cluster has
 length-border_ends : (g : Clustered) (l : Layout) (c : ℕ) → length (border_ends g l c) ≡ 2 * length (cluster_list l c)
 length-border_ends g l c = length-pairs (λ i. border_vertex g (slice_index (cluster_list l c) i) c) (λ i. border_vertex g (slice_index (cluster_list l c) (place_after (length (cluster_list l c)) i)) c) 0 (length (cluster_list l c))
 
+-- the sum of doubled values is the doubled sum
 before_doubled : (q : ℕ → ℕ) (n : ℕ) → before (λ e. 2 * q e) n ≡ 2 * before q n
 before_doubled q zero = refl
 before_doubled q (suc n) = omega (arith, before_doubled q n)
 
+-- the sum of twice one more than each value
 before_pairs : (q : ℕ → ℕ) (n : ℕ) → before (λ e. 2 * (q e + 1)) n ≡ 2 * (n + before q n)
 before_pairs q zero = refl
 before_pairs q (suc n) = omega (arith, before_pairs q n)
 
+-- how many darts the segments of the edges before one have
 pub segment_sizes : (g : Clustered) (e : ℕ) → before (segment_size g) e ≡ 2 * first_segment g e
 segment_sizes g e = before_pairs (crossed g) e
 
+-- how many darts the borders before one have
 pub border_sizes : (l : Layout) (k : ℕ) → before (border_size l) k ≡ 2 * before (border_length l) k
 border_sizes l k = before_doubled (border_length l) k
 
+-- each edge adds the darts of its segments
 segment_piece : (g : Clustered) (k : ℕ) → length (segment_ends g (0 + k)) ≡ segment_size g k
 segment_piece g k = ap (λ (m : ℕ). length (segment_ends g m)) (let e : 0 + k ≡ k = omega arith in e) ∙ length-segment_ends g k
 
+-- each cluster adds the darts of its border
 border_piece : (g : Clustered) (l : Layout) (k : ℕ) → length (border_ends g l (1 + k)) ≡ border_size l k
 border_piece g l k = ap (λ (m : ℕ). length (border_ends g l m)) (let e : 1 + k ≡ k + 1 = omega arith in e) ∙ length-border_ends g l (k + 1)
 
+-- how many darts all segments have
 pub length-segment_at : (g : Clustered) → length (segment_at g) ≡ 2 * segments g
 length-segment_at g = pieces_length (segment_ends g) (segment_size g) 0 (edges g) (λ k lt. segment_piece g k) ∙ segment_sizes g (edges g)
 
+-- how many darts all borders have
 pub length-border_at : (g : Clustered) (l : Layout) →
     length (border_at g l) ≡ 2 * before (border_length l) (length g.parents)
 length-border_at g l = pieces_length (border_ends g l) (border_size l) 1 (length g.parents) (λ k lt. border_piece g l k) ∙ border_sizes l (length g.parents)
@@ -134,6 +148,7 @@ stands_toward_source g l e i lt within =
     ∙ get_or_append_left (pairs (λ b. b) (λ b. b) (first_border g e) (crossed g e)) (target g e ∷ []) 0 (2 * i) (omega arith)
     ∙ pairs_first (λ b. b) (λ b. b) (first_border g e) (crossed g e) i within
 
+-- where the dart toward the target of an edge stands at a crossing
 pub stands_toward_target : (g : Clustered) (l : Layout) (e i : ℕ) → e < edges g → i < crossed g e →
     slice_index (borders g l).at (toward_target g e i) ≡ first_border g e + i
 stands_toward_target g l e i lt within =

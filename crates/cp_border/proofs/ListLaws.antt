@@ -24,6 +24,7 @@ border_at-lt g l is ar c k above lt within =
     let cross = crossing_of g is (slice_index (cluster_list l c) k) c item.edge lt item.left in
     border_vertex-lt g (slice_index (cluster_list l c) k) (position_or_len (λ x. x == c) (crossings g (slice_index (cluster_list l c) k))) item.edge cross.within
 
+-- and the list at an item is that of its border vertex
 pub list_of_item : (g : Clustered) (l : Layout) → IsClustered g → IsArranged g l → (c k : ℕ) → 0 < c → c < clusters g →
     k < length (cluster_list l c) → list_at g l c k ≡ list_of (borders g l) (border_at g l c k)
 list_of_item g l is ar c k above lt within =
@@ -36,6 +37,7 @@ pub start_first : (g : Clustered) (l : Layout) (sum : ℕ) → sum ≡ before (c
     2 * (edges g + sum) ≡ 2 * first_border_edge g l 1
 start_first g l sum is = omega arith
 
+-- the border edges of the next cluster begin behind those of this one
 pub start_next : (g : Clustered) (l : Layout) (c start count : ℕ) → 0 < c → start ≡ 2 * first_border_edge g l c →
     count ≡ length (cluster_list l c) → start + 2 * count ≡ 2 * first_border_edge g l (c + 1)
 start_next g l c start count above is size =
@@ -43,6 +45,7 @@ start_next g l c start count above is size =
     let this : border_length l (c - 1) ≡ length (cluster_list l c) = ap (λ (m : ℕ). length (cluster_list l m)) (let h : c - 1 + 1 ≡ c = omega arith in h) in
     omega arith
 
+-- where the border edges of a cluster begin is a small number
 pub start-lt : (g : Clustered) (l : Layout) → IsClustered g → IsArranged g l → (c start : ℕ) → c ≤ clusters g →
     edges g < 2 ^ 60 → nodes g + before (crossed g) (edges g) < 2 ^ 59 → start ≡ 2 * first_border_edge g l c →
     start < 2 ^ 62

@@ -15,14 +15,17 @@ abbrev pub occurs : ℕ → List ℕ → ℕ
 occurs c [] = 0
 occurs c (x ∷ xs) = cond (x == c) 1 0 + occurs c xs
 
+-- a number occurs in two lists together as often as in both
 occurs-append : (c : ℕ) (xs ys : List ℕ) → occurs c (xs ++ ys) ≡ occurs c xs + occurs c ys
 occurs-append c [] ys = omega arith
 occurs-append c (x ∷ xs) ys = let rest : occurs c (xs ++ ys) ≡ occurs c xs + occurs c ys = occurs-append c xs ys in omega arith
 
+-- a number occurs in a list reversed onto another as often as in both
 occurs-reverse_onto : (c : ℕ) (xs ys : List ℕ) → occurs c (reverse_aux xs ys) ≡ occurs c xs + occurs c ys
 occurs-reverse_onto c [] ys = omega arith
 occurs-reverse_onto c (x ∷ xs) ys = let rest : occurs c (reverse_aux xs (x ∷ ys)) ≡ occurs c xs + occurs c (x ∷ ys) = occurs-reverse_onto c xs (x ∷ ys) in omega arith
 
+-- a number occurs in a reversed list as often as in the list
 occurs-reverse : (c : ℕ) (xs : List ℕ) → occurs c (reverse xs) ≡ occurs c xs
 occurs-reverse c xs = let h : occurs c (reverse_aux xs []) ≡ occurs c xs + occurs c [] = occurs-reverse_onto c xs [] in omega arith
 
@@ -52,6 +55,7 @@ occurs_exact n p xs c ex lt =
     (λ f. occurs_none c xs (λ i within e. false≢true (sym f ∙ ap p (sym e) ∙ (ex.each_passes i within).1)) ∙ ap (λ (b : Bool). cond b 1 0) (sym f))
     (cases_Bool (p c))
 
+-- a number occurs in a list at most as often as it has items
 occurs-le : (c : ℕ) (xs : List ℕ) → occurs c xs ≤ length xs
 occurs-le c [] = omega arith
 occurs-le c (x ∷ xs) =
@@ -71,6 +75,7 @@ pub record HasRisen (g : Clustered) (e outer inner : ℕ) (before counts : List 
   pub size : length counts ≡ length before
   pub risen : (c : ℕ) → slice_index counts c ≡ slice_index before c + (occurs c left + occurs c entered)
 
+-- nothing has risen at the start
 HasRisen-start : (g : Clustered) (e : ℕ) (before : List ℕ) → IsClustered g → e < edges g →
     HasRisen g e (home g (source g e)) (home g (target g e)) before before
 HasRisen-start g e before is lt = record {
@@ -112,6 +117,7 @@ HasRisen-left g is e outer inner before counts so lt room =
       risen = λ c. omega (arith, one_more counts outer c (omega (arith, so.size, so.between.outer_cluster)), so.risen c, occurs_more c outer so.left);
     }
 
+-- the count rises at a cluster that the edge enters
 pub HasRisen-entered : (g : Clustered) → IsClustered g → (e outer inner : ℕ) (before counts : List ℕ) →
     HasRisen g e outer inner before counts → outer < inner → clusters g ≤ length before →
     HasRisen g e outer (parent g inner) before (set counts inner (slice_index counts inner + 1))

@@ -37,6 +37,7 @@ pub plain_crossings : (g : Clustered) → IsClustered g → g.parents ≡ [] →
 plain_crossings g is none e =
     ap₂ (λ (xs ys : List ℕ). filter (λ c. not (contains g c (target g e))) xs ++ reverse (filter (λ c. not (contains g c (source g e))) ys)) (plain_around g is none (source g e)) (plain_around g is none (target g e))
 
+-- an edge of a graph with no cluster but the root crosses no border
 pub plain_crossed : (g : Clustered) → IsClustered g → g.parents ≡ [] → (e : ℕ) → crossed g e ≡ 0
 plain_crossed g is none e = ap length (plain_crossings g is none e)
 
@@ -94,6 +95,7 @@ length-dart_nodes (e ∷ es) = let rest : length (dart_nodes es) ≡ 2 * length 
 abbrev stands : List (ℕ × ℕ) → ℕ → ℕ
 stands ends d = cond (d % 2 == 0) (slice_index_or ends (d / 2) (0, 0)).0 (slice_index_or ends (d / 2) (0, 0)).1
 
+-- the node of a dart, in the list of the nodes of all darts
 dart_nodes_at : (ends : List (ℕ × ℕ)) (d : ℕ) → slice_index (dart_nodes ends) d ≡ stands ends d
 dart_nodes_at [] d = ⊎_elim (λ even. rw even refl) (λ odd. rw odd refl) (cases_Bool (d % 2 == 0))
 dart_nodes_at (e ∷ es) zero = refl
@@ -114,6 +116,7 @@ exact_there g i xs ex =
     subst (λ n. Exactly n (λ d. slice_index (dart_nodes g.ends) d == i) xs) (sym (length-dart_nodes g.ends))
     (Exactly-agree (2 * edges g) (λ d. node_of g d == i) (λ d. slice_index (dart_nodes g.ends) d == i) xs (λ x lt. ap (λ (y : ℕ). y == i) (sym (slice_index-dart_nodes g x))) ex)
 
+-- an arrangement of the darts at a node is exactly its darts
 exact_back : (g : Clustered) (i : ℕ) (xs : List ℕ) → Arranges (dart_nodes g.ends) i xs →
     Exactly (2 * edges g) (λ d. node_of g d == i) xs
 exact_back g i xs ex =
@@ -128,6 +131,7 @@ IsRightList-from_node g l i right = record {
   expected = right.expected;
 }
 
+-- a line that is right by lists is right
 pub IsRightNode-from_list : (g : Clustered) (l : Layout) (i : ℕ) → IsRightList (nodes g) (dart_nodes g.ends) l.nodes i →
     IsRightNode g l i
 IsRightNode-from_list g l i right = record {
@@ -135,6 +139,7 @@ IsRightNode-from_list g l i right = record {
   expected = right.expected;
 }
 
+-- a line is right exactly where it is right by lists
 pub IsRightNode-iff_list : (g : Clustered) (l : Layout) (i : ℕ) →
     IsRightNode g l i ↔ IsRightList (nodes g) (dart_nodes g.ends) l.nodes i
 IsRightNode-iff_list g l i = (IsRightList-from_node g l i, IsRightNode-from_list g l i)

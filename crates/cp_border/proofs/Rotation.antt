@@ -30,6 +30,7 @@ pub record IsCrossing (g : Clustered) (e i c : ℕ) : Type 0 where
 above_root : (g : Clustered) (e c : ℕ) → leaves g c e ≡ true → 0 < c
 above_root g e c left = ⊎_elim (λ z. absurd (false≢true (ap (λ (b : ℕ). leaves g b e) (sym z) ∙ left))) (λ nz. omega arith) (cases_eq c 0)
 
+-- what is known of the crossing at a place along an edge
 pub crossing_at : (g : Clustered) → IsClustered g → (e i : ℕ) → e < edges g → i < crossed g e →
     IsCrossing g e i (slice_index (crossings g e) i)
 crossing_at g is e i lt within =
@@ -44,6 +45,7 @@ crossing_at g is e i lt within =
       place_is = place_is (crossings g e) i (slice_index (crossings g e) i) ex.each_once within refl;
     }
 
+-- what is known of the crossing of an edge and a border that it leaves
 pub crossing_of : (g : Clustered) → IsClustered g → (e c : ℕ) → e < edges g → c < clusters g → leaves g c e ≡ true →
     IsCrossing g e (position_or_len (λ x. x == c) (crossings g e)) c
 crossing_of g is e c lt cluster left =
@@ -59,10 +61,12 @@ pub record IsItem (g : Clustered) (l : Layout) (c k e : ℕ) : Type 0 where
   pub is : slice_index (cluster_list l c) k ≡ e
   pub place_is : position_or_len (λ x. x == e) (cluster_list l c) ≡ k
 
+-- the list of a cluster is exactly the edges that leave it
 pub cluster_exact : (g : Clustered) (l : Layout) → IsArranged g l → (c : ℕ) → 0 < c → c < clusters g →
     Exactly (edges g) (leaves g c) (cluster_list l c)
 cluster_exact g l ar c above lt = ((ar.clusters_right c).present above lt).1
 
+-- what is known of the item at a place of the list of a cluster
 pub item_at : (g : Clustered) (l : Layout) → IsArranged g l → (c k : ℕ) → 0 < c → c < clusters g →
     k < length (cluster_list l c) → IsItem g l c k (slice_index (cluster_list l c) k)
 item_at g l ar c k above lt within =
@@ -70,6 +74,7 @@ item_at g l ar c k above lt within =
     let passes = ex.each_passes k within in
     record { edge = passes.0; left = passes.1; within = within; is = refl; place_is = place_is (cluster_list l c) k (slice_index (cluster_list l c) k) ex.each_once within refl }
 
+-- what is known of the item of an edge in the list of a cluster that it leaves
 pub item_of : (g : Clustered) (l : Layout) → IsArranged g l → (c e : ℕ) → 0 < c → c < clusters g → e < edges g →
     leaves g c e ≡ true → IsItem g l c (position_or_len (λ x. x == e) (cluster_list l c)) e
 item_of g l ar c e above lt edge left =
@@ -88,6 +93,7 @@ length-node_lists g l ar =
 abbrev pub edge_lists : Clustered → Layout → ℕ → List (List ℕ)
 edge_lists g l e = map (border_list g l e) (range_with_len 0 (crossed g e))
 
+-- each edge adds the lists of its border vertices
 edge_piece : (g : Clustered) (l : Layout) (k : ℕ) → length (edge_lists g l (0 + k)) ≡ crossed g k
 edge_piece g l k = length-map-range_with_len (border_list g l (0 + k)) 0 (crossed g (0 + k)) ∙ ap (crossed g) (let h : 0 + k ≡ k = omega arith in h)
 
@@ -121,13 +127,16 @@ list_of_border g l ar e i lt within =
 pub end_source : (g : Clustered) (d : ℕ) → d % 2 ≡ 0 → end_dart g d ≡ 2 * first_segment g (d / 2)
 end_source g d even = cond-true (d % 2 == 0) (2 * first_segment g (d / 2)) (2 * (first_segment g (d / 2) + crossed g (d / 2)) + 1) (eq-eqb (d % 2) 0 even)
 
+-- the dart of a segment at the target of an edge
 pub end_target : (g : Clustered) (d : ℕ) → d % 2 ≢ 0 →
     end_dart g d ≡ 2 * (first_segment g (d / 2) + crossed g (d / 2)) + 1
 end_target g d odd = cond-false (d % 2 == 0) (2 * first_segment g (d / 2)) (2 * (first_segment g (d / 2) + crossed g (d / 2)) + 1) (ne_eqb (d % 2) 0 odd)
 
+-- an even dart stands at the source of its edge
 node_at_source : (g : Clustered) (d : ℕ) → d % 2 ≡ 0 → node_of g d ≡ source g (d / 2)
 node_at_source g d even = cond-true (d % 2 == 0) (source g (d / 2)) (target g (d / 2)) (eq-eqb (d % 2) 0 even)
 
+-- an odd dart stands at the target of its edge
 node_at_target : (g : Clustered) (d : ℕ) → d % 2 ≢ 0 → node_of g d ≡ target g (d / 2)
 node_at_target g d odd = cond-false (d % 2 == 0) (source g (d / 2)) (target g (d / 2)) (ne_eqb (d % 2) 0 odd)
 
@@ -153,6 +162,7 @@ segment_place : (g : Clustered) (e j h k : ℕ) → j < segment_size g e → k <
     2 * first_segment g e + j ≡ 2 * first_segment g h + k → (e ≡ h) × (j ≡ k)
 segment_place g e j h k within_e within_h same = before_apart (segment_size g) e j h k within_e within_h (omega (arith, segment_sizes g e, segment_sizes g h))
 
+-- darts whose segments end alike are one dart
 pub end_dart-apart : (g : Clustered) (d b : ℕ) → end_dart g d ≡ end_dart g b → d ≡ b
 end_dart-apart g d b same =
     ⊎_elim

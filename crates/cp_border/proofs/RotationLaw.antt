@@ -38,6 +38,7 @@ pub data StandsAt (g : Clustered) (l : Layout) (x v : ℕ) : Type 0 where
   at_border : (e i : ℕ) → e < edges g → i < crossed g e → first_border g e + i ≡ v → IsAtBorder g l e i x →
       StandsAt g l x v
 
+-- each dart of the border graph stands where its kind says
 pub stands_at : (g : Clustered) (l : Layout) → IsClustered g → IsArranged g l → (x : ℕ) → DartOf g l x →
     StandsAt g l x (slice_index (borders g l).at x)
 stands_at g l is ar x (leaves_source e lt same) =
@@ -90,6 +91,7 @@ begin_dart-lt g l c k above lt within =
     let inside : before (border_length l) (c - 1) + k < before (border_length l) (length g.parents) = before_within (border_length l) (c - 1) k (length g.parents) (omega arith) (omega arith) in
     (omega arith, omega arith)
 
+-- where no other dart stands at a border vertex, its four darts are exactly those that stand there
 border_four : (g : Clustered) (l : Layout) → IsClustered g → IsArranged g l → (e i c k : ℕ) → e < edges g →
     IsCrossing g e i c → IsItem g l c k e →
     ((x : ℕ) → x < length (borders g l).at → slice_index (borders g l).at x ≡ first_border g e + i → (x ≡ begin_dart g l c k) ⊎ ((x ≡ toward_source g e i) ⊎ ((x ≡ finish_dart g l c (place_before (length (cluster_list l c)) k)) ⊎ (x ≡ toward_target g e i)))) →

@@ -11,6 +11,7 @@ use Rattle.cp_border.proofs.Numbering.{before_next}
 use Rattle.cp_border.proofs.RotationLaw.{begin_dart-lt}
 use Rattle.cp_border.proofs.Darts.{border_length, length-borders_at, begin_dart, finish_dart, stands_begin, stands_finish, toward_source, toward_target, border_at, length-segment_at, first_segment-le, stands_source, stands_target, stands_toward_source, stands_toward_target}
 
+-- no place is written at the start
 pub IsTable-none : (xs : List ℕ) (f : ℕ → ℕ) → IsTable 0 xs f
 IsTable-none xs f = record { size = omega arith; told = λ i lt. absurd (omega arith) }
 
@@ -34,6 +35,7 @@ IsTable-same n m xs f e table = subst (λ k. IsTable k xs f) e table
 pub first-start : (first : List ℕ) (q : ℕ → ℕ) → 0 < length first → IsTable (0 + 1) (set first 0 0) (before q)
 first-start first q lt = IsTable-more 0 first (before q) 0 (IsTable-none first (before q)) lt refl
 
+-- the next sum
 pub first-more : (first : List ℕ) (q : ℕ → ℕ) (e : ℕ) → IsTable (e + 1) first (before q) → e + 1 < length first →
     IsTable (e + 1 + 1) (set first (e + 1) (slice_index first e + q e)) (before q)
 first-more first q e table lt =
@@ -49,6 +51,7 @@ first-le first q e n table lt = omega (arith, table.told e (omega arith), before
 no_layout : Layout
 no_layout = record { nodes = []; clusters = [] }
 
+-- the darts of the segments stand where the list of their vertices says, also with no layout
 alone : (g : Clustered) (d v : ℕ) → d < 2 * segments g → slice_index (borders g no_layout).at d ≡ v →
     v ≡ slice_index (segment_vertices g) d
 alone g d v lt stands = sym stands ∙ get_or_append_left (segment_vertices g) (border_at g no_layout) 0 d (omega (arith, length-segment_at g))
@@ -135,6 +138,7 @@ pub record HasBorders (g : Clustered) (l : Layout) (c start : ℕ) (at : List �
   pub begins : start ≡ 2 * first_border_edge g l c
   pub table : IsTable start at (vertex_of (borders g l))
 
+-- before the first border
 pub HasBorders-start : (g : Clustered) (l : Layout) (first at : List ℕ) →
     IsTable (edges g + 1) first (before (crossed g)) → IsTable (2 * segments g) at (slice_index (segment_vertices g)) →
     HasBorders g l 1 (2 * (edges g + slice_index first (edges g))) at
@@ -145,11 +149,13 @@ HasBorders-start g l first at sums table =
       table = IsTable-same (2 * segments g) (2 * (edges g + slice_index first (edges g))) at (vertex_of (borders g l)) (omega arith) (segments-whole g l at table);
     }
 
+-- one border more
 pub HasBorders-more : (g : Clustered) (l : Layout) (c start : ℕ) (old new : List ℕ) → 0 < c →
     HasBorders g l c start old → IsTable (start + 2 * length (cluster_list l c)) new (vertex_of (borders g l)) →
     HasBorders g l (c + 1) (start + 2 * length (cluster_list l c)) new
 HasBorders-more g l c start old new above so table = record { begins = omega (arith, so.begins, next_border_edge g l c above); table = table }
 
+-- after the last border all darts are written
 pub HasBorders-end : (g : Clustered) (l : Layout) (c start : ℕ) (at : List ℕ) → c ≡ clusters g →
     HasBorders g l c start at → IsTable (length (borders g l).at) at (vertex_of (borders g l))
 HasBorders-end g l c start at whole so =

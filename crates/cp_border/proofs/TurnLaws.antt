@@ -46,6 +46,7 @@ pub HasTurn-written : (r : System) → IsRotation r → (v : ℕ) (table after i
     items ≡ list_of r v → IsWritten items table after → HasTurn r after v
 HasTurn-written r is v table after items lt same w = turned r is v table after lt (subst (λ xs. IsWritten xs table after) same w)
 
+-- and what was written at another vertex stays
 pub HasTurn-kept : (r : System) → IsRotation r → (v u : ℕ) (table after items : List ℕ) → v < r.vertices →
     items ≡ list_of r v → IsWritten items table after → HasTurn r table u → HasTurn r after u
 HasTurn-kept r is v u table after items lt same w = turn_kept r is v u table after lt (subst (λ xs. IsWritten xs table after) same w)
@@ -67,6 +68,7 @@ list_within r is v items lt same =
     let P : List ℕ → Type 0 = λ xs. (i : ℕ) → i < length xs → slice_index xs i < darts r in
     subst P (sym same) (λ i lti. (item_stands r is v i lt lti).0)
 
+-- and each of them stands there once
 pub list_once : (r : System) → IsRotation r → (v : ℕ) (items : List ℕ) → v < r.vertices → items ≡ list_of r v →
     EachOnce items
 list_once r is v items lt same = subst EachOnce (sym same) (is.arranged v lt).each_once
@@ -147,6 +149,7 @@ viewed_at g l is ar table begins so e i lt within =
     ap (λ (m : ℕ). border_vertex g m (slice_index (crossings g e) i)) item.is ∙ ap (λ (m : ℕ). first_border g e + m) cross.place_is in
     subst (IsViewed g l table begins) vertex (so.borders_viewed.earlier (slice_index (crossings g e) i) (place_on_border g l e i) cross.above cross.cluster item.within)
 
+-- so each border vertex is written
 pub viewed_vertex : (g : Clustered) (l : Layout) → IsClustered g → IsArranged g l → (table begins : List ℕ) →
     IsViewedUpto g l (clusters g) 0 table begins → (v : ℕ) → nodes g ≤ v → v < first_border g (edges g) →
     IsViewed g l table begins v
