@@ -6,6 +6,7 @@ mod edges;
 mod entries;
 mod fault;
 mod graph;
+mod hashes;
 mod ids;
 mod law;
 mod layout;
