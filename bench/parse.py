@@ -64,7 +64,7 @@ def clusters(size):
 MASK = 2**64 - 1
 
 # How many ids are chosen, and the most that the run of nodes with chosen ids may take, in runs with other ids.
-CHOSEN = 20000
+CHOSEN = 10000
 MOST_TIMES = 3
 
 
@@ -99,13 +99,13 @@ def sip(number):
 
 def chosen_ids():
     """Ids that a table hashed with both keys 0 puts into one place: the halves of their hashes, added without
-    carry, have their low 15 bits in a short range."""
+    carry, have their low 14 bits in a short range."""
     ids = []
     number = 0
     while len(ids) < CHOSEN:
         number += 1
         value = sip(number)
-        if (value ^ value >> 32) & 0x7FFF < 128:
+        if (value ^ value >> 32) & 0x3FFF < 128:
             ids.append(number)
     return ids
 

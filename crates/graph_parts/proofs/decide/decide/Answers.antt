@@ -16,14 +16,16 @@ returns-in-Ok c =
     let none = rw c.in-None.is at c.in_ok-numbers-in-Ok.ensures in
     subst (λ t. Told c.args.asked c.args.bytes.now ends.Unfit t) (sym c.in_ok-from_slice-in-None.ensures.items) (unfit _ c.in-Ok.ensures.graph none)
 
-pub returns-in_ok-line-in-Err-Grammar : goal.returns-in_ok-line-in-Err-Grammar
-returns-in_ok-line-in-Err-Grammar c =
+pub returns-in-Err-Grammar : goal.returns-in-Err-Grammar
+returns-in-Err-Grammar c =
     let fault = rw c.in-Err-Grammar.field-0-is at c.in-Err-Grammar.ensures.fault in
-    subst (λ t. Told c.args.asked c.args.bytes.now (ends.Refused c.in-Err-Grammar.kind c.in-Err-Grammar.at) t) (sym c.in_ok-line-in-Err-Grammar.ensures)
-    (refused c.in-Err-Grammar.kind c.in-Err-Grammar.at (inl fault))
+    let line = rw c.in-Err-Grammar.field-0-is at c.in_ok-line-in-Err-Grammar.ensures in
+    rw c.in-Err-Grammar.field-0-is (subst (λ t. Told c.args.asked c.args.bytes.now (ends.Refused c.in-Err-Grammar.kind c.in-Err-Grammar.at) t) (sym line)
+    (refused c.in-Err-Grammar.kind c.in-Err-Grammar.at (inl fault)))
 
-pub returns-in_ok-line-in-Err-Graph : goal.returns-in_ok-line-in-Err-Graph
-returns-in_ok-line-in-Err-Graph c =
+pub returns-in-Err-Graph : goal.returns-in-Err-Graph
+returns-in-Err-Graph c =
     let fault = rw c.in-Err-Graph.field-0-is at c.in-Err-Graph.ensures.fault in
-    subst (λ t. Told c.args.asked c.args.bytes.now (ends.Refused c.in-Err-Graph.kind c.in-Err-Graph.at) t) (sym c.in_ok-line-in-Err-Graph.ensures)
-    (refused c.in-Err-Graph.kind c.in-Err-Graph.at (inr fault))
+    let line = rw c.in-Err-Graph.field-0-is at c.in_ok-line-in-Err-Graph.ensures in
+    rw c.in-Err-Graph.field-0-is (subst (λ t. Told c.args.asked c.args.bytes.now (ends.Refused c.in-Err-Graph.kind c.in-Err-Graph.at) t) (sym line)
+    (refused c.in-Err-Graph.kind c.in-Err-Graph.at (inr fault)))
