@@ -1,8 +1,8 @@
 // What the definitions say of every text.
-ghost use Rattle.std.specs.Prelude.{◌≡◌, ◌≤◌, ℕ, List, drop};
+ghost use Rattle.std.specs.Prelude.{◌≡◌, ◌≤◌, ◌↔◌, ◌-◌, ℕ, List, drop, take};
 ghost use Rattle.cp_gml.specs.Lists.{deepest, IsListOf, IsFaultOf};
-ghost use Rattle.cp_gml.specs.Rows.{IsRow};
-ghost use Rattle.cp_gml.specs.Tokens.{start};
+ghost use Rattle.cp_gml.specs.Rows.{IsGap, IsRow, IsRowUpTo};
+ghost use Rattle.cp_gml.specs.Tokens.{Front, Token, place, start};
 ghost use Rattle.cp_gml.specs.declared.tree.Entry.{Entry};
 ghost use Rattle.cp_gml.specs.Trees.{Tree, spelled, depth, tree};
 
@@ -22,4 +22,10 @@ pub fn one_answer()
         IsRow (start text) (drop (start text) text) (spelled t) × (depth t ≤ deepest) }
     ensures found { (text : List ℕ) (t : Tree) → IsRow (start text) (drop (start text) text) (spelled t) →
         depth t ≤ deepest → IsListOf text t }
+
+    // The tokens before a fault: those that are laid end to end before it, and a fault stands behind the blanks and
+    // comments that follow them.
+    ensures cut { (text : List ℕ) (ts : List Token) (to : ℕ) → Front text (start text) ts to ↔
+        IsRowUpTo (start text) (drop (start text) text) ts to (drop to text) }
+    ensures passed { (text : List ℕ) (at : ℕ) → IsGap (drop (place text at) text) (take (place text at - at) (drop at text)) }
 {}

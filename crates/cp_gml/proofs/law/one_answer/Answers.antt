@@ -1,4 +1,5 @@
-use Rattle.cp_gml.proofs.Laid.{list_laid_out, laid_out_list}
+use Rattle.cp_gml.proofs.Laid.{list_laid_out, laid_out_list, found_exactly, passed_gap}
+use Rattle.cp_gml.specs.Tokens.{start}
 use Rattle.cp_gml.proofs.Same.{same_entries}
 use Rattle.cp_gml.proofs.Unique.{one_list, list_or_fault, one_fault}
 use Rattle.cp_gml.proofs.law.one_answer.Goals as goal
@@ -11,4 +12,6 @@ returns c = record {
   faults = one_fault;
   laid_out = list_laid_out;
   found = laid_out_list;
+  cut = λ text ts to. found_exactly text ts (start text) to;
+  passed = passed_gap;
 }
