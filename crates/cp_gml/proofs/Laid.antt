@@ -9,7 +9,7 @@ use Rattle.std.proofs.lemmas.List.Sums.{prefix_len-le-length, prefix_len_stops}
 use Rattle.cp_gml.specs.Bytes.{is_blank, is_line_end, is_digit, is_sign, is_word_start, is_word_byte, is_number_start, is_number_byte, is_string_byte}
 use Rattle.cp_gml.specs.Numbers.{is_integer, is_real, integer_value}
 use Rattle.cp_gml.specs.Tokens.{Chars, Whole, Other, Sign, Open, Close, Word, Value, Token, Piece, Found, Stops, Ends, gap, piece, string_piece, word_piece, number_piece, number_of, leaf_of, start, place, next, Front}
-use Rattle.cp_gml.specs.Rows.{begins, IsLineEnd, IsGap, none, blank, comment, IsRun, IsOtherNumber, Spells, EndsBefore, IsRowUpTo, IsRow}
+use Rattle.cp_gml.specs.Rows.{begins, IsLineEnd, IsGap, none, blank, comment, IsNumberRun, IsOtherNumber, Spells, EndsBefore, IsRowUpTo, IsRow}
 use Rattle.cp_gml.specs.Trees.{Tree, spelled, depth}
 use Rattle.cp_gml.specs.Lists.{deepest, IsListOf}
 
@@ -170,7 +170,7 @@ module _ (b : ℕ) (bs : List ℕ) where
     within = prefix_len-le-length is_word_byte (b ∷ bs);
   }
 
-  its_run : is_number_start b ≡ true → IsRun (take number_run (b ∷ bs))
+  its_run : is_number_start b ≡ true → IsNumberRun (take number_run (b ∷ bs))
   its_run e = record { first = run_begins is_number_byte is_number_start b bs e (number_first b e); all = run_all is_number_byte (b ∷ bs) }
 
   integer_SpelledBy : (o : Option ℤ) → is_number_start b ≡ true → is_integer (take number_run (b ∷ bs)) ≡ true → integer_value (take number_run (b ∷ bs)) ≡ o
@@ -210,6 +210,24 @@ found_SpelledBy (b ∷ bs) sign len e = byte_found b bs sign len (b == 91) (b ==
 found_some : (bs : List ℕ) (sign : Sign) (len : ℕ) → piece bs ≡ Found sign len → 0 < length bs
 found_some [] sign len e = cc
 found_some (b ∷ bs) sign len e = omega arith
+
+-- a token has bytes
+begun : (class : ℕ → Bool) (bytes : List ℕ) → begins class bytes ≡ true → 0 < length bytes
+begun class [] e = cc
+begun class (b ∷ bs) e = omega arith
+
+spelled_some : (sign : Sign) (word : List ℕ) → Spells sign word → 0 < length word
+spelled_some Open word s = omega (arith, ap length s)
+spelled_some Close word s = omega (arith, ap length s)
+spelled_some (Word key) word s = omega (arith, begun is_word_start key s.1, ap length s.0)
+spelled_some (Value (Chars text)) word s = omega (arith, ap length s.0)
+spelled_some (Value (Whole n)) word s = begun is_number_start word s.0.first
+spelled_some (Value Other) word s = begun is_number_start word s.0.first
+
+pub found_longer : (bs : List ℕ) (sign : Sign) (len : ℕ) → piece bs ≡ Found sign len → 0 < len
+found_longer bs sign len e =
+    let by = found_SpelledBy bs sign len e in
+    omega (arith, spelled_some sign (take len bs) by.spells, length-take-le len bs by.within)
 
 -- only the end of the text is no piece
 string_goes_on : (x : Bool) (sign : Sign) (len : ℕ) → cond x (Stops 2) (Found sign len) ≡ Ends → ⊥
@@ -274,7 +292,7 @@ IsRowUpTo-from_Front text (t ∷ ts) from to front =
       by.spells,
       by.ends,
       subst (λ (x : ℕ). IsRowUpTo x (drop len cs) ts to (drop to text)) on
-      (subst (λ (xs : List ℕ). IsRowUpTo (place text from + len) xs ts to (drop to text)) behind more),
+          (subst (λ (xs : List ℕ). IsRowUpTo (place text from + len) xs ts to (drop to text)) behind more),
     )
 
 -- what is laid end to end is what a reader finds
@@ -363,7 +381,7 @@ string_FoundBefore text rest e =
       starts = (refl, refl);
     }
 
-number_told : (word rest : List ℕ) → IsRun word → begins is_number_byte rest ≡ false → (piece (word ++ rest) ≡ number_of word (length word)) × IsStart (word ++ rest)
+number_told : (word rest : List ℕ) → IsNumberRun word → begins is_number_byte rest ≡ false → (piece (word ++ rest) ≡ number_of word (length word)) × IsStart (word ++ rest)
 number_told [] rest r g = let e : false ≡ true = r.first in cc
 number_told (b ∷ word) rest r g =
     let e : is_number_start b ≡ true = r.first in

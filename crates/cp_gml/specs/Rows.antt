@@ -25,7 +25,7 @@ pub data IsGap (rest : List ℕ) : List ℕ → Type 0 where
       → IsGap rest (35 ∷ body ++ gap)
 
 -- a run of bytes of numbers
-pub record IsRun (bytes : List ℕ) : Type 0 where
+pub record IsNumberRun (bytes : List ℕ) : Type 0 where
   pub first : begins is_number_start bytes ≡ true
   pub all : list_all is_number_byte bytes ≡ true
 
@@ -40,8 +40,8 @@ Spells Open bytes = bytes ≡ 91 ∷ []
 Spells Close bytes = bytes ≡ 93 ∷ []
 Spells (Word key) bytes = (bytes ≡ key) × (begins is_word_start key ≡ true) × (list_all is_word_byte key ≡ true)
 Spells (Value (Chars text)) bytes = (bytes ≡ 34 ∷ text ++ 34 ∷ []) × (list_all is_string_byte text ≡ true)
-Spells (Value (Whole n)) bytes = IsRun bytes × (is_integer bytes ≡ true) × (integer_value bytes ≡ Some n)
-Spells (Value Other) bytes = IsRun bytes × IsOtherNumber bytes
+Spells (Value (Whole n)) bytes = IsNumberRun bytes × (is_integer bytes ≡ true) × (integer_value bytes ≡ Some n)
+Spells (Value Other) bytes = IsNumberRun bytes × IsOtherNumber bytes
 
 -- a word and a number are as long as they can be: what follows does not go on with them
 abbrev pub EndsBefore : Sign → List ℕ → Type 0
