@@ -103,6 +103,10 @@ one_check bytes (read {end = e} {text = line} r n begins is) (read r2 m begins2 
 pub asks_nothing : (words : List (List ℕ)) → ¬ IsCheck words → (a : Asked) → ¬ Asks words a
 asks_nothing words none Check = none
 
+-- what answers a report and a graph answers what is asked for, since this is `check`
+pub checked_answers : (a : Asked) (bytes : List ℕ) (end : End) (text : List ℕ) → Checked bytes end text → Answers a bytes end text
+checked_answers Check bytes end text is = is
+
 -- words and bytes allow one end and one text
 pub one_end : (words : List (List ℕ)) (bytes : List ℕ) {e f : End} {s t : List ℕ} → Answer words bytes e s → Answer words bytes f t → (e ≡ f) × (s ≡ t)
 one_end words bytes (usage n1) (usage n2) = (refl, refl)
@@ -162,15 +166,15 @@ judged_answer words bytes r n g check short begins is (told Check asks k checked
 
 -- an end that no device caused is an answer or want of memory
 pub answer_or_memory : (P : End → Type 0) (end : End) → ¬ (end ≡ ends.ReadFault) → ¬ (end ≡ ends.WriteFault) → (IsAnswer end → P end) → P end ⊎ (end ≡ ends.Memory)
-answer_or_memory P ends.Memory read write answer = inr refl
-answer_or_memory P ends.ReadFault read write answer = absurd (read refl)
-answer_or_memory P ends.WriteFault read write answer = absurd (write refl)
-answer_or_memory P ends.Yes read write answer = inl (answer record { read = λ e. cc; write = λ e. cc; memory = λ e. cc })
-answer_or_memory P ends.No read write answer = inl (answer record { read = λ e. cc; write = λ e. cc; memory = λ e. cc })
-answer_or_memory P ends.Accepted read write answer = inl (answer record { read = λ e. cc; write = λ e. cc; memory = λ e. cc })
-answer_or_memory P (ends.Rejected reason) read write answer = inl (answer record { read = λ e. cc; write = λ e. cc; memory = λ e. cc })
-answer_or_memory P ends.Done read write answer = inl (answer record { read = λ e. cc; write = λ e. cc; memory = λ e. cc })
-answer_or_memory P (ends.Refused kind at) read write answer = inl (answer record { read = λ e. cc; write = λ e. cc; memory = λ e. cc })
-answer_or_memory P (ends.BadReport kind line) read write answer = inl (answer record { read = λ e. cc; write = λ e. cc; memory = λ e. cc })
-answer_or_memory P ends.Usage read write answer = inl (answer record { read = λ e. cc; write = λ e. cc; memory = λ e. cc })
-answer_or_memory P ends.TooLong read write answer = inl (answer record { read = λ e. cc; write = λ e. cc; memory = λ e. cc })
+answer_or_memory P ends.Memory calm_source calm_sink answer = inr refl
+answer_or_memory P ends.ReadFault calm_source calm_sink answer = absurd (calm_source refl)
+answer_or_memory P ends.WriteFault calm_source calm_sink answer = absurd (calm_sink refl)
+answer_or_memory P ends.Yes calm_source calm_sink answer = inl (answer record { read = λ e. cc; write = λ e. cc; memory = λ e. cc })
+answer_or_memory P ends.No calm_source calm_sink answer = inl (answer record { read = λ e. cc; write = λ e. cc; memory = λ e. cc })
+answer_or_memory P ends.Accepted calm_source calm_sink answer = inl (answer record { read = λ e. cc; write = λ e. cc; memory = λ e. cc })
+answer_or_memory P (ends.Rejected reason) calm_source calm_sink answer = inl (answer record { read = λ e. cc; write = λ e. cc; memory = λ e. cc })
+answer_or_memory P ends.Done calm_source calm_sink answer = inl (answer record { read = λ e. cc; write = λ e. cc; memory = λ e. cc })
+answer_or_memory P (ends.Refused kind at) calm_source calm_sink answer = inl (answer record { read = λ e. cc; write = λ e. cc; memory = λ e. cc })
+answer_or_memory P (ends.BadReport kind line) calm_source calm_sink answer = inl (answer record { read = λ e. cc; write = λ e. cc; memory = λ e. cc })
+answer_or_memory P ends.Usage calm_source calm_sink answer = inl (answer record { read = λ e. cc; write = λ e. cc; memory = λ e. cc })
+answer_or_memory P ends.TooLong calm_source calm_sink answer = inl (answer record { read = λ e. cc; write = λ e. cc; memory = λ e. cc })

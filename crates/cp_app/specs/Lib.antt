@@ -3,6 +3,5 @@ pub mod Ends
 pub mod Texts
 pub mod Answer
 pub mod Run
-
 -- what functions inside promise each other
 pub mod Verdicts
