@@ -1,12 +1,17 @@
 -- Every text has a list or a first fault.
-use Rattle.std.proofs.Common.{◌≡◌, ℕ, zero, suc, ◌+◌, ◌<◌, ◌⊎◌, inl, inr, Bool, true, false, cond, List, [], ◌∷◌, length, drop, Option, None, Some, refl, sym, ap, ◌∙◌, subst, arith}
+use Rattle.std.proofs.Common.{◌≡◌, ℕ, zero, suc, ◌+◌, ◌<◌, ◌⊎◌, inl, inr, ⊎_elim, Bool, true, false, cond, List, [], ◌∷◌, length, drop, Option, None, Some, refl, sym, ap, ◌∙◌, subst, arith}
 use Rattle.std.proofs.lemmas.List.{drop_all}
-use Rattle.cp_gml.specs.Tokens.{Sign, Token, token, Piece, Found, Stops, Ends, Front, piece, place, next, start}
-use Rattle.cp_gml.specs.Trees.{Tree}
+use Rattle.cp_gml.specs.declared.tree.GmlList.{GmlList, out-GmlList, out-roll-GmlList, roll-GmlList}
+use Rattle.cp_gml.specs.declared.tree.GmlValue.{GmlValue}
+use Rattle.cp_gml.specs.declared.tree.GmlValue.TheVariants.{Int, Number, Str, List as Nested}
+use Rattle.cp_gml.specs.declared.tree.Entry.{Entry}
+use Rattle.cp_gml.specs.Tokens.{Leaf, Chars, Whole, Other, Sign, Token, token, Piece, Found, Stops, Ends, Front, piece, place, next, start}
+use Rattle.cp_gml.specs.Trees.{Tree, nil, leaf, node, tree, with_value}
 use Rattle.cp_gml.specs.Lists.{kind_of, IsListOf, IsFaultOf}
 use Rattle.cp_gml.specs.Machine.{State, state, step, run, is_done, StopsAt, Faults}
 use Rattle.cp_gml.proofs.Fronts.{Faults_here, Faults_behind}
 use Rattle.cp_gml.proofs.Laid.{found_longer}
+use Rattle.cp_gml.proofs.Spelling.{with_list-tree}
 use Rattle.cp_gml.proofs.Viable.{IsWhole-from_run, IsFaultOf-from_Faults}
 
 -- a reader that begins here in this state comes to the end of the text and may end there, or it meets a fault
@@ -71,3 +76,48 @@ told text (whole ts to u cut runs ends done) =
 -- every text has a list or a first fault
 pub some_outcome : (text : List ℕ) → ((t : Tree) × IsListOf text t) ⊎ ((kind : ℕ) × (at : ℕ) × IsFaultOf text kind at)
 some_outcome text = told text (outcome (suc (length text)) text (start text) (state 0 false) (omega arith))
+
+-- the value that a leaf is the tree of
+abbrev value_of : Leaf → GmlValue
+value_of (Chars text) = Str text
+value_of (Whole n) = Int n
+value_of Other = Number
+
+value_tree : (key : List ℕ) (key_at : ℕ) (value : Leaf) (at : ℕ) (rest : Tree) → with_value key key_at (value_of value) at rest ≡ leaf key key_at value at rest
+value_tree key key_at (Chars text) at rest = refl
+value_tree key key_at (Whole n) at rest = refl
+value_tree key key_at Other at rest = refl
+
+-- a list of these entries with this end
+abbrev list_for : List Entry → ℕ → GmlList
+list_for es end = roll-GmlList (record { entries = es; end = end })
+
+entries_of_list : (es : List Entry) (end : ℕ) → (out-GmlList (list_for es end)).entries ≡ es
+entries_of_list es end = λ i. (out-roll-GmlList (record { entries = es; end = end }) i).entries
+
+end_of_list : (es : List Entry) (end : ℕ) → (out-GmlList (list_for es end)).end ≡ end
+end_of_list es end = λ i. (out-roll-GmlList (record { entries = es; end = end }) i).end
+
+-- entries that have a tree
+abbrev entries_for : Tree → List Entry
+entries_for nil = []
+entries_for (leaf key key_at value at rest) = record { key = key; key_at = key_at; value = value_of value; value_at = at } ∷ entries_for rest
+entries_for (node key key_at at inner end rest) =
+    record { key = key; key_at = key_at; value = Nested (list_for (entries_for inner) end); value_at = at } ∷ entries_for rest
+
+tree_entries_for : (t : Tree) → tree (entries_for t) ≡ t
+tree_entries_for nil = refl
+tree_entries_for (leaf key key_at value at rest) =
+    value_tree key key_at value at (tree (entries_for rest)) ∙ ap (λ (r : Tree). leaf key key_at value at r) (tree_entries_for rest)
+tree_entries_for (node key key_at at inner end rest) =
+    with_list-tree key key_at (list_for (entries_for inner) end) at (tree (entries_for rest))
+    ∙ (λ i. node key key_at at (tree (entries_of_list (entries_for inner) end i)) (end_of_list (entries_for inner) end i) (tree (entries_for rest)))
+    ∙ (λ i. node key key_at at (tree_entries_for inner i) end (tree_entries_for rest i))
+
+-- every text is a list of entries or has a first fault
+pub some_entries : (text : List ℕ) → ((es : List Entry) × IsListOf text (tree es)) ⊎ ((kind : ℕ) × (at : ℕ) × IsFaultOf text kind at)
+some_entries text =
+    ⊎_elim
+    (λ list. inl (entries_for list.0, subst (λ (t : Tree). IsListOf text t) (sym (tree_entries_for list.0)) list.1))
+    (λ fault. inr fault)
+    (some_outcome text)

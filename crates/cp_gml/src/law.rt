@@ -14,7 +14,7 @@ pub fn one_answer()
     ensures lists { (text : List ℕ) (t u : Tree) → IsListOf text t → IsListOf text u → t ≡ u }
     ensures entries { (es fs : List Entry) → tree es ≡ tree fs → es ≡ fs }
     ensures apart { (text : List ℕ) (t : Tree) (kind at : ℕ) → IsListOf text t → IsFaultOf text kind at → ⊥ }
-    ensures some { (text : List ℕ) → ((t : Tree) × IsListOf text t) ⊎ ((kind : ℕ) × (at : ℕ) × IsFaultOf text kind at) }
+    ensures some { (text : List ℕ) → ((es : List Entry) × IsListOf text (tree es)) ⊎ ((kind : ℕ) × (at : ℕ) × IsFaultOf text kind at) }
     ensures faults { (text : List ℕ) (k a l b : ℕ) → IsFaultOf text k a → IsFaultOf text l b → (k ≡ l) × (a ≡ b) }
 
     // The whole row of tokens, both ways.

@@ -1,7 +1,6 @@
 -- for callers: facts about the definitions
 pub mod LawLemmas
 pub mod Outcomes
-
 -- what the proofs of this crate rest on
 mod CutLemmas
 mod NumberLemmas
