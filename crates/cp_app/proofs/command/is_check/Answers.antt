@@ -2,7 +2,7 @@
 use Rattle.std.proofs.Common.{[], ◌∷◌, string_bytes, sym, ap, ◌∙◌}
 use Rattle.std.proofs.lemmas.Slice.Eq.{bytes_eq-Decides}
 use Rattle.cp_app.proofs.WordLemmas.{map-only, only-same}
-use Rattle.cp_app.proofs.running.is_check.Goals as goal
+use Rattle.cp_app.proofs.command.is_check.Goals as goal
 
 pub returns-in-len1 : goal.returns-in-len1
 returns-in-len1 c =
