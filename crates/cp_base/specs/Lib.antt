@@ -1,2 +1,4 @@
 pub mod Graphs
+pub mod Permutations
 pub mod formers
+pub mod Shapes

@@ -1,9 +1,10 @@
 // A list of numbers that is meant up to turning.
-ghost use Rattle.std.specs.Prelude.{◌≡◌, ◌↔◌, IfOk, IsTrue, reverse};
-ghost use Rattle.cp_lists.specs.Turns.{IsTurn};
+ghost use Rattle.std.specs.Prelude.{◌≡◌, ◌<◌, ◌↔◌, All, IfOk, IsTrue, length, reverse, slice_index_or, false};
+ghost use Rattle.std.specs.List.{filter};
+ghost use Rattle.cp_lists.specs.Turns.{IsTurn, turned_to_least};
 
 use crate::Memory;
-use crate::turns::is_turn;
+use crate::turns::{is_turn, least_place};
 use std::alloc::Global;
 use std::marker::Model;
 
@@ -52,5 +53,26 @@ impl CycList {
         let mut items = Vec::from_slice(alloc, self.items.as_slice())?;
         items.reverse();
         Ok(CycList { items })
+    }
+    /// The items `x` with `keep[x]`, in their order. Linear in the number of items.
+    pub fn restricted(&self, alloc: Global, keep: &[bool]) -> Result<CycList, Memory>
+        requires { All (λ x. x < length keep.now) self.now }
+        ensures { IfOk result (λ list. list ≡ filter (λ x. slice_index_or keep.now x false) self.now) }
+    {
+        let mut items = Vec::new(alloc);
+        for x in self.items.as_slice() {
+            if keep[*x] {
+                items.push(*x)?;
+            }
+        }
+        Ok(CycList { items })
+    }
+
+    /// Turns the list so that the first of its least items stands first. Linear in the number of items.
+    pub fn turn_to_least(&mut self)
+        ensures { self.new ≡ turned_to_least self.old }
+    {
+        let place = least_place(self.items.as_slice());
+        self.items.rotate_left(place);
     }
 }

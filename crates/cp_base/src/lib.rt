@@ -1,5 +1,5 @@
-//! Want of memory, lists that contracts see as lists, cyclic lists, plain graphs, shapes of order trees and
-//! equations over bits.
+//! Want of memory, lists that contracts see as lists, cyclic lists, permutations, plain graphs,
+//! shapes of order trees and equations over bits.
 #![tactic(auto)]
 
 mod cyc_list;
@@ -7,6 +7,7 @@ mod equation;
 mod graph;
 mod items;
 mod memory;
+mod perm;
 mod shape;
 mod turns;
 
@@ -15,6 +16,7 @@ pub use equation::{Equation, Equations};
 pub use graph::Graph;
 pub use items::Items;
 pub use memory::Memory;
+pub use perm::{Perm, PermFault};
 pub use shape::{Branch, Branches, Shape};
 
 #[cfg(test)]

@@ -1,6 +1,6 @@
-// Whether two lists are one cyclic list.
+// Whether two lists are one cyclic list, and where the least item of a list stands.
 ghost use Rattle.std.specs.Prelude.{◌≡◌, ◌<◌, ◌↔◌, IsTrue, length};
-ghost use Rattle.cp_lists.specs.Turns.{IsTurn, IsTurnBy};
+ghost use Rattle.cp_lists.specs.Turns.{IsTurn, IsTurnBy, least_place};
 
 // Whether `ys` is `xs` with its first `i` items moved to the end.
 fn is_turn_by(xs: &[usize], ys: &[usize], i: usize) -> bool
@@ -29,4 +29,17 @@ pub(crate) fn is_turn(xs: &[usize], ys: &[usize]) -> bool
         }
     }
     false
+}
+
+/// The place of the first of the least items, or 0 where there is none.
+pub(crate) fn least_place(items: &[usize]) -> usize
+    ensures { result ≡ least_place items.now }
+{
+    let mut place = 0;
+    for i in 0..items.len() {
+        if items[i] < items[place] {
+            place = i;
+        }
+    }
+    place
 }

@@ -33,7 +33,8 @@ abbrev pub ArePlaced : List (ℕ × ℕ) → ℕ → List ℕ → List ℕ → L
 ArePlaced es n number up edge = (v : ℕ) → v < n → IsPlacedBelow es n number up edge v
 
 -- another vertex above has a lower number
-pub above_number : (es : List (ℕ × ℕ)) (n : ℕ) (number up edge : List ℕ) (a b : ℕ) → ArePlaced es n number up edge → b < n → Above up a b → (a ≡ b) ⊎ ((a < n) × (get_or number a 0 < get_or number b 0))
+pub above_number : (es : List (ℕ × ℕ)) (n : ℕ) (number up edge : List ℕ) (a b : ℕ) → ArePlaced es n number up edge
+    → b < n → Above up a b → (a ≡ b) ⊎ ((a < n) × (get_or number a 0 < get_or number b 0))
 above_number es n number up edge a b pl lt itself = inl refl
 above_number es n number up edge a b pl lt (child w) =
     ⊎_elim
@@ -45,7 +46,8 @@ above_number es n number up edge a b pl lt (child w) =
     (pl b lt)
 
 -- a vertex above has no higher number
-pub above-le : (es : List (ℕ × ℕ)) (n : ℕ) (number up edge : List ℕ) (a b : ℕ) → ArePlaced es n number up edge → b < n → Above up a b → (a < n) × (get_or number a 0 ≤ get_or number b 0)
+pub above-le : (es : List (ℕ × ℕ)) (n : ℕ) (number up edge : List ℕ) (a b : ℕ) → ArePlaced es n number up edge → b < n
+    → Above up a b → (a < n) × (get_or number a 0 ≤ get_or number b 0)
 above-le es n number up edge a b pl lt w =
     ⊎_elim
     (λ e. subst (λ (z : ℕ). (z < n) × (get_or number z 0 ≤ get_or number b 0)) (sym e) (lt, omega arith))
@@ -53,7 +55,8 @@ above-le es n number up edge a b pl lt w =
     (above_number es n number up edge a b pl lt w)
 
 -- whether a vertex is above another
-pub above_cases : (es : List (ℕ × ℕ)) (n : ℕ) (number up edge : List ℕ) (a b : ℕ) → ArePlaced es n number up edge → b < n → Above up a b ⊎ (Above up a b → ⊥)
+pub above_cases : (es : List (ℕ × ℕ)) (n : ℕ) (number up edge : List ℕ) (a b : ℕ) → ArePlaced es n number up edge
+    → b < n → Above up a b ⊎ (Above up a b → ⊥)
 above_cases es n number up edge a b pl lt = go (suc (get_or number b 0)) b lt (omega arith)
   where
     go : (k b : ℕ) → b < n → get_or number b 0 < k → Above up a b ⊎ (Above up a b → ⊥)
@@ -79,14 +82,16 @@ pub record Branch (es : List (ℕ × ℕ)) (n : ℕ) (number up edge : List ℕ)
   pub over : Above up root x
 
 -- a vertex below v is in a branch of v
-pub branch : (es : List (ℕ × ℕ)) (n : ℕ) (number up edge : List ℕ) (v x : ℕ) → ArePlaced es n number up edge → x < n → Above up v x → (x ≡ v → ⊥) → Branch es n number up edge v x
+pub branch : (es : List (ℕ × ℕ)) (n : ℕ) (number up edge : List ℕ) (v x : ℕ) → ArePlaced es n number up edge → x < n
+    → Above up v x → (x ≡ v → ⊥) → Branch es n number up edge v x
 branch es n number up edge v x pl lt itself ne = absurd (ne refl)
 branch es n number up edge v x pl lt (child w) ne =
     ⊎_elim
     (λ root. absurd (ne (sym (above_root up v x (child w) root))))
     (λ h. ⊎_elim
     (λ e. record { root = x; within = lt; parent = e; hangs = h; over = itself })
-    (λ differ. let b : Branch es n number up edge v (get_or up x 0) = branch es n number up edge v (get_or up x 0) pl h.within w differ in record {
+    (λ differ. let b : Branch es n number up edge v (get_or up x 0) =
+    branch es n number up edge v (get_or up x 0) pl h.within w differ in record {
       root = b.root;
       within = b.within;
       parent = b.parent;
@@ -97,7 +102,8 @@ branch es n number up edge v x pl lt (child w) ne =
     (pl x lt)
 
 -- the low point of a vertex above is no higher
-pub low_above : (es : List (ℕ × ℕ)) (n : ℕ) (number up edge low : List ℕ) (a b : ℕ) → ArePlaced es n number up edge → AreLowPoints es n number up low → b < n → Above up a b → get_or low a 0 ≤ get_or low b 0
+pub low_above : (es : List (ℕ × ℕ)) (n : ℕ) (number up edge low : List ℕ) (a b : ℕ) → ArePlaced es n number up edge
+    → AreLowPoints es n number up low → b < n → Above up a b → get_or low a 0 ≤ get_or low b 0
 low_above es n number up edge low a b pl l lt itself = omega arith
 low_above es n number up edge low a b pl l lt (child w) =
     ⊎_elim

@@ -15,3 +15,15 @@ pub mod TreeLinks
 pub mod Deepening
 pub mod LowPoints
 pub mod SearchTrees
+pub mod NumberedClasses
+pub mod EdgeEnds
+pub mod CutBlocks
+pub mod BlockLabels
+pub mod BlockPaths
+pub mod NamedGraphs
+pub mod DistinctSubsets
+pub mod Bonds
+pub mod EqualBonds
+pub mod BlockBonds
+pub mod BlockParts
+pub mod Removed

@@ -11,7 +11,9 @@ abbrev pub AllNear : List (ℕ × ℕ) → ℕ → (ℕ → Type 0) → ℕ → 
 AllNear es v P i = (k : ℕ) → k < i → (x : ℕ) → Joins (get_or es k (0, 0)) v x → (x ≡ v → ⊥) → P x
 
 -- one edge more
-pub AllNear-more : (es : List (ℕ × ℕ)) (v : ℕ) (P : ℕ → Type 0) (i first second : ℕ) → get_or es i (0, 0) ≡ (first, second) → (first ≡ v → (second ≡ v → ⊥) → P second) → (second ≡ v → (first ≡ v → ⊥) → P first) → AllNear es v P i → AllNear es v P (i + 1)
+pub AllNear-more : (es : List (ℕ × ℕ)) (v : ℕ) (P : ℕ → Type 0) (i first second : ℕ)
+    → get_or es i (0, 0) ≡ (first, second) → (first ≡ v → (second ≡ v → ⊥) → P second)
+    → (second ≡ v → (first ≡ v → ⊥) → P first) → AllNear es v P i → AllNear es v P (i + 1)
 AllNear-more es v P i first second at one two all k lt x j ne =
     ⊎_elim
     (λ e. ⊎_elim
@@ -22,14 +24,17 @@ AllNear-more es v P i first second at one two all k lt x j ne =
     (cases_eq k i)
 
 -- all edges
-pub AllNear-end : (es : List (ℕ × ℕ)) (v : ℕ) (P : ℕ → Type 0) (i x : ℕ) → length es ≡ i → AllNear es v P i → IsNeighbour es v x → P x
+pub AllNear-end : (es : List (ℕ × ℕ)) (v : ℕ) (P : ℕ → Type 0) (i x : ℕ) → length es ≡ i → AllNear es v P i
+    → IsNeighbour es v x → P x
 AllNear-end es v P i x all_of all near =
     let k : ℕ = near.contained.0 in
-    let at : get_or es k (0, 0) ≡ near.pair = get_or_default es k (0, 0) near.pair near.contained.1 ∙ near.contained.2 in
+    let at : get_or es k (0, 0) ≡ near.pair = get_or_default es k (0, 0) near.pair near.contained.1
+    ∙ near.contained.2 in
     all k (omega (arith, near.contained.1)) x (subst (λ (p : ℕ × ℕ). Joins p v x) (sym at) near.joined) near.other
 
 -- the second end is a neighbour of the first
-pub near_second : (es : List (ℕ × ℕ)) (v i first second : ℕ) → i < length es → get_or es i (0, 0) ≡ (first, second) → first ≡ v → (second ≡ v → ⊥) → IsNeighbour es v second
+pub near_second : (es : List (ℕ × ℕ)) (v i first second : ℕ) → i < length es → get_or es i (0, 0) ≡ (first, second)
+    → first ≡ v → (second ≡ v → ⊥) → IsNeighbour es v second
 near_second es v i first second lt at e ne = record {
   pair = get_or es i (0, 0);
   contained = Contains-at es i lt;
@@ -38,7 +43,8 @@ near_second es v i first second lt at e ne = record {
 }
 
 -- the first end is a neighbour of the second
-pub near_first : (es : List (ℕ × ℕ)) (v i first second : ℕ) → i < length es → get_or es i (0, 0) ≡ (first, second) → second ≡ v → (first ≡ v → ⊥) → IsNeighbour es v first
+pub near_first : (es : List (ℕ × ℕ)) (v i first second : ℕ) → i < length es → get_or es i (0, 0) ≡ (first, second)
+    → second ≡ v → (first ≡ v → ⊥) → IsNeighbour es v first
 near_first es v i first second lt at e ne = record {
   pair = get_or es i (0, 0);
   contained = Contains-at es i lt;

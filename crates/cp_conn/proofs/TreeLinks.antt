@@ -18,20 +18,24 @@ use Rattle.cp_conn.specs.TreeLinks.{AreEdgeLinks, AddsTreeLinks, LinksUp, deeper
 use Rattle.cp_conn.proofs.DartChains.{Contains-at, dart_joins, dart_of, Joins-sym, labels_joined, within_joined, start_within, finish_within}
 use Rattle.cp_conn.proofs.CutVertices.{Contains-split, kept_pair, kept_of, avoided, avoids_of}
 use Rattle.cp_conn.proofs.OneBlock.{one_block_at}
-use Rattle.cp_conn.proofs.BlockClasses.{ends_differ}
+use Rattle.cp_conn.proofs.EdgeEnds.{ends_differ}
 use Rattle.cp_conn.proofs.Forests.{ArePlaced, above_up, Above-trans, above_both, above_root, above_number, above-le, above_cases, Branch, branch, low_above}
 
 -- the links of the first edges and vertices: each edge with the tree edge of its deeper end, and the tree edges of
 -- each vertex that leads past the one above it
-pub record AreTreeLinks (es : List (ℕ × ℕ)) (number up edge low : List ℕ) (edges vertices : ℕ) (links : List (ℕ × ℕ)) : Type 0 where
+pub record AreTreeLinks (es : List (ℕ × ℕ)) (number up edge low : List ℕ) (edges vertices : ℕ)
+    (links : List (ℕ × ℕ)) : Type 0 where
   pub each_edge : (e : ℕ) → e < edges → Contains links (edge_link es number edge e)
   pub each_vertex : (v : ℕ) → v < vertices → LeadsPast number up low v → Contains links (tree_link up edge v)
-  pub only : (p : ℕ × ℕ) → Contains links p → ((e : ℕ) × (e < edges) × (edge_link es number edge e ≡ p)) ⊎ ((v : ℕ) × (v < vertices) × LeadsPast number up low v × (tree_link up edge v ≡ p))
+  pub only : (p : ℕ × ℕ) → Contains links p → ((e : ℕ) × (e < edges) × (edge_link es number edge e ≡ p))
+      ⊎ ((v : ℕ) × (v < vertices) × LeadsPast number up low v × (tree_link up edge v ≡ p))
 
 -- the ends of an edge that v does not touch are connected without v
-clear_edge : (es : List (ℕ × ℕ)) (v e x y : ℕ) → e < length es → Joins (get_or es e (0, 0)) x y → (x ≡ v → ⊥) → (y ≡ v → ⊥) → labels (without_vertex v es) x ≡ labels (without_vertex v es) y
+clear_edge : (es : List (ℕ × ℕ)) (v e x y : ℕ) → e < length es → Joins (get_or es e (0, 0)) x y → (x ≡ v → ⊥)
+    → (y ≡ v → ⊥) → labels (without_vertex v es) x ≡ labels (without_vertex v es) y
 clear_edge es v e x y lt j nx ny =
-    labels_joined (without_vertex v es) (get_or es e (0, 0)) x y (kept_of (avoids v) es (get_or es e (0, 0)) (Contains-at es e lt) passes) j
+    labels_joined (without_vertex v es) (get_or es e (0, 0)) x y
+    (kept_of (avoids v) es (get_or es e (0, 0)) (Contains-at es e lt) passes) j
   where
     passes : avoids v (get_or es e (0, 0)) ≡ true
     passes =
@@ -41,23 +45,32 @@ clear_edge es v e x y lt j nx ny =
         j
 
 -- the way up from b to a, where it does not pass p, connects them without p
-climb_clear : (es : List (ℕ × ℕ)) (n : ℕ) (number up edge : List ℕ) (p a b : ℕ) → ArePlaced es n number up edge → b < n → Above up a b → ((u : ℕ) → Above up a u → Above up u b → u ≡ p → ⊥) → labels (without_vertex p es) a ≡ labels (without_vertex p es) b
+climb_clear : (es : List (ℕ × ℕ)) (n : ℕ) (number up edge : List ℕ) (p a b : ℕ) → ArePlaced es n number up edge → b < n
+    → Above up a b → ((u : ℕ) → Above up a u → Above up u b → u ≡ p → ⊥)
+    → labels (without_vertex p es) a ≡ labels (without_vertex p es) b
 climb_clear es n number up edge p a b pl lt itself clear = refl
 climb_clear es n number up edge p a b pl lt (child w) clear =
     ⊎_elim
     (λ root. ap (labels (without_vertex p es)) (above_root up a b (child w) root))
     (λ h. climb_clear es n number up edge p a (get_or up b 0) pl h.within w (λ u k l. clear u k (child l))
-    ∙ clear_edge es p (get_or edge b 0) (get_or up b 0) b h.edge_within (Joins-sym (get_or es (get_or edge b 0) (0, 0)) b (get_or up b 0) h.joined) (clear (get_or up b 0) w (child itself)) (clear b (child w) itself))
+    ∙ clear_edge es p (get_or edge b 0) (get_or up b 0) b h.edge_within
+    (Joins-sym (get_or es (get_or edge b 0) (0, 0)) b (get_or up b 0) h.joined)
+    (clear (get_or up b 0) w (child itself)) (clear b (child w) itself))
     (pl b lt)
 
 -- the deeper end of an edge from x down to y is y
-deeper_end : (es : List (ℕ × ℕ)) (n : ℕ) (number up edge : List ℕ) (p : ℕ × ℕ) (x y : ℕ) → ArePlaced es n number up edge → y < n → Joins p x y → Above up x y → (x ≡ y → ⊥) → deeper number p ≡ y
+deeper_end : (es : List (ℕ × ℕ)) (n : ℕ) (number up edge : List ℕ) (p : ℕ × ℕ) (x y : ℕ) → ArePlaced es n number up edge
+    → y < n → Joins p x y → Above up x y → (x ≡ y → ⊥) → deeper number p ≡ y
 deeper_end es n number up edge p x y pl lt j w ne =
     ⊎_elim
     (λ e. absurd (ne e))
     (λ k. ⊎_elim
-    (λ h. ap (λ t. cond t p.1 p.0) (lt-ltb (get_or number p.0 0) (get_or number p.1 0) (omega (arith, k.1, ap (λ (z : ℕ). get_or number z 0) h.0, ap (λ (z : ℕ). get_or number z 0) h.1))) ∙ h.1)
-    (λ h. ap (λ t. cond t p.1 p.0) (le-ltb (get_or number p.0 0) (get_or number p.1 0) (omega (arith, k.1, ap (λ (z : ℕ). get_or number z 0) h.0, ap (λ (z : ℕ). get_or number z 0) h.1))) ∙ h.0)
+    (λ h. ap (λ t. cond t p.1 p.0)
+    (lt-ltb (get_or number p.0 0) (get_or number p.1 0)
+    (omega (arith, k.1, ap (λ (z : ℕ). get_or number z 0) h.0, ap (λ (z : ℕ). get_or number z 0) h.1))) ∙ h.1)
+    (λ h. ap (λ t. cond t p.1 p.0)
+    (le-ltb (get_or number p.0 0) (get_or number p.1 0)
+    (omega (arith, k.1, ap (λ (z : ℕ). get_or number z 0) h.0, ap (λ (z : ℕ). get_or number z 0) h.1))) ∙ h.0)
     j)
     (above_number es n number up edge x y pl lt w)
 
@@ -71,7 +84,8 @@ pub record Upright (es : List (ℕ × ℕ)) (n : ℕ) (up : List ℕ) (e : ℕ) 
   pub within : lower < n
 
 -- each edge goes down from one end to the other
-upright : (es : List (ℕ × ℕ)) (n : ℕ) (number up edge : List ℕ) (e : ℕ) → AreWithin n es → HaveNoLoop es → IsSearchForest es n number up edge → e < length es → Upright es n up e
+upright : (es : List (ℕ × ℕ)) (n : ℕ) (number up edge : List ℕ) (e : ℕ) → AreWithin n es → HaveNoLoop es
+    → IsSearchForest es n number up edge → e < length es → Upright es n up e
 upright es n number up edge e w none forest lt =
     ⊎_elim
     (λ a. record {
@@ -93,10 +107,14 @@ upright es n number up edge e w none forest lt =
     (forest.upright (2 * e) (omega arith))
   where
     joins : Joins (get_or es e (0, 0)) (start es (2 * e)) (finish es (2 * e))
-    joins = let half : 2 * e / 2 ≡ e = omega arith in subst (λ (k : ℕ). Joins (get_or es k (0, 0)) (start es (2 * e)) (finish es (2 * e))) half (dart_joins es (2 * e) (omega arith))
+    joins = let half : 2 * e / 2 ≡ e = omega arith in
+        subst (λ (k : ℕ). Joins (get_or es k (0, 0)) (start es (2 * e)) (finish es (2 * e))) half
+        (dart_joins es (2 * e) (omega arith))
 
 -- the links are within blocks
-links_in_blocks : (es : List (ℕ × ℕ)) (n : ℕ) (number up edge low : List ℕ) (links : List (ℕ × ℕ)) → AreWithin n es → HaveNoLoop es → IsSearchForest es n number up edge → AreLowPoints es n number up low → AreTreeLinks es number up edge low (length es) n links
+links_in_blocks : (es : List (ℕ × ℕ)) (n : ℕ) (number up edge low : List ℕ) (links : List (ℕ × ℕ)) → AreWithin n es
+    → HaveNoLoop es → IsSearchForest es n number up edge → AreLowPoints es n number up low
+    → AreTreeLinks es number up edge low (length es) n links
     → (p : ℕ × ℕ) → Contains links p → (p.0 < length es) × (p.1 < length es) × AreInOneBlock es p.0 p.1
 links_in_blocks es n number up edge low links w none forest lows l p c =
     ⊎_elim
@@ -116,37 +134,51 @@ links_in_blocks es n number up edge low links w none forest lows l p c =
     le : (a b : ℕ) → b < n → Above up a b → (a < n) × (num a ≤ num b)
     le a b lt k = above-le es n number up edge a b forest.placed lt k
 
-    below_edge : (e x y : ℕ) → e < length es → Joins (get_or es e (0, 0)) x y → Above up x y → (x ≡ y → ⊥) → y < n → Good (e, get_or edge y 0)
+    below_edge : (e x y : ℕ) → e < length es → Joins (get_or es e (0, 0)) x y → Above up x y → (x ≡ y → ⊥) → y < n
+        → Good (e, get_or edge y 0)
     below_edge e x y lt j a ne lty =
         ⊎_elim
         (λ root. absurd (ne (above_root up x y a root)))
         (λ h. (
           lt,
           h.edge_within,
-          (one_block_at es y e (get_or edge y 0) x (get_or up y 0) lt h.edge_within (Joins-sym (get_or es e (0, 0)) x y j) h.joined ne (λ same. omega (arith, h.lower, at (get_or up y 0) y same))).1
-              (climb_clear es n number up edge y x (get_or up y 0) forest.placed h.within (⊎_elim (λ e. absurd (ne e)) (λ k. k) (above_up up x y a)) (λ u k m same. omega (arith, h.lower, (le u (get_or up y 0) h.within m).1, at u y same))),
+          (one_block_at es y e (get_or edge y 0) x (get_or up y 0) lt h.edge_within
+              (Joins-sym (get_or es e (0, 0)) x y j) h.joined ne
+              (λ same. omega (arith, h.lower, at (get_or up y 0) y same))).1
+              (climb_clear es n number up edge y x (get_or up y 0) forest.placed h.within
+              (⊎_elim (λ e. absurd (ne e)) (λ k. k) (above_up up x y a))
+              (λ u k m same. omega (arith, h.lower, (le u (get_or up y 0) h.within m).1, at u y same))),
         ))
         (forest.placed y lty)
 
     of_edge : (e : ℕ) → e < length es → Good (edge_link es number edge e)
     of_edge e lt =
         let r : Upright es n up e = upright es n number up edge e w none forest lt in
-        subst (λ (y : ℕ). Good (e, get_or edge y 0)) (sym (deeper_end es n number up edge (get_or es e (0, 0)) r.upper r.lower forest.placed r.within r.joined r.over r.differ))
+        subst (λ (y : ℕ). Good (e, get_or edge y 0))
+        (sym (deeper_end es n number up edge
+        (get_or es e (0, 0)) r.upper r.lower forest.placed r.within r.joined r.over r.differ))
         (below_edge e r.upper r.lower lt r.joined r.over r.differ r.within)
 
     -- v hangs below u, and dart d leads from below v past u
-    past : (v d : ℕ) → v < n → Hangs es n number up edge v → d < 2 * length es → Above up v (start es d) → num (finish es d) < num (get_or up v 0) → Good (tree_link up edge v)
+    past : (v d : ℕ) → v < n → Hangs es n number up edge v → d < 2 * length es → Above up v (start es d)
+        → num (finish es d) < num (get_or up v 0) → Good (tree_link up edge v)
     past v d lt h ltd below less =
         ⊎_elim
         (λ root. absurd (differ (above_root up (finish es d) u b_u root)))
         (λ k. (
           h.edge_within,
           k.edge_within,
-          (one_block_at es u (get_or edge v 0) (get_or edge u 0) v (get_or up u 0) h.edge_within k.edge_within (Joins-sym (get_or es (get_or edge v 0) (0, 0)) v u h.joined) k.joined
-              (λ same. omega (arith, h.lower, at v u same)) (λ same. omega (arith, k.lower, at (get_or up u 0) u same))).1
-              (climb_clear es n number up edge u v (start es d) forest.placed lta below (λ x i j same. omega (arith, h.lower, (le v x (le x (start es d) lta j).0 i).1, at x u same))
-              ∙ clear_edge es u (d / 2) (start es d) (finish es d) (omega arith) (dart_joins es d ltd) (λ same. omega (arith, h.lower, (le v (start es d) lta below).1, at (start es d) u same)) differ
-              ∙ climb_clear es n number up edge u (finish es d) (get_or up u 0) forest.placed k.within (⊎_elim (λ e. absurd (differ e)) (λ i. i) (above_up up (finish es d) u b_u)) (λ x i j same. omega (arith, k.lower, (le x (get_or up u 0) k.within j).1, at x u same))),
+          (one_block_at es u (get_or edge v 0) (get_or edge u 0) v (get_or up u 0) h.edge_within k.edge_within
+              (Joins-sym (get_or es (get_or edge v 0) (0, 0)) v u h.joined) k.joined
+              (λ same. omega (arith, h.lower, at v u same))
+              (λ same. omega (arith, k.lower, at (get_or up u 0) u same))).1
+              (climb_clear es n number up edge u v (start es d) forest.placed lta below
+              (λ x i j same. omega (arith, h.lower, (le v x (le x (start es d) lta j).0 i).1, at x u same))
+              ∙ clear_edge es u (d / 2) (start es d) (finish es d) (omega arith) (dart_joins es d ltd)
+              (λ same. omega (arith, h.lower, (le v (start es d) lta below).1, at (start es d) u same)) differ
+              ∙ climb_clear es n number up edge u (finish es d) (get_or up u 0) forest.placed k.within
+              (⊎_elim (λ e. absurd (differ e)) (λ i. i) (above_up up (finish es d) u b_u))
+              (λ x i j same. omega (arith, k.lower, (le x (get_or up u 0) k.within j).1, at x u same))),
         ))
         (forest.placed u h.within)
       where
@@ -166,27 +198,38 @@ links_in_blocks es n number up edge low links w none forest lows l p c =
         not_above i = omega (arith, less, h.lower, (le v (finish es d) ltb' i).1)
 
         b_a : Above up (finish es d) (start es d)
-        b_a = ⊎_elim (λ i. absurd (not_above (Above-trans up v (start es d) (finish es d) below i))) (λ i. i) (forest.upright d ltd)
+        b_a = ⊎_elim (λ i. absurd (not_above (Above-trans up v (start es d) (finish es d) below i))) (λ i. i)
+            (forest.upright d ltd)
 
         b_v : Above up (finish es d) v
         b_v = ⊎_elim (λ i. i) (λ i. absurd (not_above i)) (above_both up (finish es d) v (start es d) b_a below)
 
         b_u : Above up (finish es d) u
-        b_u = ⊎_elim (λ e. absurd (not_above (subst (λ (z : ℕ). Above up z (finish es d)) e itself))) (λ i. i) (above_up up (finish es d) v b_v)
+        b_u = ⊎_elim (λ e. absurd (not_above (subst (λ (z : ℕ). Above up z (finish es d)) e itself))) (λ i. i)
+            (above_up up (finish es d) v b_v)
 
     of_vertex : (v : ℕ) → v < n → LeadsPast number up low v → Good (tree_link up edge v)
     of_vertex v lt leads =
         ⊎_elim
-        (λ root. let less : get_or low v 0 < num v = omega (arith, leads, at (get_or up v 0) v root) in absurd (root_bounds v lt root (lows.reached v lt less) less))
-        (λ h. let less : get_or low v 0 < num v = omega (arith, leads, h.lower) in let d = lows.reached v lt less in past v d.0 lt h d.1 d.2 (omega (arith, d.3, leads)))
+        (λ root. let less : get_or low v 0 < num v = omega (arith, leads, at (get_or up v 0) v root) in
+        absurd (root_bounds v lt root (lows.reached v lt less) less))
+        (λ h. let less : get_or low v 0 < num v = omega (arith, leads, h.lower) in let d = lows.reached v lt less in
+        past v d.0 lt h d.1 d.2 (omega (arith, d.3, leads)))
         (forest.placed v lt)
       where
-        root_bounds : (v : ℕ) → v < n → get_or up v 0 ≡ v → (d : ℕ) × (d < 2 * length es) × Above up v (start es d) × (get_or number (finish es d) 0 ≡ get_or low v 0) → get_or low v 0 < num v → ⊥
+        root_bounds : (v : ℕ) → v < n → get_or up v 0 ≡ v
+            → (d : ℕ) × (d < 2 * length es) × Above up v (start es d) × (get_or number (finish es d) 0 ≡ get_or low v 0)
+            → get_or low v 0 < num v → ⊥
         root_bounds v lt root d less =
             let within : finish es d.0 < n = finish_within n es d.0 w d.1 in
             let low_end : num (finish es d.0) < num v = omega (arith, d.3, less) in
             ⊎_elim
-            (λ i. omega (arith, low_end, (le v (finish es d.0) within (Above-trans up v (start es d.0) (finish es d.0) d.2 i)).1))
+            (λ i. omega (
+              arith,
+              low_end,
+              (le v (finish es d.0) within
+                  (Above-trans up v (start es d.0) (finish es d.0) d.2 i)).1,
+            ))
             (λ i. ⊎_elim
             (λ j. omega (arith, low_end, at (finish es d.0) v (above_root up (finish es d.0) v j root)))
             (λ j. omega (arith, low_end, (le v (finish es d.0) within j).1))
@@ -194,31 +237,50 @@ links_in_blocks es n number up edge low links w none forest lows l p c =
             (forest.upright d.0 d.1)
 
 -- the tree edges from x up to r are linked where an edge leads from x past r
-climb_links : (es : List (ℕ × ℕ)) (n : ℕ) (number up edge low : List ℕ) (links : List (ℕ × ℕ)) (bound r x : ℕ) → IsSearchForest es n number up edge → AreLowPoints es n number up low → AreTreeLinks es number up edge low (length es) n links
-    → x < n → Above up r x → get_or low x 0 ≤ bound → bound < get_or number r 0 → Connected links (get_or edge x 0) (get_or edge r 0)
+climb_links : (es : List (ℕ × ℕ)) (n : ℕ) (number up edge low : List ℕ) (links : List (ℕ × ℕ)) (bound r x : ℕ)
+    → IsSearchForest es n number up edge → AreLowPoints es n number up low
+    → AreTreeLinks es number up edge low (length es) n links
+    → x < n → Above up r x → get_or low x 0 ≤ bound → bound < get_or number r 0
+    → Connected links (get_or edge x 0) (get_or edge r 0)
 climb_links es n number up edge low links bound r x forest lows l lt itself le less = here
 climb_links es n number up edge low links bound r x forest lows l lt (child w) le less =
     ⊎_elim
-    (λ root. subst (λ (z : ℕ). Connected links (get_or edge x 0) (get_or edge z 0)) (sym (above_root up r x (child w) root)) here)
+    (λ root. subst (λ (z : ℕ). Connected links (get_or edge x 0) (get_or edge z 0))
+    (sym (above_root up r x (child w) root)) here)
     (λ h. Connected-trans links (get_or edge x 0) (get_or edge (get_or up x 0) 0) (get_or edge r 0)
-    (Connected-pair links (tree_link up edge x) (l.each_vertex x lt (omega (arith, le, less, (above-le es n number up edge r (get_or up x 0) forest.placed h.within w).1))))
-    (climb_links es n number up edge low links bound r (get_or up x 0) forest lows l h.within w (omega (arith, le, lows.rises x lt)) less))
+    (Connected-pair links (tree_link up edge x)
+    (l.each_vertex x lt (omega (
+      arith,
+      le,
+      less,
+      (above-le es n number up edge r (get_or up x 0) forest.placed h.within w).1,
+    ))))
+    (climb_links es n number up edge low links bound r (get_or up x 0) forest lows l h.within w
+    (omega (arith, le, lows.rises x lt)) less))
     (forest.placed x lt)
 
 -- h is the tree edge at v on the way to u: of the branch of v that u is in, or else of v itself
 abbrev pub Heads : List (ℕ × ℕ) → ℕ → List ℕ → List ℕ → List ℕ → ℕ → ℕ → ℕ → Type 0
-Heads es n number up edge v u h = ((b : Branch es n number up edge v u) × (get_or edge b.root 0 ≡ h)) ⊎ ((Above up v u → ⊥) × (get_or edge v 0 ≡ h))
+Heads es n number up edge v u h =
+    ((b : Branch es n number up edge v u) × (get_or edge b.root 0 ≡ h)) ⊎ ((Above up v u → ⊥) × (get_or edge v 0 ≡ h))
 
 -- edges of one block at v are connected by the links
-links_connect : (es : List (ℕ × ℕ)) (n : ℕ) (number up edge low : List ℕ) (links : List (ℕ × ℕ)) → AreWithin n es → HaveNoLoop es → IsSearchForest es n number up edge → AreLowPoints es n number up low → AreTreeLinks es number up edge low (length es) n links
-    → (v e f : ℕ) → v < n → e < length es → f < length es → Touches es v e → Touches es v f → AreInOneBlock es e f → Connected links e f
+links_connect : (es : List (ℕ × ℕ)) (n : ℕ) (number up edge low : List ℕ) (links : List (ℕ × ℕ)) → AreWithin n es
+    → HaveNoLoop es → IsSearchForest es n number up edge → AreLowPoints es n number up low
+    → AreTreeLinks es number up edge low (length es) n links
+    → (v e f : ℕ) → v < n → e < length es → f < length es → Touches es v e → Touches es v f → AreInOneBlock es e f
+    → Connected links e f
 links_connect es n number up edge low links w none forest lows l v e f ltv lte ltf te tf block =
     let x = far e te in
     let y = far f tf in
     let a = first e x.0 lte x.1 in
     let b = first f y.0 ltf y.1 in
-    let c = walk x.0 y.0 e a (connected_labels (without_vertex v es) x.0 y.0 ((one_block_at es v e f x.0 y.0 lte ltf x.1 y.1 (ends_differ es e v x.0 none lte x.1) (ends_differ es f v y.0 none ltf y.1)).0 block)) in
-    Connected-trans links e c.0 f c.2 (subst (λ (h : ℕ). Connected links h f) (one_head y.0 b.0 c.0 (other_within f y.0 ltf y.1) b.1 c.1) (Connected-sym links f b.0 b.2))
+    let c = walk x.0 y.0 e a (connected_labels (without_vertex v es) x.0 y.0
+    ((one_block_at es v e f x.0 y.0 lte ltf x.1 y.1 (ends_differ es e v x.0 none lte x.1)
+    (ends_differ es f v y.0 none ltf y.1)).0 block)) in
+    Connected-trans links e c.0 f c.2
+    (subst (λ (h : ℕ). Connected links h f) (one_head y.0 b.0 c.0 (other_within f y.0 ltf y.1) b.1 c.1)
+    (Connected-sym links f b.0 b.2))
   where
     num : ℕ → ℕ
     num u = get_or number u 0
@@ -253,7 +315,9 @@ links_connect es n number up edge low links w none forest lows l v e f ltv lte l
     one_head u h k lt p q =
         ⊎_elim
         (λ b. ⊎_elim
-        (λ c. sym b.1 ∙ ap (λ (z : ℕ). get_or edge z 0) (⊎_elim (λ i. same_root u b.0 c.0 i) (λ i. sym (same_root u c.0 b.0 i)) (above_both up b.0.root c.0.root u b.0.over c.0.over)) ∙ c.1)
+        (λ c. sym b.1 ∙ ap (λ (z : ℕ). get_or edge z 0)
+        (⊎_elim (λ i. same_root u b.0 c.0 i) (λ i. sym (same_root u c.0 b.0 i))
+        (above_both up b.0.root c.0.root u b.0.over c.0.over)) ∙ c.1)
         (λ c. absurd (c.0 (above_v u b.0)))
         q)
         (λ b. ⊎_elim
@@ -263,35 +327,76 @@ links_connect es n number up edge low links w none forest lows l v e f ltv lte l
         p
 
     -- the tree edges of v and of a branch of v are linked where an edge leads from the branch past v
-    past : (b a : ℕ) (p : ℕ × ℕ) (r : Branch es n number up edge v b) → b < n → Contains es p → Joins p b a → num a < num v → Connected links (get_or edge r.root 0) (get_or edge v 0)
+    past : (b a : ℕ) (p : ℕ × ℕ) (r : Branch es n number up edge v b) → b < n → Contains es p → Joins p b a
+        → num a < num v → Connected links (get_or edge r.root 0) (get_or edge v 0)
     past b a p r ltb c j less =
         let d = dart_of es p b a c j in
-        let low_b : get_or low b 0 ≤ num a = omega (arith, lows.darts d.0 d.1, ap (λ (z : ℕ). get_or low z 0) d.2, at (finish es d.0) a d.3) in
-        let leads : LeadsPast number up low r.root = omega (arith, low_b, less, low_above es n number up edge low r.root b forest.placed lows ltb r.over, at (get_or up r.root 0) v r.parent) in
-        subst (λ (z : ℕ). Connected links (get_or edge r.root 0) (get_or edge z 0)) r.parent (Connected-pair links (tree_link up edge r.root) (l.each_vertex r.root r.within leads))
+        let low_b : get_or low b 0 ≤ num a =
+        omega (arith, lows.darts d.0 d.1, ap (λ (z : ℕ). get_or low z 0) d.2, at (finish es d.0) a d.3) in
+        let leads : LeadsPast number up low r.root =
+        omega (
+          arith,
+          low_b,
+          less,
+          low_above es n number up edge low r.root b forest.placed lows ltb r.over,
+          at
+              (get_or up r.root 0) v r.parent,
+        ) in
+        subst (λ (z : ℕ). Connected links (get_or edge r.root 0) (get_or edge z 0)) r.parent
+        (Connected-pair links (tree_link up edge r.root) (l.each_vertex r.root r.within leads))
 
     -- the tree edges at v on the way to the ends of an edge that v does not touch are linked
-    pairs : (a b : ℕ) (p : ℕ × ℕ) → a < n → b < n → (a ≡ v → ⊥) → (b ≡ v → ⊥) → Contains es p → Joins p b a → Above up a b → (h : ℕ) × (k : ℕ) × Head a h × Head b k × Connected links h k
+    pairs : (a b : ℕ) (p : ℕ × ℕ) → a < n → b < n → (a ≡ v → ⊥) → (b ≡ v → ⊥) → Contains es p → Joins p b a
+        → Above up a b → (h : ℕ) × (k : ℕ) × Head a h × Head b k × Connected links h k
     pairs a b p lta ltb na nb c j ab =
         ⊎_elim
-        (λ va. let r : Branch es n number up edge v a = branch es n number up edge v a forest.placed lta va na in
-        (get_or edge r.root 0, get_or edge r.root 0, inl (r, refl), inl (record { root = r.root; within = r.within; parent = r.parent; hangs = r.hangs; over = Above-trans up r.root a b r.over ab }, refl), here))
+        (λ va. let r : Branch es n number up edge v a = branch es n number up edge v a forest.placed lta va na in (
+          get_or edge r.root 0,
+          get_or edge r.root 0,
+          inl (r, refl),
+          inl (
+            record {
+              root = r.root;
+              within = r.within;
+              parent = r.parent;
+              hangs = r.hangs;
+              over =
+                  Above-trans up r.root a b r.over ab;
+            },
+            refl,
+          ),
+          here,
+        ))
         (λ va. ⊎_elim
-        (λ vb. let r : Branch es n number up edge v b = branch es n number up edge v b forest.placed ltb vb nb in
-        (get_or edge v 0, get_or edge r.root 0, inr (va, refl), inl (r, refl), Connected-sym links (get_or edge r.root 0) (get_or edge v 0) (past b a p r ltb c j (⊎_elim (λ i. lower a v ltv i na) (λ i. absurd (va i)) (above_both up a v b ab vb)))))
+        (λ vb. let r : Branch es n number up edge v b = branch es n number up edge v b forest.placed ltb vb nb in (
+          get_or edge v 0,
+          get_or edge r.root 0,
+          inr (va, refl),
+          inl (r, refl),
+          Connected-sym links
+              (get_or edge r.root 0) (get_or edge v 0)
+              (past b a p r ltb c j (⊎_elim (λ i. lower a v ltv i na) (λ i. absurd (va i)) (above_both up a v b ab vb))),
+        ))
         (λ vb. (get_or edge v 0, get_or edge v 0, inr (va, refl), inr (vb, refl), here))
         (above_cases es n number up edge v b forest.placed ltb))
         (above_cases es n number up edge v a forest.placed lta)
 
     -- a step from u to z that v does not touch
-    go : (u z h : ℕ) (p : ℕ × ℕ) → (u ≡ v → ⊥) → (z ≡ v → ⊥) → Contains es p → Joins p u z → Head u h → (k : ℕ) × Head z k × Connected links h k
+    go : (u z h : ℕ) (p : ℕ × ℕ) → (u ≡ v → ⊥) → (z ≡ v → ⊥) → Contains es p → Joins p u z → Head u h
+        → (k : ℕ) × Head z k × Connected links h k
     go u z h p nu nz c j head =
         let d = dart_of es p u z c j in
         ⊎_elim
-        (λ i. let q = pairs u z p ltu ltz nu nz c (Joins-sym p u z j) (subst (λ (t : ℕ). Above up t z) d.2 (subst (Above up (start es d.0)) d.3 i)) in
+        (λ i. let q = pairs u z p ltu ltz nu nz c (Joins-sym p u z j)
+        (subst (λ (t : ℕ). Above up t z) d.2 (subst (Above up (start es d.0)) d.3 i)) in
         (q.1, q.3, subst (λ (t : ℕ). Connected links t q.1) (one_head u q.0 h ltu q.2 head) q.4))
-        (λ i. let q = pairs z u p ltz ltu nz nu c j (subst (λ (t : ℕ). Above up t u) d.3 (subst (Above up (finish es d.0)) d.2 i)) in
-        (q.0, q.2, subst (λ (t : ℕ). Connected links t q.0) (one_head u q.1 h ltu q.3 head) (Connected-sym links q.0 q.1 q.4)))
+        (λ i. let q = pairs z u p ltz ltu nz nu c j
+        (subst (λ (t : ℕ). Above up t u) d.3 (subst (Above up (finish es d.0)) d.2 i)) in (
+          q.0,
+          q.2,
+          subst (λ (t : ℕ). Connected links t q.0) (one_head u q.1 h ltu q.3 head)
+              (Connected-sym links q.0 q.1 q.4),
+        ))
         (forest.upright d.0 d.1)
       where
         ltu : u < n
@@ -300,7 +405,8 @@ links_connect es n number up edge low links w none forest lows l v e f ltv lte l
         ltz : z < n
         ltz = within_joined n es p u z w c j
 
-    walk : (x y g : ℕ) → (h : ℕ) × Head x h × Connected links g h → Connected (without_vertex v es) x y → (h : ℕ) × Head y h × Connected links g h
+    walk : (x y g : ℕ) → (h : ℕ) × Head x h × Connected links g h → Connected (without_vertex v es) x y
+        → (h : ℕ) × Head y h × Connected links g h
     walk x y g s here = s
     walk x y g s (step {y = u} k p c j) =
         let t = walk x u g s k in
@@ -315,7 +421,8 @@ links_connect es n number up edge low links w none forest lows l v e f ltv lte l
     other_within g x lt j = within_joined n es (get_or es g (0, 0)) v x w (Contains-at es g lt) j
 
     linked_to : (g y : ℕ) → g < length es → deeper number (get_or es g (0, 0)) ≡ y → Connected links g (get_or edge y 0)
-    linked_to g y lt e = subst (λ (z : ℕ). Connected links g (get_or edge z 0)) e (Connected-pair links (edge_link es number edge g) (l.each_edge g lt))
+    linked_to g y lt e = subst (λ (z : ℕ). Connected links g (get_or edge z 0)) e
+        (Connected-pair links (edge_link es number edge g) (l.each_edge g lt))
 
     -- an edge at v is linked to the tree edge at v on the way to its other end
     first : (g x : ℕ) → g < length es → Joins (get_or es g (0, 0)) v x → (h : ℕ) × Head x h × Connected links g h
@@ -333,22 +440,34 @@ links_connect es n number up edge low links w none forest lows l v e f ltv lte l
         ltx = other_within g x lt j
 
         rise : Above up x v → (h : ℕ) × Head x h × Connected links g h
-        rise a = (get_or edge v 0, inr (λ b. omega (arith, lower x v ltv a differ, le v x ltx b), refl), linked_to g v lt (deeper_end es n number up edge (get_or es g (0, 0)) x v forest.placed ltv (Joins-sym (get_or es g (0, 0)) v x j) a differ))
+        rise a = (
+          get_or edge v 0,
+          inr
+              (λ b. omega (arith, lower x v ltv a differ, le v x ltx b), refl),
+          linked_to g v lt
+              (deeper_end es n number up edge (get_or es g (0, 0)) x v forest.placed ltv
+              (Joins-sym (get_or es g (0, 0)) v x j) a differ),
+        )
 
         down : Above up v x → (h : ℕ) × Head x h × Connected links g h
         down a =
             let r : Branch es n number up edge v x = branch es n number up edge v x forest.placed ltx a differ in
             let d = dart_of es (get_or es g (0, 0)) x v (Contains-at es g lt) (Joins-sym (get_or es g (0, 0)) v x j) in
-            let low_x : get_or low x 0 ≤ num v = omega (arith, lows.darts d.0 d.1, ap (λ (z : ℕ). get_or low z 0) d.2, at (finish es d.0) v d.3) in (
+            let low_x : get_or low x 0 ≤ num v =
+            omega (arith, lows.darts d.0 d.1, ap (λ (z : ℕ). get_or low z 0) d.2, at (finish es d.0) v d.3) in (
               get_or edge r.root 0,
               inl (r, refl),
               Connected-trans links g (get_or edge x 0) (get_or edge r.root 0)
-                  (linked_to g x lt (deeper_end es n number up edge (get_or es g (0, 0)) v x forest.placed ltx j a (λ same. differ (sym same))))
-                  (climb_links es n number up edge low links (num v) r.root x forest lows l ltx r.over low_x (over_v x r)),
+                  (linked_to g x lt (deeper_end es n number up edge (get_or es g (0, 0)) v x forest.placed ltx j a
+                  (λ same. differ (sym same))))
+                  (climb_links es n number up edge low links (num v) r.root x forest lows l ltx r.over low_x
+                  (over_v x r)),
             )
 
 -- the links of a search forest are block links
-tree_links : (es : List (ℕ × ℕ)) (n : ℕ) (number up edge low : List ℕ) (links : List (ℕ × ℕ)) → AreWithin n es → HaveNoLoop es → IsSearchForest es n number up edge → AreLowPoints es n number up low → AreTreeLinks es number up edge low (length es) n links → AreBlockLinks es n links
+tree_links : (es : List (ℕ × ℕ)) (n : ℕ) (number up edge low : List ℕ) (links : List (ℕ × ℕ)) → AreWithin n es
+    → HaveNoLoop es → IsSearchForest es n number up edge → AreLowPoints es n number up low
+    → AreTreeLinks es number up edge low (length es) n links → AreBlockLinks es n links
 tree_links es n number up edge low links w none forest lows l = record {
   within = links_in_blocks es n number up edge low links w none forest lows l;
   connects = links_connect es n number up edge low links w none forest lows l;
@@ -356,33 +475,47 @@ tree_links es n number up edge low links w none forest lows l = record {
 
 -- what a list with one more item contains
 contains_last : {X : Type 0} (xs : List X) (x y : X) → Contains (xs ++ x ∷ []) y → Contains xs y ⊎ (x ≡ y)
-contains_last xs x y c = ⊎_elim (λ l. inl l) (λ r. ⊎_elim (λ e. inr e) (λ n. absurd (omega (arith, n.1))) (Contains-split x y [] r)) (Contains-append_cases xs (x ∷ []) y c)
+contains_last xs x y c = ⊎_elim (λ l. inl l)
+    (λ r. ⊎_elim (λ e. inr e) (λ n. absurd (omega (arith, n.1))) (Contains-split x y [] r))
+    (Contains-append_cases xs (x ∷ []) y c)
 
 -- one edge more is linked
-AreEdgeLinks-more : (es : List (ℕ × ℕ)) (number edge : List ℕ) (edges : ℕ) (links more : List (ℕ × ℕ)) → AreEdgeLinks es number edge edges links → more ≡ links ++ edge_link es number edge edges ∷ [] → AreEdgeLinks es number edge (edges + 1) more
-AreEdgeLinks-more es number edge edges links more l is = subst (AreEdgeLinks es number edge (edges + 1)) (sym is) (record {
-  each = λ e lt. ⊎_elim
-      (λ same. Contains-append_right links (edge_link es number edge edges ∷ []) (edge_link es number edge e) (subst (λ (k : ℕ). Contains (edge_link es number edge edges ∷ []) (edge_link es number edge k)) (sym same) (Contains-head (edge_link es number edge edges) [])))
-      (λ ne. Contains-append_left links (edge_link es number edge edges ∷ []) (edge_link es number edge e) (l.each e (omega arith)))
-      (cases_eq e edges);
-  only = λ p c. ⊎_elim (λ o. let h = l.only p o in (h.0, omega (arith, h.1), h.2)) (λ e. (edges, omega arith, e)) (contains_last links (edge_link es number edge edges) p c);
-})
+AreEdgeLinks-more : (es : List (ℕ × ℕ)) (number edge : List ℕ) (edges : ℕ) (links more : List (ℕ × ℕ))
+    → AreEdgeLinks es number edge edges links → more ≡ links ++ edge_link es number edge edges ∷ []
+    → AreEdgeLinks es number edge (edges + 1) more
+AreEdgeLinks-more es number edge edges links more l is =
+    subst (AreEdgeLinks es number edge (edges + 1)) (sym is) (record {
+      each = λ e lt. ⊎_elim
+          (λ same. Contains-append_right links (edge_link es number edge edges ∷ []) (edge_link es number edge e)
+          (subst (λ (k : ℕ). Contains (edge_link es number edge edges ∷ []) (edge_link es number edge k)) (sym same)
+          (Contains-head (edge_link es number edge edges) [])))
+          (λ ne. Contains-append_left links (edge_link es number edge edges ∷ []) (edge_link es number edge e)
+          (l.each e (omega arith)))
+          (cases_eq e edges);
+      only = λ p c. ⊎_elim (λ o. let h = l.only p o in (h.0, omega (arith, h.1), h.2)) (λ e. (edges, omega arith, e))
+          (contains_last links (edge_link es number edge edges) p c);
+    })
 
 -- one vertex more is linked, where it leads past the one above it
-pub AddsTreeLinks-more : (number up edge low : List ℕ) (vertices : ℕ) (before links more : List (ℕ × ℕ)) → AddsTreeLinks number up edge low vertices before links → LinksUp number up edge low vertices links more → AddsTreeLinks number up edge low (vertices + 1) before more
+pub AddsTreeLinks-more : (number up edge low : List ℕ) (vertices : ℕ) (before links more : List (ℕ × ℕ))
+    → AddsTreeLinks number up edge low vertices before links → LinksUp number up edge low vertices links more
+    → AddsTreeLinks number up edge low (vertices + 1) before more
 AddsTreeLinks-more number up edge low vertices before links more l linked =
     ⊎_elim
     (λ yes. subst (AddsTreeLinks number up edge low (vertices + 1) before) (sym yes.1) (record {
       kept = λ p c. Contains-append_left links (link ∷ []) p (l.kept p c);
       each = λ v lt leads. ⊎_elim
-          (λ same. Contains-append_right links (link ∷ []) (tree_link up edge v) (subst (λ (k : ℕ). Contains (link ∷ []) (tree_link up edge k)) (sym same) (Contains-head link [])))
+          (λ same. Contains-append_right links (link ∷ []) (tree_link up edge v)
+          (subst (λ (k : ℕ). Contains (link ∷ []) (tree_link up edge k)) (sym same) (Contains-head link [])))
           (λ ne. Contains-append_left links (link ∷ []) (tree_link up edge v) (l.each v (omega arith) leads))
           (cases_eq v vertices);
-      only = λ p c. ⊎_elim (λ o. older p (l.only p o)) (λ e. inr (vertices, omega arith, yes.0, e)) (contains_last links link p c);
+      only = λ p c. ⊎_elim (λ o. older p (l.only p o)) (λ e. inr (vertices, omega arith, yes.0, e))
+          (contains_last links link p c);
     }))
     (λ no. subst (AddsTreeLinks number up edge low (vertices + 1) before) (sym no.1) (record {
       kept = l.kept;
-      each = λ v lt leads. ⊎_elim (λ same. absurd (no.0 (subst (LeadsPast number up low) same leads))) (λ ne. l.each v (omega arith) leads) (cases_eq v vertices);
+      each = λ v lt leads. ⊎_elim (λ same. absurd (no.0 (subst (LeadsPast number up low) same leads)))
+          (λ ne. l.each v (omega arith) leads) (cases_eq v vertices);
       only = λ p c. older p (l.only p c);
     }))
     linked
@@ -390,46 +523,69 @@ AddsTreeLinks-more number up edge low vertices before links more l linked =
     link : ℕ × ℕ
     link = tree_link up edge vertices
 
-    older : (p : ℕ × ℕ) → Contains before p ⊎ ((v : ℕ) × (v < vertices) × LeadsPast number up low v × (tree_link up edge v ≡ p)) → Contains before p ⊎ ((v : ℕ) × (v < vertices + 1) × LeadsPast number up low v × (tree_link up edge v ≡ p))
+    older : (p : ℕ × ℕ) → Contains before p
+        ⊎ ((v : ℕ) × (v < vertices) × LeadsPast number up low v × (tree_link up edge v ≡ p)) → Contains before p
+        ⊎ ((v : ℕ) × (v < vertices + 1) × LeadsPast number up low v × (tree_link up edge v ≡ p))
     older p o = ⊎_elim (λ b. inl b) (λ h. inr (h.0, omega (arith, h.1), h.2, h.3)) o
 
 -- the links of all edges and vertices are block links
-pub all_links : (es : List (ℕ × ℕ)) (n : ℕ) (number up edge low : List ℕ) (before links : List (ℕ × ℕ)) → AreWithin n es → HaveNoLoop es → IsSearchForest es n number up edge → AreLowPoints es n number up low → AreEdgeLinks es number edge (length es) before → AddsTreeLinks number up edge low n before links → AreBlockLinks es n links
-all_links es n number up edge low before links w none forest lows first more = tree_links es n number up edge low links w none forest lows (record {
-  each_edge = λ e lt. more.kept (edge_link es number edge e) (first.each e lt);
-  each_vertex = more.each;
-  only = λ p c. ⊎_elim (λ b. inl (first.only p b)) (λ h. inr h) (more.only p c);
-})
+pub all_links : (es : List (ℕ × ℕ)) (n : ℕ) (number up edge low : List ℕ) (before links : List (ℕ × ℕ)) → AreWithin n es
+    → HaveNoLoop es → IsSearchForest es n number up edge → AreLowPoints es n number up low
+    → AreEdgeLinks es number edge (length es) before → AddsTreeLinks number up edge low n before links
+    → AreBlockLinks es n links
+all_links es n number up edge low before links w none forest lows first more =
+    tree_links es n number up edge low links w none forest lows (record {
+      each_edge = λ e lt. more.kept (edge_link es number edge e) (first.each e lt);
+      each_vertex = more.each;
+      only = λ p c. ⊎_elim (λ b. inl (first.only p b)) (λ h. inr h) (more.only p c);
+    })
 
 -- the vertex above a vertex is a vertex
-pub parent_within : (es : List (ℕ × ℕ)) (n : ℕ) (number up edge : List ℕ) (v : ℕ) → IsSearchForest es n number up edge → v < n → get_or up v 0 < n
-parent_within es n number up edge v forest lt = ⊎_elim (λ root. omega (arith, root)) (λ h. h.within) (forest.placed v lt)
+pub parent_within : (es : List (ℕ × ℕ)) (n : ℕ) (number up edge : List ℕ) (v : ℕ) → IsSearchForest es n number up edge
+    → v < n → get_or up v 0 < n
+parent_within es n number up edge v forest lt =
+    ⊎_elim (λ root. omega (arith, root)) (λ h. h.within) (forest.placed v lt)
 
 -- the deeper end is one of the ends
 deeper_within : (n : ℕ) (number : List ℕ) (p : ℕ × ℕ) → p.0 < n → p.1 < n → deeper number p < n
 deeper_within n number p first second =
     ⊎_elim
-    (λ lt. subst (λ (z : ℕ). z < n) (sym (ap (λ t. cond t p.1 p.0) (lt-ltb (get_or number p.0 0) (get_or number p.1 0) lt))) second)
-    (λ ge. subst (λ (z : ℕ). z < n) (sym (ap (λ t. cond t p.1 p.0) (le-ltb (get_or number p.0 0) (get_or number p.1 0) ge))) first)
+    (λ lt. subst (λ (z : ℕ). z < n)
+    (sym (ap (λ t. cond t p.1 p.0) (lt-ltb (get_or number p.0 0) (get_or number p.1 0) lt))) second)
+    (λ ge. subst (λ (z : ℕ). z < n)
+    (sym (ap (λ t. cond t p.1 p.0) (le-ltb (get_or number p.0 0) (get_or number p.1 0) ge))) first)
     (cases_lt (get_or number p.0 0) (get_or number p.1 0))
 
 -- one edge more is linked, as a program reads it
-pub edge_step : (es : List (ℕ × ℕ)) (number edge seen : List ℕ) (edges vertex value : ℕ) (links more : List (ℕ × ℕ)) → AreWithin (length number) es → length edge ≡ length number → edges < length es → AreEdgeLinks es number edge edges links
-    → seen ≡ number → vertex ≡ deeper seen (get_or es edges (0, 0)) → value ≡ get_or edge vertex value → more ≡ links ++ (edges, value) ∷ [] → AreEdgeLinks es number edge (edges + 1) more
+pub edge_step : (es : List (ℕ × ℕ)) (number edge seen : List ℕ) (edges vertex value : ℕ) (links more : List (ℕ × ℕ))
+    → AreWithin (length number) es → length edge ≡ length number → edges < length es
+    → AreEdgeLinks es number edge edges links
+    → seen ≡ number → vertex ≡ deeper seen (get_or es edges (0, 0)) → value ≡ get_or edge vertex value
+    → more ≡ links ++ (edges, value) ∷ [] → AreEdgeLinks es number edge (edges + 1) more
 edge_step es number edge seen edges vertex value links more w size lt l seen_is vertex_is value_is more_is =
     let pair = w edges lt in
-    let at : vertex ≡ deeper number (get_or es edges (0, 0)) = vertex_is ∙ ap (λ (xs : List ℕ). deeper xs (get_or es edges (0, 0))) seen_is in
-    let within : vertex < length edge = omega (arith, size, at, deeper_within (length number) number (get_or es edges (0, 0)) pair.0 pair.1) in
-    let read : value ≡ get_or edge (deeper number (get_or es edges (0, 0))) 0 = get_or_read edge vertex value within value_is 0 ∙ ap (λ (k : ℕ). get_or edge k 0) at in
+    let at : vertex ≡ deeper number (get_or es edges (0, 0)) = vertex_is
+    ∙ ap (λ (xs : List ℕ). deeper xs (get_or es edges (0, 0))) seen_is in
+    let within : vertex < length edge =
+    omega (arith, size, at, deeper_within (length number) number (get_or es edges (0, 0)) pair.0 pair.1) in
+    let read : value ≡ get_or edge (deeper number (get_or es edges (0, 0))) 0 =
+    get_or_read edge vertex value within value_is 0 ∙ ap (λ (k : ℕ). get_or edge k 0) at in
     AreEdgeLinks-more es number edge edges links more l (more_is ∙ ap (λ (k : ℕ). links ++ (edges, k) ∷ []) read)
 
 -- the same, as a program reads the graph and the lists
-pub read_links : (es read : List (ℕ × ℕ)) (n m k : ℕ) (number up edge low seen : List ℕ) (before links : List (ℕ × ℕ)) → read ≡ es → m ≡ n → k ≡ n → seen ≡ low → AreWithin n es → HaveNoLoop es
-    → IsSearchForest read m number up edge → AreLowPoints read k number up low → AreEdgeLinks read number edge (length read) before → AddsTreeLinks number up edge seen (length seen) before links → AreBlockLinks es n links
+pub read_links : (es read : List (ℕ × ℕ)) (n m k : ℕ) (number up edge low seen : List ℕ) (before links : List (ℕ × ℕ))
+    → read ≡ es → m ≡ n → k ≡ n → seen ≡ low → AreWithin n es → HaveNoLoop es
+    → IsSearchForest read m number up edge → AreLowPoints read k number up low
+    → AreEdgeLinks read number edge (length read) before → AddsTreeLinks number up edge seen (length seen) before links
+    → AreBlockLinks es n links
 read_links es read n m k number up edge low seen before links read_is m_is k_is seen_is w none forest lows first more =
-    let found : AreLowPoints es n number up low = subst (λ (j : ℕ). AreLowPoints es j number up low) k_is (subst (λ (fs : List (ℕ × ℕ)). AreLowPoints fs k number up low) read_is lows) in
+    let found : AreLowPoints es n number up low =
+    subst (λ (j : ℕ). AreLowPoints es j number up low) k_is
+    (subst (λ (fs : List (ℕ × ℕ)). AreLowPoints fs k number up low) read_is lows) in
     all_links es n number up edge low before links w none
-    (subst (λ (j : ℕ). IsSearchForest es j number up edge) m_is (subst (λ (fs : List (ℕ × ℕ)). IsSearchForest fs m number up edge) read_is forest))
+    (subst (λ (j : ℕ). IsSearchForest es j number up edge) m_is
+    (subst (λ (fs : List (ℕ × ℕ)). IsSearchForest fs m number up edge) read_is forest))
     found
     (subst (λ (fs : List (ℕ × ℕ)). AreEdgeLinks fs number edge (length fs) before) read_is first)
-    (subst (λ (j : ℕ). AddsTreeLinks number up edge low j before links) found.each (subst (λ (xs : List ℕ). AddsTreeLinks number up edge xs (length xs) before links) seen_is more))
+    (subst (λ (j : ℕ). AddsTreeLinks number up edge low j before links) found.each
+    (subst (λ (xs : List ℕ). AddsTreeLinks number up edge xs (length xs) before links) seen_is more))

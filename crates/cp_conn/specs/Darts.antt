@@ -15,7 +15,8 @@ pub record IsEntry (ends : List (ℕ × ℕ)) (v bound entry : ℕ) : Type 0 whe
   pub starts : (d : ℕ) → suc d ≡ entry → start ends d ≡ v
   pub highest : (d : ℕ) → entry ≤ d → d < bound → start ends d ≡ v → ⊥
 
--- the darts below bound are chained by their start vertices: from the entry of a vertex, and from each of its darts to the next lower
+-- the darts below bound are chained by their start vertices: from the entry of a vertex, and from each of its darts to
+-- the next lower
 pub record AreChained (vertices : ℕ) (ends : List (ℕ × ℕ)) (bound : ℕ) (entries lower : List ℕ) : Type 0 where
   pub entry_each : length entries ≡ vertices
   pub lower_each : length lower ≡ bound

@@ -16,7 +16,8 @@ pub record IsGrown (es : List (ℕ × ℕ)) (n : ℕ) (number up edge order : Li
   pub number_each : length number ≡ n
   pub up_each : length up ≡ n
   pub edge_each : length edge ≡ n
-  pub ordered : (v : ℕ) → v < n → slice_index number v < n → (slice_index number v < length order) × (slice_index order (slice_index number v) ≡ v)
+  pub ordered : (v : ℕ) → v < n → slice_index number v < n
+      → (slice_index number v < length order) × (slice_index order (slice_index number v) ≡ v)
   pub numbered : (i : ℕ) → i < length order → (slice_index order i < n) × (slice_index number (slice_index order i) ≡ i)
   pub all : length order + count n (is_unmet n number) ≡ n
   pub placed : (v : ℕ) → v < n → slice_index number v < n → IsPlacedBelow es n number up edge v
@@ -26,7 +27,8 @@ pub record AreFollowed (es : List (ℕ × ℕ)) (n : ℕ) (number up next : List
   pub next_each : length next ≡ n
   pub entries : (v : ℕ) → v < n → slice_index next v ≤ 2 * length es
   pub starts : (v d : ℕ) → v < n → suc d ≡ slice_index next v → start es d ≡ v
-  pub met : (d : ℕ) → d < 2 * length es → slice_index next (start es d) ≤ d → (slice_index number (start es d) < n) × (slice_index number (finish es d) < n) × IsUpright es up d
+  pub met : (d : ℕ) → d < 2 * length es → slice_index next (start es d) ≤ d
+      → (slice_index number (start es d) < n) × (slice_index number (finish es d) < n) × IsUpright es up d
 
 -- the search stands at a vertex: all darts of the other vertices that were met and are not above it were followed
 pub record StandsAt (es : List (ℕ × ℕ)) (n : ℕ) (number up edge order next : List ℕ) (now : ℕ) : Type 0 where
@@ -48,7 +50,8 @@ StayMet n before after = (v : ℕ) → v < n → slice_index before v < n → sl
 
 -- the order is as it was, or goes on with further vertices
 abbrev pub IsFurther : List ℕ → List ℕ → Type 0
-IsFurther order longer = (length order ≤ length longer) × ((i : ℕ) → i < length order → slice_index longer i ≡ slice_index order i)
+IsFurther order longer = (length order ≤ length longer) × ((i : ℕ) → i < length order → slice_index longer
+    i ≡ slice_index order i)
 
 -- fewer darts are left, or as many and the search stands at a lower number
 abbrev pub IsNearer : List ℕ → ℕ → List ℕ → ℕ → Type 0

@@ -10,3 +10,6 @@ pub mod LowPoints
 pub mod TreeLinks
 pub mod Deepening
 pub mod SearchTree
+pub mod NamedGraphs
+pub mod Bonds
+pub mod Removed

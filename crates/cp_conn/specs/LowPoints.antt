@@ -5,7 +5,8 @@ use Rattle.cp_conn.specs.SearchForest.{Above}
 
 -- some edge leads to number k from v or from a vertex below it
 abbrev pub IsReached : List (ℕ × ℕ) → List ℕ → List ℕ → ℕ → ℕ → Type 0
-IsReached es number up v k = (d : ℕ) × (d < 2 * length es) × Above up v (start es d) × (slice_index number (finish es d) ≡ k)
+IsReached es number up v k = (d : ℕ) × (d < 2 * length es) × Above up v
+    (start es d) × (slice_index number (finish es d) ≡ k)
 
 -- low points: from a vertex or from one below it no edge leads to a lower number than its low point,
 -- and some edge leads to that where it is lower than the vertex
@@ -13,12 +14,14 @@ pub record AreLowPoints (es : List (ℕ × ℕ)) (n : ℕ) (number up low : List
   pub each : length low ≡ n
   pub darts : (d : ℕ) → d < 2 * length es → slice_index low (start es d) ≤ slice_index number (finish es d)
   pub rises : (v : ℕ) → v < n → slice_index low (slice_index up v) ≤ slice_index low v
-  pub reached : (v : ℕ) → v < n → slice_index low v < slice_index number v → IsReached es number up v (slice_index low v)
+  pub reached : (v : ℕ) → v < n → slice_index low v < slice_index number v
+      → IsReached es number up v (slice_index low v)
 
 -- each low point that is lower than its vertex is reached
 pub record AreReached (es : List (ℕ × ℕ)) (n : ℕ) (number up low : List ℕ) : Type 0 where
   pub each : length low ≡ n
-  pub reached : (v : ℕ) → v < n → slice_index low v < slice_index number v → IsReached es number up v (slice_index low v)
+  pub reached : (v : ℕ) → v < n → slice_index low v < slice_index number v
+      → IsReached es number up v (slice_index low v)
 
 -- the first darts lead to no lower number than the low point of their vertex
 abbrev pub AreLow : List (ℕ × ℕ) → List ℕ → List ℕ → ℕ → Type 0

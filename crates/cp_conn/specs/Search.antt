@@ -31,7 +31,7 @@ abbrev pub places : ℕ → List ℕ → List ℕ → ℕ
 places n least queue = length queue + count n (is_unmet n least)
 
 -- the search went on: what was met stays met, and the queue is longer or as it was
-pub record GoesOn (es : List (ℕ × ℕ)) (n : ℕ) (least queue more longer : List ℕ) : Type 0 where
+pub record HasGoneOn (es : List (ℕ × ℕ)) (n : ℕ) (least queue more longer : List ℕ) : Type 0 where
   pub met : AreMet es n more longer
   pub stays : (x : ℕ) → x < n → slice_index least x < n → slice_index more x < n
   pub longer_by : length queue ≤ length longer

@@ -27,8 +27,11 @@ pub record AreEdgeLinks (es : List (ℕ × ℕ)) (number edge : List ℕ) (edges
 pub record AddsTreeLinks (number up edge low : List ℕ) (vertices : ℕ) (before links : List (ℕ × ℕ)) : Type 0 where
   pub kept : (p : ℕ × ℕ) → Contains before p → Contains links p
   pub each : (v : ℕ) → v < vertices → LeadsPast number up low v → Contains links (tree_link up edge v)
-  pub only : (p : ℕ × ℕ) → Contains links p → Contains before p ⊎ ((v : ℕ) × (v < vertices) × LeadsPast number up low v × (tree_link up edge v ≡ p))
+  pub only : (p : ℕ × ℕ) → Contains links p → Contains before p
+      ⊎ ((v : ℕ) × (v < vertices) × LeadsPast number up low v × (tree_link up edge v ≡ p))
 
 -- the link of v with the vertex above it is added, where v leads past that one
 abbrev pub LinksUp : List ℕ → List ℕ → List ℕ → List ℕ → ℕ → List (ℕ × ℕ) → List (ℕ × ℕ) → Type 0
-LinksUp number up edge low v before links = (LeadsPast number up low v × (links ≡ before ++ tree_link up edge v ∷ [])) ⊎ ((LeadsPast number up low v → ⊥) × (links ≡ before))
+LinksUp number up edge low v before links =
+    (LeadsPast number up low v × (links ≡ before ++ tree_link up edge v ∷ [])) ⊎ ((LeadsPast number up low v
+    → ⊥) × (links ≡ before))

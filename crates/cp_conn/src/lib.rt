@@ -15,7 +15,7 @@ mod search;
 mod search_forest;
 
 pub use block_numbers::blocks;
-pub use component_numbers::components;
+pub use component_numbers::{components, components_without};
 pub use cut_vertex::is_cut_vertex;
 pub use edge_blocks::{EdgeParts, edges_by_block};
 pub use rooted_search::{SearchTree, search_tree};

@@ -3,7 +3,7 @@ ghost use Rattle.std.specs.Prelude.{◌≡◌, ℕ, ◌+◌, ◌*◌, ◌<◌, �
 ghost use Rattle.cp_base.specs.Graphs.{AreWithin};
 ghost use Rattle.cp_orbits.specs.Classes.{labels};
 ghost use Rattle.cp_conn.specs.Darts.{start, finish, AreChained};
-ghost use Rattle.cp_conn.specs.Search.{AreMet, AreNear, AreDone, GoesOn};
+ghost use Rattle.cp_conn.specs.Search.{AreMet, AreNear, AreDone, HasGoneOn};
 
 use crate::darts::{DartTable, dart_table, finish_of, start_of};
 use cp_base::Memory;
@@ -20,7 +20,7 @@ fn follow(
     requires ends_within { AreWithin (length least.old.items) ends.now }
     requires met { AreMet ends.now (length least.old.items) least.old.items queue.old.items }
     requires begun { slice_index least.old.items (start ends.now dart) < length least.old.items }
-    ensures goes_on { OnOk result (GoesOn ends.now (length least.old.items) least.old.items queue.old.items least.new.items queue.new.items) }
+    ensures goes_on { OnOk result (HasGoneOn ends.now (length least.old.items) least.old.items queue.old.items least.new.items queue.new.items) }
     ensures reached { OnOk result (slice_index least.new.items (finish ends.now dart) < length least.old.items) }
 {
     let from = start_of(ends, dart);
@@ -45,7 +45,7 @@ fn meet_neighbours(
     requires met { AreMet ends.now (length least.old.items) least.old.items queue.old.items }
     requires vertex_within { vertex < length least.old.items }
     requires begun { slice_index least.old.items vertex < length least.old.items }
-    ensures goes_on { OnOk result (GoesOn ends.now (length least.old.items) least.old.items queue.old.items least.new.items queue.new.items) }
+    ensures goes_on { OnOk result (HasGoneOn ends.now (length least.old.items) least.old.items queue.old.items least.new.items queue.new.items) }
     ensures near { OnOk result (AreNear ends.now (length least.old.items) least.new.items vertex) }
 {
     let mut entry = darts.entries[vertex];
@@ -70,7 +70,7 @@ fn run_queue(
     requires met { AreMet ends.now (length least.old.items) least.old.items queue.old.items }
     requires within { done ≤ length queue.old.items }
     requires some_done { AreDone ends.now (length least.old.items) least.old.items queue.old.items done }
-    ensures goes_on { OnOk result (GoesOn ends.now (length least.old.items) least.old.items queue.old.items least.new.items queue.new.items) }
+    ensures goes_on { OnOk result (HasGoneOn ends.now (length least.old.items) least.old.items queue.old.items least.new.items queue.new.items) }
     ensures all_done { OnOk result (AreDone ends.now (length least.old.items) least.new.items queue.new.items (length queue.new.items)) }
 {
     while done < queue.len() {

@@ -3,7 +3,7 @@ ghost use Rattle.std.specs.Prelude.{◌≡◌, ℕ, ◌<◌, ◌⊎◌, length, 
 ghost use Rattle.cp_base.specs.Graphs.{AreWithin};
 ghost use Rattle.cp_conn.specs.Blocks.{HaveNoLoop};
 
-use crate::{blocks, components, edges_by_block, is_cut_vertex};
+use crate::{blocks, components, components_without, edges_by_block, is_cut_vertex};
 use cp_base::{Graph, Memory};
 use std::alloc::Global;
 use std::test::Fail;
@@ -34,6 +34,20 @@ fn has_parts(
         }
     }
     Ok(right)
+}
+
+// Whether these are the component numbers of a graph where some vertices are removed.
+fn has_parts_without(
+    alloc: Global,
+    ends: &[(usize, usize)],
+    removed: &[bool],
+    numbers: &[usize],
+) -> Result<bool, Memory>
+    requires { AreWithin (length removed.now) ends.now }
+{
+    let g = Graph::from_ends(alloc, removed.len(), ends)?;
+    let by_vertex = components_without(alloc, &g, removed)?;
+    Ok(by_vertex.as_slice() == numbers)
 }
 
 // Whether these are the edges at a vertex, by block.
@@ -91,6 +105,26 @@ fn parts_of_small_graphs(rt: HostRuntime) -> Result<(), Fail> {
     assert_eq!(rt; found, Ok(true), "two parallel edges");
     let found = has_blocks_at(alloc, 5, &two, 2, &[&[1, 5], &[2, 4]]);
     assert_eq!(rt; found, Ok(true), "two triangles");
+    Ok(())
+}
+
+#[test]
+fn parts_where_vertices_are_removed(rt: HostRuntime) -> Result<(), Fail> {
+    let alloc = rt.alloc();
+    let tail = [(0, 1), (1, 2), (2, 0), (2, 3)];
+    let none = [false, false, false, false, false];
+    let found = has_parts_without(alloc, &tail, &none, &[0, 0, 0, 0, 1]);
+    assert_eq!(rt; found, Ok(true), "no vertex of a triangle with a tail");
+    let two = [false, false, true, false, false];
+    let found = has_parts_without(alloc, &tail, &two, &[0, 0, 1, 2, 3]);
+    assert_eq!(rt; found, Ok(true), "its cut vertex");
+    let theta = [(0, 1), (0, 2), (2, 4), (0, 3), (3, 1), (4, 1)];
+    let poles = [true, true, false, false, false];
+    let found = has_parts_without(alloc, &theta, &poles, &[0, 1, 2, 3, 2]);
+    assert_eq!(rt; found, Ok(true), "two poles with three paths between them");
+    let all = [true, true, true, true, true];
+    let found = has_parts_without(alloc, &theta, &all, &[0, 1, 2, 3, 4]);
+    assert_eq!(rt; found, Ok(true), "all vertices");
     Ok(())
 }
 

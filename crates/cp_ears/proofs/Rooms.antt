@@ -6,46 +6,70 @@ use Rattle.std.proofs.lemmas.List.{get_or-set_same, get_or-set_other, get_or-rep
 use Rattle.cp_ears.specs.Placing.{children_from, total, HaveRoom, ShareRoom}
 
 -- a child more
-children_at : (up room : List ℕ) (p k more : ℕ) → get_or up k 0 ≡ p → children_from up room p k (suc more) ≡ get_or room k 0 + children_from up room p (suc k) more
+children_at : (up room : List ℕ) (p k more : ℕ) → get_or up k 0 ≡ p
+    → children_from up room p k (suc more) ≡ get_or room k 0 + children_from up room p (suc k) more
 children_at up room p k more e = rw (eq-eqb (get_or up k 0) p e) refl
 
 -- a vertex that is no child
-children_other : (up room : List ℕ) (p k more : ℕ) → get_or up k 0 ≢ p → children_from up room p k (suc more) ≡ children_from up room p (suc k) more
+children_other : (up room : List ℕ) (p k more : ℕ) → get_or up k 0 ≢ p
+    → children_from up room p k (suc more) ≡ children_from up room p (suc k) more
 children_other up room p k more ne = rw (ne_eqb (get_or up k 0) p ne) (omega arith)
 
 -- what the children have does not turn on the room of lower vertices
-children_same : (up room room' : List ℕ) (p k more : ℕ) → ((j : ℕ) → k ≤ j → get_or room' j 0 ≡ get_or room j 0) → children_from up room' p k more ≡ children_from up room p k more
+children_same : (up room room' : List ℕ) (p k more : ℕ) → ((j : ℕ) → k ≤ j → get_or room' j 0 ≡ get_or room j 0)
+    → children_from up room' p k more ≡ children_from up room p k more
 children_same up room room' p k zero same = refl
 children_same up room room' p k (suc more) same =
-    let rest : children_from up room' p (suc k) more ≡ children_from up room p (suc k) more = children_same up room room' p (suc k) more (λ j le. same j (omega arith)) in
+    let rest : children_from up room' p (suc k) more ≡ children_from up room p (suc k) more =
+    children_same up room room' p (suc k) more (λ j le. same j (omega arith)) in
     ⊎_elim
-    (λ e. children_at up room' p k more e ∙ omega (arith, same k (omega arith), rest) ∙ sym (children_at up room p k more e))
+    (λ e. children_at up room' p k more e ∙ omega (arith, same k (omega arith), rest)
+    ∙ sym (children_at up room p k more e))
     (λ ne. children_other up room' p k more ne ∙ rest ∙ sym (children_other up room p k more ne))
     (cases_eq (get_or up k 0) p)
 
 -- the room of one of the first vertices is a part of the room of all of them
 pub total_item : (room : List ℕ) (k x : ℕ) → x < k → get_or room x 0 ≤ total room k
 total_item room zero x lt = absurd (omega arith)
-total_item room (suc k) x lt = ⊎_elim (λ e. omega (arith, ap (λ (z : ℕ). get_or room z 0) e)) (λ ne. omega (arith, total_item room k x (omega arith))) (cases_eq x k)
+total_item room (suc k) x lt =
+    ⊎_elim (λ e. omega (arith, ap (λ (z : ℕ). get_or room z 0) e))
+    (λ ne. omega (arith, total_item room k x (omega arith))) (cases_eq x k)
 
 -- the first vertices have as much room where it changes behind them
-total_same : (room room' : List ℕ) (k : ℕ) → ((x : ℕ) → x < k → get_or room' x 0 ≡ get_or room x 0) → total room' k ≡ total room k
+total_same : (room room' : List ℕ) (k : ℕ) → ((x : ℕ) → x < k → get_or room' x 0 ≡ get_or room x 0)
+    → total room' k ≡ total room k
 total_same room room' zero same = refl
-total_same room room' (suc k) same = omega (arith, same k (omega arith), total_same room room' k (λ x lt. same x (omega arith)))
+total_same room room' (suc k) same =
+    omega (arith, same k (omega arith), total_same room room' k (λ x lt. same x (omega arith)))
 
 -- one of the first vertices gets more room
-total_more : (room room' : List ℕ) (k p more : ℕ) → p < k → get_or room' p 0 ≡ get_or room p 0 + more → ((x : ℕ) → x ≢ p → get_or room' x 0 ≡ get_or room x 0) → total room' k ≡ total room k + more
+total_more : (room room' : List ℕ) (k p more : ℕ) → p < k → get_or room' p 0 ≡ get_or room p 0 + more
+    → ((x : ℕ) → x ≢ p → get_or room' x 0 ≡ get_or room x 0) → total room' k ≡ total room k + more
 total_more room room' zero p more lt at other = absurd (omega arith)
 total_more room room' (suc k) p more lt at other =
     ⊎_elim
-    (λ e. omega (arith, ap (λ (z : ℕ). get_or room' z 0) e, ap (λ (z : ℕ). get_or room z 0) e, at, total_same room room' k (λ x ltx. other x (λ f. omega arith))))
+    (λ e. omega (
+      arith,
+      ap (λ (z : ℕ). get_or room' z 0) e,
+      ap
+          (λ (z : ℕ). get_or room z 0) e,
+      at,
+      total_same room room' k (λ x ltx. other x (λ f. omega arith)),
+    ))
     (λ ne. omega (arith, other k (λ f. ne (sym f)), total_more room room' k p more (omega arith) at other))
     (cases_eq p k)
 
 -- the first so many vertices have one each
 total_ones : (room : List ℕ) (n k : ℕ) → room ≡ replicate n 1 → k ≤ n → total room k ≡ k
 total_ones room n zero is le = refl
-total_ones room n (suc k) is le = omega (arith, ap (λ (xs : List ℕ). get_or xs k 0) is, get_or-replicate {A = ℕ} n k 1 0 (omega arith), total_ones room n k is (omega arith))
+total_ones room n (suc k) is le =
+    omega (
+      arith,
+      ap (λ (xs : List ℕ). get_or xs k 0) is,
+      get_or-replicate {A = ℕ} n k 1 0
+          (omega arith),
+      total_ones room n k is (omega arith),
+    )
 
 -- at the start each vertex has room for itself
 pub share_start : (n : ℕ) (up room : List ℕ) → room ≡ replicate n 1 → ShareRoom n up room n
@@ -53,15 +77,21 @@ share_start n up room is = record {
   have = record {
     size = ap length is ∙ length-replicate n 1;
     each = λ p more lt e. let none : more ≡ 0 = omega arith in
-        ap (λ (xs : List ℕ). get_or xs p 0) is ∙ get_or-replicate {A = ℕ} n p 1 0 lt ∙ ap (λ (z : ℕ). 1 + children_from up room p n z) (sym none);
+        ap (λ (xs : List ℕ). get_or xs p 0) is ∙ get_or-replicate {A = ℕ} n p 1 0 lt
+        ∙ ap (λ (z : ℕ). 1 + children_from up room p n z) (sym none);
   };
   whole = total_ones room n n is (omega arith);
 }
 
 -- a vertex gives its room to its parent too
-pub share_step : (n k : ℕ) (up room room' : List ℕ) → ShareRoom n up room (k + 1) → k < n → get_or up k 0 < k → room' ≡ set room (get_or up k 0) (get_or room (get_or up k 0) 0 + get_or room k 0) → ShareRoom n up room' k
+pub share_step : (n k : ℕ) (up room room' : List ℕ) → ShareRoom n up room (k + 1) → k < n → get_or up k 0 < k
+    → room' ≡ set room (get_or up k 0) (get_or room (get_or up k 0) 0 + get_or room k 0) → ShareRoom n up room' k
 share_step n k up room room' s lt lower is = record {
-  have = record { size = ap length is ∙ length-set room p (get_or room p 0 + get_or room k 0) ∙ s.have.size; each = λ q more ltq e. each q more ltq e };
+  have = record {
+    size = ap length is ∙ length-set room p (get_or room p 0 + get_or room k 0) ∙ s.have.size;
+    each =
+        λ q more ltq e. each q more ltq e;
+  };
   whole = omega (arith, total_more room room' k p (get_or room k 0) lower at other, s.whole, ap (total room) next);
 }
   where
@@ -72,10 +102,12 @@ share_step n k up room room' s lt lower is = record {
     next = omega arith
 
     at : get_or room' p 0 ≡ get_or room p 0 + get_or room k 0
-    at = ap (λ (xs : List ℕ). get_or xs p 0) is ∙ get_or-set_same room p (get_or room p 0 + get_or room k 0) 0 (omega (arith, lower, lt, s.have.size))
+    at = ap (λ (xs : List ℕ). get_or xs p 0) is
+        ∙ get_or-set_same room p (get_or room p 0 + get_or room k 0) 0 (omega (arith, lower, lt, s.have.size))
 
     other : (x : ℕ) → x ≢ p → get_or room' x 0 ≡ get_or room x 0
-    other x ne = ap (λ (xs : List ℕ). get_or xs x 0) is ∙ get_or-set_other room p x (get_or room p 0 + get_or room k 0) 0 ne
+    other x ne = ap (λ (xs : List ℕ). get_or xs x 0) is
+        ∙ get_or-set_other room p x (get_or room p 0 + get_or room k 0) 0 ne
 
     rest : (q more : ℕ) → children_from up room' q (suc k) more ≡ children_from up room q (suc k) more
     rest q more = children_same up room room' q (suc k) more (λ j le. other j (λ e. omega (arith, lower)))
@@ -83,17 +115,35 @@ share_step n k up room room' s lt lower is = record {
     each : (q more : ℕ) → q < n → k + more ≡ n → get_or room' q 0 ≡ 1 + children_from up room' q k more
     each q zero ltq e = absurd (omega arith)
     each q (suc more) ltq e =
-        let old : get_or room q 0 ≡ 1 + children_from up room q (suc k) more = s.have.each q more ltq (omega arith) ∙ ap (λ (z : ℕ). 1 + children_from up room q z more) next in
+        let old : get_or room q 0 ≡ 1 + children_from up room q (suc k) more = s.have.each q more ltq (omega arith)
+        ∙ ap (λ (z : ℕ). 1 + children_from up room q z more) next in
         ⊎_elim
-        (λ f. omega (arith, ap (λ (z : ℕ). get_or room' z 0) (sym f), at, ap (λ (z : ℕ). get_or room z 0) f, old, children_at up room' q k more f, rest q more, other k (λ g. omega (arith, lower))))
+        (λ f. omega (
+          arith,
+          ap (λ (z : ℕ). get_or room' z 0) (sym f),
+          at,
+          ap
+              (λ (z : ℕ). get_or room z 0) f,
+          old,
+          children_at up room' q k more f,
+          rest q more,
+          other k
+              (λ g. omega (arith, lower)),
+        ))
         (λ ne. omega (arith, other q (λ g. ne (sym g)), old, children_other up room' q k more ne, rest q more))
         (cases_eq p q)
 
 -- a vertex with a parent that has room for it
-pub room_enough : (n k : ℕ) (up room : List ℕ) → HaveRoom n up room k → k < n → get_or up k 0 < k → 1 + get_or room k 0 ≤ get_or room (get_or up k 0) 0
+pub room_enough : (n k : ℕ) (up room : List ℕ) → HaveRoom n up room k → k < n → get_or up k 0 < k
+    → 1 + get_or room k 0 ≤ get_or room (get_or up k 0) 0
 room_enough n k up room h lt lower =
     let more : ℕ = n - (k + 1) in
-    omega (arith, h.each (get_or up k 0) (suc more) (omega (arith, lower, lt)) (omega (arith, lt)), children_at up room (get_or up k 0) k more refl)
+    omega (
+      arith,
+      h.each (get_or up k 0) (suc more) (omega (arith, lower, lt)) (omega (arith, lt)),
+      children_at up room
+          (get_or up k 0) k more refl,
+    )
 
 -- each vertex has room for itself
 pub room_some : (n k x : ℕ) (up room : List ℕ) → HaveRoom n up room k → k ≤ n → x < n → 1 ≤ get_or room x 0
@@ -104,17 +154,25 @@ pub room_one : (n x : ℕ) (up room : List ℕ) → HaveRoom n up room n → x <
 room_one n x up room h lt = h.each x 0 lt (omega arith)
 
 -- a parent that has given room to its child
-pub have_step : (n k : ℕ) (up room room' : List ℕ) → HaveRoom n up room k → k < n → get_or up k 0 < k → room' ≡ set room (get_or up k 0) (get_or room (get_or up k 0) 0 - get_or room k 0) → HaveRoom n up room' (k + 1)
-have_step n k up room room' h lt lower is = record { size = ap length is ∙ length-set room p (get_or room p 0 - get_or room k 0) ∙ h.size; each = λ q more ltq e. each q more ltq e }
+pub have_step : (n k : ℕ) (up room room' : List ℕ) → HaveRoom n up room k → k < n → get_or up k 0 < k
+    → room' ≡ set room (get_or up k 0) (get_or room (get_or up k 0) 0 - get_or room k 0) → HaveRoom n up room' (k + 1)
+have_step n k up room room' h lt lower is =
+    record {
+      size = ap length is ∙ length-set room p (get_or room p 0 - get_or room k 0) ∙ h.size;
+      each =
+          λ q more ltq e. each q more ltq e;
+    }
   where
     p : ℕ
     p = get_or up k 0
 
     at : get_or room' p 0 ≡ get_or room p 0 - get_or room k 0
-    at = ap (λ (xs : List ℕ). get_or xs p 0) is ∙ get_or-set_same room p (get_or room p 0 - get_or room k 0) 0 (omega (arith, lower, lt, h.size))
+    at = ap (λ (xs : List ℕ). get_or xs p 0) is
+        ∙ get_or-set_same room p (get_or room p 0 - get_or room k 0) 0 (omega (arith, lower, lt, h.size))
 
     other : (x : ℕ) → x ≢ p → get_or room' x 0 ≡ get_or room x 0
-    other x ne = ap (λ (xs : List ℕ). get_or xs x 0) is ∙ get_or-set_other room p x (get_or room p 0 - get_or room k 0) 0 ne
+    other x ne = ap (λ (xs : List ℕ). get_or xs x 0) is
+        ∙ get_or-set_other room p x (get_or room p 0 - get_or room k 0) 0 ne
 
     rest : (q more : ℕ) → children_from up room' q (suc k) more ≡ children_from up room q (suc k) more
     rest q more = children_same up room room' q (suc k) more (λ j le. other j (λ e. omega (arith, lower)))
@@ -123,8 +181,19 @@ have_step n k up room room' h lt lower is = record { size = ap length is ∙ len
     each q more ltq e =
         let next : suc k ≡ k + 1 = omega arith in
         let old : get_or room q 0 ≡ 1 + children_from up room q k (suc more) = h.each q (suc more) ltq (omega arith) in
-        let new : children_from up room' q (suc k) more ≡ children_from up room' q (k + 1) more = ap (λ (z : ℕ). children_from up room' q z more) next in
+        let new : children_from up room' q (suc k) more ≡ children_from up room' q (k + 1) more =
+        ap (λ (z : ℕ). children_from up room' q z more) next in
         ⊎_elim
-        (λ f. omega (arith, ap (λ (z : ℕ). get_or room' z 0) (sym f), at, ap (λ (z : ℕ). get_or room z 0) f, old, children_at up room q k more f, rest q more, new))
+        (λ f. omega (
+          arith,
+          ap (λ (z : ℕ). get_or room' z 0) (sym f),
+          at,
+          ap
+              (λ (z : ℕ). get_or room z 0) f,
+          old,
+          children_at up room q k more f,
+          rest q more,
+          new,
+        ))
         (λ ne. omega (arith, other q (λ g. ne (sym g)), old, children_other up room q k more ne, rest q more, new))
         (cases_eq p q)

@@ -26,5 +26,7 @@ pub record IsBipolar (g : PlainGraph) (s t : ℕ) (order : List ℕ) : Type 0 wh
   pub each_once : Exactly g.vertices (λ v. true) order
   pub first : slice_index order 0 ≡ s
   pub last : slice_index order (length order - 1) ≡ t
-  pub before : (i : ℕ) → 0 < i → i + 1 < length order → (j : ℕ) × (j < i) × AreAdjacent g.ends (slice_index order i) (slice_index order j)
-  pub after : (i : ℕ) → 0 < i → i + 1 < length order → (j : ℕ) × (i < j) × (j < length order) × AreAdjacent g.ends (slice_index order i) (slice_index order j)
+  pub before : (i : ℕ) → 0 < i → i + 1 < length order
+      → (j : ℕ) × (j < i) × AreAdjacent g.ends (slice_index order i) (slice_index order j)
+  pub after : (i : ℕ) → 0 < i → i + 1 < length order
+      → (j : ℕ) × (i < j) × (j < length order) × AreAdjacent g.ends (slice_index order i) (slice_index order j)

@@ -6,3 +6,4 @@ pub mod ListRotations
 pub mod Rewrites
 pub mod Insertions
 mod Rows
+pub mod Twins

@@ -7,21 +7,10 @@ use Rattle.cp_orbits.specs.Orbits.{Reaches, splice}
 use Rattle.cp_lists.specs.CyclicLists.{Has, Distinct, but, follow}
 use Rattle.cp_faces.specs.Faces.{Rotates}
 use Rattle.cp_orbits.proofs.OrbitLaws.{iterate-agree, Reaches-trans, Permutes-agree}
+use Rattle.cp_orbits.proofs.ListOrbits.{follow-reaches}
 use Rattle.cp_lists.proofs.DistinctLists.{Has-place, Exactly-Distinct, Exactly-Has}
 use Rattle.cp_lists.proofs.CyclicLists.{follow-Has, follow-apart, follow-but}
 use Rattle.cp_lists.proofs.FollowedLists.{follow_at, follow_last, follow_steps, iterate_in_list}
-
--- from each item of a cyclic list each other is reached
-pub follow-reaches : (xs : List ℕ) (c d : ℕ) → Distinct xs → Has c xs → Has d xs → Reaches (follow xs) c d
-follow-reaches xs c d dis hc hd =
-    let from : (i : ℕ) × (i < length xs) × (slice_index xs i ≡ c) = Has-place c xs hc in
-    let to : (i : ℕ) × (i < length xs) × (slice_index xs i ≡ d) = Has-place d xs hd in
-    let low : from.0 < length xs = from.1 in
-    let last : from.0 + (length xs - 1 - from.0) ≡ length xs - 1 = omega arith in
-    let end : Reaches (follow xs) c (slice_index xs (length xs - 1)) = (length xs - 1 - from.0, ap (iterate (follow xs) (length xs - 1 - from.0)) (sym from.2) ∙ follow_steps xs (length xs - 1 - from.0) from.0 dis (omega arith) ∙ ap (slice_index xs) last) in
-    let turn : Reaches (follow xs) (slice_index xs (length xs - 1)) (slice_index xs 0) = (1, follow_last xs (length xs - 1) dis (omega arith)) in
-    let back : Reaches (follow xs) (slice_index xs 0) d = (to.0, follow_steps xs to.0 0 dis (omega (arith, to.1)) ∙ ap (slice_index xs) (omega arith) ∙ to.2) in
-    Reaches-trans (follow xs) c (slice_index xs (length xs - 1)) d end (Reaches-trans (follow xs) (slice_index xs (length xs - 1)) (slice_index xs 0) d turn back)
 
 -- functions that agree below n are rotations together
 pub Rotates-agree : (v n : ℕ) (at next at' next' : ℕ → ℕ) → ((d : ℕ) → d < n → at d ≡ at' d) → ((d : ℕ) → d < n → next d ≡ next' d) → Rotates v n at next → Rotates v n at' next'

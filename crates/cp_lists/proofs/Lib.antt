@@ -1,4 +1,5 @@
 pub mod Counting
+pub mod Choices
 pub mod ExactLists
 pub mod DistinctLists
 pub mod CyclicLists
@@ -7,3 +8,5 @@ pub mod FilteredLists
 pub mod MappedLists
 pub mod ReversedLists
 pub mod TurnedLists
+pub mod SmallTurns
+pub mod LeastItems

@@ -46,3 +46,23 @@ Distinct-map_on h (x ∷ xs) apart dis = (
 pub map_agree_on : (h k : ℕ → ℕ) (xs : List ℕ) → ((x : ℕ) → Has x xs → h x ≡ k x) → map h xs ≡ map k xs
 map_agree_on h k [] same = refl
 map_agree_on h k (x ∷ xs) same = ap₂ (λ y ys. y ∷ ys) (same x (inl refl)) (map_agree_on h k xs (λ y l. same y (inr l)))
+
+-- where the names are distinct, different items have different names
+pub Distinct-map_on_apart : (h : ℕ → ℕ) (xs : List ℕ) (x y : ℕ) → Distinct (map h xs) → Has x xs → Has y xs → h x ≡ h y → x ≡ y
+Distinct-map_on_apart h [] x y dis hx hy e = absurd hx
+Distinct-map_on_apart h (z ∷ xs) x y dis hx hy e =
+    ⊎_elim
+    (λ a. ⊎_elim
+    (λ b. sym a ∙ b)
+    (λ b. absurd (has_lacks (h z) (map h xs) (subst (λ w. Has w (map h xs)) (sym (ap h a ∙ e)) (Has-map_on h y xs b)) dis.0))
+    hy)
+    (λ a. ⊎_elim
+    (λ b. absurd (has_lacks (h z) (map h xs) (subst (λ w. Has w (map h xs)) (e ∙ sym (ap h b)) (Has-map_on h x xs a)) dis.0))
+    (λ b. Distinct-map_on_apart h xs x y dis.1 a b e)
+    hy)
+    hx
+
+-- new names and then the old names again change nothing
+pub map_undone : (h k : ℕ → ℕ) (xs : List ℕ) → ((x : ℕ) → Has x xs → k (h x) ≡ x) → map k (map h xs) ≡ xs
+map_undone h k [] undone = refl
+map_undone h k (x ∷ xs) undone = ap₂ (λ y ys. y ∷ ys) (undone x (inl refl)) (map_undone h k xs (λ y has. undone y (inr has)))

@@ -1,10 +1,13 @@
 -- Lists in reverse.
-use Rattle.std.proofs.Common.{◌≡◌, ℕ, ◌+◌, ◌-◌, ◌<◌, List, length, reverse, slice_index, sym, ap, ◌∙◌, subst, ⊎_elim, arith}
-use Rattle.std.proofs.lemmas.Bool.{cases_eq}
-use Rattle.std.proofs.lemmas.List.{get_or-reverse, length-reverse, reverse-reverse}
+use Rattle.std.proofs.Common.{◌≡◌, ℕ, ◌+◌, ◌-◌, ◌<◌, Bool, List, [], ◌∷◌, ◌++◌, length, map, reverse, slice_index, sym, refl, ap, ◌∙◌, subst, ⊎_elim, arith, append-nil}
+use Rattle.std.specs.List.{filter}
+use Rattle.std.proofs.lemmas.Bool.{cases_Bool, cases_eq}
+use Rattle.std.proofs.lemmas.List.{get_or-reverse, length-reverse, map-append, reverse-append, reverse-reverse}
+use Rattle.std.proofs.lemmas.List.Elements.{filter-append}
 use Rattle.cp_lists.specs.CyclicLists.{Has, Distinct, follow}
 use Rattle.cp_lists.proofs.DistinctLists.{Has_at, Has-place, Distinct-from, Distinct-once}
 use Rattle.cp_lists.proofs.FollowedLists.{follow_at, follow_last}
+use Rattle.cp_lists.proofs.FilteredLists.{filter_yes, filter_no}
 
 -- item i in reverse
 pub reverse_at : (xs : List ℕ) (i : ℕ) → i < length xs → slice_index (reverse xs) i ≡ slice_index xs (length xs - 1 - i)
@@ -55,3 +58,25 @@ follow-reverse d xs dis h =
     ∙ reverse_at xs (j + 1) (omega arith) ∙ ap (slice_index xs) end)
     (cases_eq (i + 1) (length xs))
     ∙ w.2
+
+-- the first item in reverse is the last
+pub reverse-cons : (x : ℕ) (xs : List ℕ) → reverse (x ∷ xs) ≡ reverse xs ++ x ∷ []
+reverse-cons x xs = reverse-append (x ∷ []) xs
+
+-- the images of a list in reverse are its images in reverse
+pub map-reverse : (f : ℕ → ℕ) (xs : List ℕ) → map f (reverse xs) ≡ reverse (map f xs)
+map-reverse f [] = refl
+map-reverse f (x ∷ xs) =
+    ap (map f) (reverse-cons x xs) ∙ map-append f (reverse xs) (x ∷ [])
+    ∙ ap (λ ys. ys ++ f x ∷ []) (map-reverse f xs) ∙ sym (reverse-cons (f x) (map f xs))
+
+-- what a list in reverse keeps by a test is what the list keeps by it, in reverse
+pub filter-reverse : (p : ℕ → Bool) (xs : List ℕ) → filter p (reverse xs) ≡ reverse (filter p xs)
+filter-reverse p [] = refl
+filter-reverse p (x ∷ xs) =
+    ap (filter p) (reverse-cons x xs) ∙ filter-append p (reverse xs) (x ∷ [])
+    ∙ ap (λ ys. ys ++ filter p (x ∷ [])) (filter-reverse p xs)
+    ∙ ⊎_elim
+    (λ passes. ap (λ ys. reverse (filter p xs) ++ ys) (filter_yes p x [] passes) ∙ sym (reverse-cons x (filter p xs)) ∙ sym (ap reverse (filter_yes p x xs passes)))
+    (λ fails. ap (λ ys. reverse (filter p xs) ++ ys) (filter_no p x [] fails) ∙ append-nil (reverse (filter p xs)) ∙ sym (ap reverse (filter_no p x xs fails)))
+    (cases_Bool (p x))

@@ -1,3 +1,5 @@
 pub mod ClassLabels
 pub mod OrbitLaws
 pub mod Exchanges
+pub mod ListOrbits
+pub mod CycleLengths

@@ -1,5 +1,5 @@
 -- Permutations of the numbers below a bound, and their orbits.
-use Rattle.std.specs.Prelude.{◌≡◌, ℕ, ◌<◌, ◌≤◌, cond, eqb}
+use Rattle.std.specs.Prelude.{◌≡◌, ◌≢◌, ℕ, ◌<◌, ◌≤◌, cond, eqb}
 use Rattle.std.specs.Fn.{iterate}
 
 -- f maps the numbers below n to themselves, and no two of them to one
@@ -10,6 +10,12 @@ pub record Permutes (n : ℕ) (f : ℕ → ℕ) : Type 0 where
 -- repeating f leads from x to y
 abbrev pub Reaches : (ℕ → ℕ) → ℕ → ℕ → Type 0
 Reaches f x y = (k : ℕ) × (iterate f k x ≡ y)
+
+-- f leads back to x after k steps, and not after fewer, but none
+pub record CycleLength (f : ℕ → ℕ) (x k : ℕ) : Type 0 where
+  pub some : 1 ≤ k
+  pub returns : iterate f k x ≡ x
+  pub first : (i : ℕ) → 1 ≤ i → i < k → iterate f i x ≢ x
 
 -- x is the least number that repeating f leads to from x, so it stands for its orbit
 abbrev pub IsLeastOfOrbit : (ℕ → ℕ) → ℕ → Type 0

@@ -1,6 +1,5 @@
 -- Counts of rotation systems with new numbers, side by side, and with a loop whose darts are neighbours.
-use Rattle.std.proofs.Common.{◌≡◌, ℕ, zero, suc, ◌+◌, ◌-◌, ◌*◌, ◌/◌, ◌<◌, ◌≤◌, ◌⊎◌, Bool, sym, refl, ap, ap₂, ◌∙◌, subst, ⊎_elim, arith}
-use Rattle.std.proofs.lemmas.Bool.{cases_Bool, cond-true, cond-false}
+use Rattle.std.proofs.Common.{◌≡◌, ℕ, suc, ◌+◌, ◌-◌, ◌*◌, ◌/◌, ◌<◌, ◌⊎◌, sym, refl, ap, ap₂, ◌∙◌, subst, ⊎_elim, arith}
 use Rattle.cp_orbits.specs.Classes.{labels, graph}
 use Rattle.cp_orbits.specs.Orbits.{exchange, Renumbers}
 use Rattle.cp_faces.specs.Faces.{Turns, face_upto, faces, components, drop_edge, Renames, on_edges, renamed_at, renamed_next}
@@ -12,12 +11,12 @@ use Rattle.cp_faces.proofs.Merges.{partner-twin}
 use Rattle.cp_faces.proofs.Renaming.{Renames-edges, Renames-Turns, faces-renamed, components-renamed, on_edges_even, on_edges_odd}
 use Rattle.cp_faces.proofs.Parts.{faces-beside, components-beside}
 use Rattle.cp_rot.specs.Systems.{System, darts, edges, vertex_of, next, IsRotation}
-use Rattle.cp_rot.specs.Genus.{FaceCount, ComponentCount, HasGenusZero}
+use Rattle.cp_rot.specs.Genus.{FaceCount, ComponentCount}
 use Rattle.cp_rot.specs.Rewrites.{deleted}
-use Rattle.cp_rot.specs.Laws.{IsRenamed, IsSideBySide, restricted}
+use Rattle.cp_rot.specs.Laws.{IsRenamed, IsSideBySide}
 use Rattle.cp_rot.proofs.Euler.{FaceCount-unique, ComponentCount-unique}
 use Rattle.cp_rot.proofs.Functions.{Turns-system, faces_of, components_of, FaceCount-faces, ComponentCount-components}
-use Rattle.cp_rot.proofs.DeletedEdges.{whole_turns, IsRotation-deleted, deleted-edges, deleted_at, deleted_next, deleted-HasGenusZero}
+use Rattle.cp_rot.proofs.DeletedEdges.{whole_turns, IsRotation-deleted, deleted-edges, deleted_at, deleted_next}
 
 -- a number of faces is that of the functions
 pub faces_are : (r : System) → IsRotation r → (f : ℕ) → FaceCount r f → f ≡ faces_of r
@@ -150,12 +149,3 @@ module _ (r : System) (is : IsRotation r) (e : ℕ) (lt : e < edges r) (side : (
       ∙ ap (λ n. components r.vertices n (vertex_of (deleted r e))) (deleted-edges r is e lt)
       ∙ components-agree r.vertices m (vertex_of (deleted r e)) at (deleted_at r is e lt) in
       (omega (arith, law.0, faces_before, faces_after), components_before ∙ law.1 ∙ sym components_after)
-
--- a system of genus zero of which some edges are deleted is one
-pub restricted_zero : (n : ℕ) (keeps : ℕ → Bool) (r : System) → IsRotation r → n ≤ edges r → HasGenusZero r → IsRotation (restricted n keeps r) × HasGenusZero (restricted n keeps r)
-restricted_zero zero keeps r is le z = (is, z)
-restricted_zero (suc n) keeps r is le z = ⊎_elim
-    (λ t. subst (λ s. IsRotation (restricted n keeps s) × HasGenusZero (restricted n keeps s)) (sym (cond-true (keeps n) r (deleted r n) t)) (restricted_zero n keeps r is (omega arith) z))
-    (λ f. subst (λ s. IsRotation (restricted n keeps s) × HasGenusZero (restricted n keeps s)) (sym (cond-false (keeps n) r (deleted r n) f))
-    (restricted_zero n keeps (deleted r n) (IsRotation-deleted r is n (omega arith)) (omega (arith, deleted-edges r is n (omega arith))) (deleted-HasGenusZero r is n (omega arith) z)))
-    (cases_Bool (keeps n))

@@ -16,9 +16,3 @@ pub mod Inserted
 pub mod ExpandedVertices
 pub mod InsertCode
 pub mod LawCounts
-pub mod RestrictedSystems
-pub mod SplitVertices
-pub mod BareVertices
-pub mod SplitParts
-pub mod RestrictionLaws
-pub mod SplitRuns

@@ -5,7 +5,7 @@ use Rattle.std.proofs.lemmas.Bool.{cases_eq}
 use Rattle.std.proofs.lemmas.List.{get_or-set_same, get_or-set_other}
 use Rattle.cp_lists.proofs.ExactLists.{EachOnce, place_of}
 use Rattle.cp_rot.specs.Systems.{System, darts, vertex_of, list_of, place_after, next, IsRotation}
-use Rattle.cp_rot.specs.Tables.{IsStored}
+use Rattle.cp_rot.specs.Tables.{IsStored, system_of}
 use Rattle.cp_rot.proofs.Rotations.{in_list, item_stands, next_of_item}
 
 -- behind each of the first i items is written the item behind it; elsewhere the table is as before
@@ -70,3 +70,7 @@ StoredUpto-all r is table s = record {
   size = s.size;
   told = λ d lt. s.told d lt (is.placed d lt);
 }
+
+-- a rotation system is that of its own vertices of darts and its own lists
+pub own_tables : (r : System) → IsRotation r → system_of r.at r.lists ≡ r
+own_tables r is = ap (λ (n : ℕ). record { vertices = n; at = r.at; lists = r.lists }) is.listed

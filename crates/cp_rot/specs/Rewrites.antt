@@ -1,5 +1,5 @@
 -- The systems that the rewrites give. Where a vertex or an edge goes, the last one takes its number.
-use Rattle.std.specs.Prelude.{ℕ, zero, suc, ◌+◌, ◌-◌, ◌*◌, ◌/◌, ◌==◌, Bool, cond, not, ◌&&◌, List, [], ◌∷◌, ◌++◌, map, take, drop}
+use Rattle.std.specs.Prelude.{ℕ, zero, suc, ◌+◌, ◌-◌, ◌*◌, ◌/◌, ◌==◌, cond, not, List, [], ◌∷◌, ◌++◌, map, take, drop}
 use Rattle.std.specs.List.{filter, list_any, position_or_len}
 use Rattle.cp_orbits.specs.Orbits.{exchange}
 use Rattle.cp_orbits.specs.Classes.{joined}
@@ -103,17 +103,3 @@ expanded_vertex r d f x = cond (x == 2 * edges r) (vertex_of r d)
 -- the darts behind d up to f moved to a new vertex at the end of a new edge, which begins behind d
 abbrev pub expanded : System → ℕ → ℕ → System
 expanded r d f = system (r.vertices + 1) (edges r + 1) (expanded_vertex r d f) (expanded_list r d f)
-
--- at which vertex dart d stands, where the darts at u of the edges that the test takes go to a new vertex
-abbrev pub split_vertex : System → ℕ → (ℕ → Bool) → ℕ → ℕ
-split_vertex r u takes d = cond (vertex_of r d == u && takes (d / 2)) r.vertices (vertex_of r d)
-
--- the list of v then: at u what is left, at the new vertex what is taken, each in the order that it had
-abbrev pub split_list : System → ℕ → (ℕ → Bool) → ℕ → List ℕ
-split_list r u takes v = cond (v == r.vertices)
-    (filter (λ d. takes (d / 2)) (list_of r u))
-    (cond (v == u) (filter (λ d. not (takes (d / 2))) (list_of r u)) (list_of r v))
-
--- the darts at u of the edges that the test takes moved to a new vertex
-abbrev pub split_off : System → ℕ → (ℕ → Bool) → System
-split_off r u takes = system (r.vertices + 1) (edges r) (split_vertex r u takes) (split_list r u takes)

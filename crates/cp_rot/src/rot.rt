@@ -13,6 +13,7 @@ use crate::deleting::without_edge;
 use crate::expanding::with_new_vertex;
 use crate::faces::in_one_face;
 use crate::merging::with_one_vertex;
+use crate::storing::{lists_of, vertices_of_darts};
 use crate::system::RotationSystem;
 use crate::wrong::first_wrong;
 use cp_base::{CycList, Memory};
@@ -80,19 +81,31 @@ impl Rot {
         match first_wrong(alloc, vertices, at, lists)? {
             Some(vertex) => Err(RotFault::NotARotation { vertex }),
             None => {
-                let rot = Rot::stored(alloc, at, lists)?;
+                let rot = Rot::from_rotation(alloc, at, lists)?;
                 Ok(rot)
             }
         }
     }
 
-    // The stored system of lists that make one.
-    fn stored(alloc: Global, at: &[usize], lists: &[CycList]) -> Result<Rot, Memory>
+    /// The system of lists that are known to make one, with as many vertices as there are lists:
+    /// nothing is tested again. `at` tells for each dart the number of its vertex. Linear in the
+    /// numbers of vertices, darts and items.
+    pub fn from_rotation(alloc: Global, at: &[usize], lists: &[CycList]) -> Result<Rot, Memory>
         requires { IsRotation (system_of at.now lists.now) }
         ensures { IfOk result (λ rot. rot ≡ system_of at.now lists.now) }
     {
         let at = Vec::from_slice(alloc, at)?;
         let lists = copied_lists(alloc, lists)?;
+        Rot::build(alloc, at, lists)
+    }
+
+    /// The same system as the value tells, stored. Linear in the numbers of vertices and darts where
+    /// each call of the trait takes constant time.
+    pub fn stored<T: RotationSystem>(alloc: Global, t: &T) -> Result<Rot, Memory>
+        ensures { IfOk result (λ rot. rot ≡ T.system t.now) }
+    {
+        let at = vertices_of_darts(alloc, t)?;
+        let lists = lists_of(alloc, t)?;
         Rot::build(alloc, at, lists)
     }
 

@@ -301,3 +301,32 @@ fn rewrites_give_the_drawn_systems(rt: HostRuntime) {
         );
     }
 }
+
+// Whether the stored copy of the system of the lists has the same vertices of darts and lists.
+fn is_stored_alike(
+    alloc: Global,
+    vertices: usize,
+    at: &[usize],
+    lists: Lists,
+) -> Result<bool, RotFault> {
+    let rot = system(alloc, vertices, at, lists)?;
+    let copy = Rot::stored(alloc, &rot)?;
+    Ok(is_system(&copy, at, lists))
+}
+
+#[test]
+fn what_tells_a_system_is_stored_as_it_is(rt: HostRuntime) {
+    let alloc = rt.alloc();
+    let rows: [(usize, &[usize], Lists); 3] = [
+        (0, &[], &[]),
+        (2, &[0, 0], &[&[1, 0], &[]]),
+        (3, &[0, 1, 1, 2, 2, 0], &[&[0, 5], &[1, 2], &[3, 4]]),
+    ];
+    for (vertices, at, lists) in rows {
+        assert_eq!(rt;
+            is_stored_alike(alloc, vertices, at, lists),
+            Ok(true),
+            "{at:?}"
+        );
+    }
+}

@@ -24,9 +24,10 @@ use Rattle.cp_lists.proofs.ReversedLists.{reverse_at}
 use Rattle.cp_lists.proofs.TurnedLists.{turn-follow}
 use Rattle.cp_rotlaw.proofs.GluedPairs.{partner_first, partner_second}
 use Rattle.cp_rotlaw.proofs.GluedDarts.{number, kept, number_joined, number_kept, number-below, number-apart, number-other, origin, size, IsRotation-glued, next_first, next_second}
-use Rattle.cp_rotlaw.proofs.FlatMaps.{linked, linked-from, IsFlat}
-use Rattle.cp_rotlaw.proofs.FlatRotations.{choose, flat_from_zero, zero_from_flat}
-use Rattle.cp_rotlaw.proofs.FlatUnions.{Permutes-union, IsFlat-union}
+use Rattle.cp_maps.specs.Genus.{linked, IsFlat}
+use Rattle.cp_maps.proofs.FlatMaps.{linked-from}
+use Rattle.cp_maps.proofs.FlatRotations.{choose, flat_from_zero, zero_from_flat}
+use Rattle.cp_maps.proofs.FlatUnions.{Permutes-union, IsFlat-union}
 use Rattle.cp_rotlaw.proofs.ZippedVertices.{AreReverseRows, zipped, zip-Permutes, zip_other, zip-IsFlat, zip_x, zip_y}
 use Rattle.cp_rotlaw.proofs.ShortCuts.{IsShortCut, IsFlat-cut}
 

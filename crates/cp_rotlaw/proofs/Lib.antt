@@ -5,9 +5,6 @@ pub mod GluedPairs
 pub mod ListedPartners
 pub mod GluedDarts
 pub mod GluedTables
-pub mod FlatMaps
-pub mod FlatRotations
-pub mod FlatUnions
 pub mod ZippedVertices
 pub mod ShortCuts
 pub mod GluedGenus
@@ -16,3 +13,9 @@ pub mod StarSystems
 pub mod StarGenus
 pub mod StarBlocks
 pub mod StarSplits
+pub mod BareVertices
+pub mod RestrictedSystems
+pub mod SplitVertices
+pub mod SplitParts
+pub mod RestrictionLaws
+pub mod SplitRuns

@@ -10,8 +10,9 @@ use Rattle.cp_orbits.proofs.ClassLabels.{labels-le, labels-respects, labels-labe
 use Rattle.cp_orbits.proofs.OrbitLaws.{Respects-graph, graph-respects, label_step}
 use Rattle.cp_faces.proofs.Merges.{face_upto-partner, partner-partner, partner_even}
 use Rattle.cp_faces.proofs.Renaming.{partner-within}
-use Rattle.cp_rotlaw.proofs.FlatMaps.{linked, linked-from, linked-graph, linked-partner, parts, rounds, IsFlat}
-use Rattle.cp_rotlaw.proofs.FlatRotations.{count_parts}
+use Rattle.cp_maps.specs.Genus.{linked, parts, rounds, IsFlat}
+use Rattle.cp_maps.proofs.FlatMaps.{linked-from, linked-graph, linked-partner}
+use Rattle.cp_maps.proofs.FlatRotations.{count_parts}
 
 -- g is f on the darts that are not out, which h takes to new numbers and back takes back; the darts that are out make
 -- vertices of two darts, and of two edges that meet at such a vertex one is left, with the far darts of both

@@ -7,13 +7,14 @@ use Rattle.cp_lists.specs.CyclicLists.{Has}
 use Rattle.cp_lists.proofs.Counting.{same_tests}
 use Rattle.cp_rot.specs.Systems.{System, darts, edges, twin, vertex_of, list_of, IsRotation}
 use Rattle.cp_rot.specs.Genus.{HasGenusZero}
-use Rattle.cp_rot.specs.Rewrites.{values, system, split_vertex, split_list, split_off}
-use Rattle.cp_rot.specs.Laws.{MeetAt}
+use Rattle.cp_rot.specs.Rewrites.{values, system}
+use Rattle.cp_rotlaw.specs.Restrictions.{split_vertex, split_list, split_off}
+use Rattle.cp_rotlaw.specs.Restrictions.{MeetAt}
 use Rattle.cp_rot.proofs.ListEdits.{length-values}
 use Rattle.cp_rot.proofs.ListSystems.{Listed-system, system_at, system_list, system-edges}
 use Rattle.cp_lists.proofs.FilteredLists.{filter_agree, filter_all}
-use Rattle.cp_rot.proofs.SplitVertices.{IsRotation-split}
-use Rattle.cp_rot.proofs.RestrictionLaws.{split_keeps_zero}
+use Rattle.cp_rotlaw.proofs.SplitVertices.{IsRotation-split}
+use Rattle.cp_rotlaw.proofs.RestrictionLaws.{split_keeps_zero}
 use Rattle.cp_rotlaw.specs.Stars.{IsDartOf, star_vertex}
 use Rattle.cp_rotlaw.specs.StarParts.{AreEntered, part_of, star_at, star_row}
 use Rattle.cp_rotlaw.proofs.StarSystems.{star_lists, star_system, values_of, system_same, star_vertex-apart, star_vertex-old, star_at_part, star_at_other, star_lists_first, star_lists_other, star_lists_new, edge_part, edge_part_far, edge_part_near}

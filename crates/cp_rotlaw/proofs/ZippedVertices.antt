@@ -4,7 +4,8 @@ use Rattle.std.proofs.lemmas.Bool.{cases_eq}
 use Rattle.cp_orbits.specs.Classes.{labels, graph}
 use Rattle.cp_orbits.specs.Orbits.{Permutes}
 use Rattle.cp_orbits.proofs.OrbitLaws.{label_step, exchange_left, exchange_right, exchange_other, Permutes-exchange}
-use Rattle.cp_rotlaw.proofs.FlatMaps.{linked, exchanged, IsFlat, joined-IsFlat, split-IsFlat}
+use Rattle.cp_maps.specs.Genus.{linked, IsFlat}
+use Rattle.cp_maps.proofs.FlatMaps.{exchanged, joined-IsFlat, split-IsFlat}
 
 -- the lists of the two vertices are x m .. x 0 and y 0 .. y m
 pub record AreReverseRows (e m : ℕ) (f x y : ℕ → ℕ) : Type 0 where

@@ -4,3 +4,4 @@ pub mod Glue
 pub mod GlueTables
 pub mod Stars
 pub mod StarParts
+pub mod Restrictions

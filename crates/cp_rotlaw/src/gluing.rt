@@ -11,7 +11,6 @@ ghost use Rattle.cp_rotlaw.specs.GlueTables.{AreNumbers};
 use crate::gluing_tables::{
     kept_before, lists_glued, numbers_from, write_first, write_partners, write_second,
 };
-use crate::systems::stored;
 use cp_base::{CycList, Memory};
 use cp_rot::Rot;
 use std::alloc::Global;
@@ -116,5 +115,5 @@ pub fn glue(
 {
     let _ = (a.vertices(), b.vertices());
     let (at, lists) = glued_parts(alloc, a, u, b, w, pairs)?;
-    stored(alloc, at.as_slice(), lists.as_slice())
+    Rot::from_rotation(alloc, at.as_slice(), lists.as_slice())
 }

@@ -4,6 +4,7 @@
 mod dipole;
 mod gluing;
 mod gluing_tables;
+mod laws;
 mod star;
 mod star_lists;
 mod star_parts;
@@ -17,4 +18,8 @@ mod tests_systems;
 
 pub use dipole::dipole_reversed;
 pub use gluing::glue;
+pub use laws::{
+    restriction_keeps_genus_zero, run_keeps_genus, split_off_has_genus_of_parts,
+    split_off_keeps_genus_zero,
+};
 pub use star::star_split;

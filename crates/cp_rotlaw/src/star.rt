@@ -8,7 +8,6 @@ ghost use Rattle.cp_rotlaw.specs.Stars.{IsStarSplit, HaveSameBlocks};
 
 use crate::star_lists::{star_lists, star_rows, star_vertices};
 use crate::star_parts::entered_parts;
-use crate::systems::stored;
 use cp_base::{CycList, Memory};
 use cp_rot::Rot;
 use std::alloc::Global;
@@ -32,5 +31,5 @@ pub fn star_split(alloc: Global, a: &Rot, u: usize) -> Result<Rot, Memory>
     let at = star_vertices(alloc, a, u, entered.as_slice())?;
     let rows = star_rows(alloc, a, u, entered.as_slice(), parts)?;
     let lists = star_lists(alloc, a, u, rows.as_slice())?;
-    stored(alloc, at.as_slice(), lists.as_slice())
+    Rot::from_rotation(alloc, at.as_slice(), lists.as_slice())
 }

@@ -7,5 +7,6 @@ abbrev pub invariant-loop-x : goal.invariant-loop-x
 invariant-loop-x l = record {
   size : length l.numbers.items ≡ l.x;
   classes : l.classes ≡ count l.x (λ y. eqb (get_or l.least y 0) y);
-  counted : (y : ℕ) → y < l.x → get_or l.numbers.items y 0 ≡ count (get_or l.least y 0) (λ z. eqb (get_or l.least z 0) z);
+  counted : (y : ℕ) → y < l.x → get_or l.numbers.items y 0
+      ≡ count (get_or l.least y 0) (λ z. eqb (get_or l.least z 0) z);
 }

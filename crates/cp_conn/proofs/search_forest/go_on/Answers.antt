@@ -5,4 +5,8 @@ use Rattle.cp_conn.proofs.search_forest.go_on.Goals as goal
 pub returns-else-index-gt0-clause-stands : goal.returns-else-index-gt0-clause-stands
 returns-else-index-gt0-clause-stands c =
     let none : c.index.result.now ≡ 0 = omega arith in
-    go_parent_read c.args.ends.now (length c.args.next.now.items) c.args.forest.now.number.items c.args.forest.now.parent.items c.args.forest.now.edge.items c.args.forest.now.order.items c.args.next.now.items c.args.vertex c.index.result.now c.index-else-index-gt0.result.now c.requires.stands c.requires.more c.index.ensures none c.index-else-index-gt0.ensures
+    go_parent_read c.args.ends.now
+    (length c.args.next.now.items) c.args.forest.now.number.items c.args.forest.now.parent.items
+    c.args.forest.now.edge.items c.args.forest.now.order.items c.args.next.now.items c.args.vertex
+    c.index.result.now c.index-else-index-gt0.result.now c.requires.stands c.requires.more c.index.ensures none
+    c.index-else-index-gt0.ensures

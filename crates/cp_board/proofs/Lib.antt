@@ -1,0 +1,15 @@
+mod Named
+mod Tests
+mod Examples
+mod Poles
+mod Wheel
+mod Crossing
+mod Laws
+mod Solved
+mod Dropped
+mod Planting
+mod Moved
+mod Uncut
+mod Broken
+mod Rewriting
+mod Greatest

@@ -1,0 +1,114 @@
+-- Facts of lists of lists that the maps need.
+use Rattle.std.proofs.Common.{take, drop, take-append-drop, ◌≡◌, ℕ, ◌<◌, true, false, ◌||◌, eqb, List, [], ◌∷◌, ◌++◌, append_assoc, sym, refl, ap, ◌∙◌, subst, inl, inr, ⊎_elim, Bool, arith, ◌⊎◌, length, length-append, ◌&&◌, map, ap₂, take_at, drop_at}
+use Rattle.std.proofs.lemmas.Bool.{eq-eqb, ne_eqb, or_left, or_right, cases_Bool}
+use Rattle.std.specs.List.{filter}
+use Rattle.cp_lists.specs.CyclicLists.{Distinct, Has, Lacks}
+use Rattle.cp_lists.specs.Turns.{IsTurn}
+use Rattle.cp_lists.proofs.DistinctLists.{Distinct-apart, Distinct-append, Distinct-append_left, Distinct-append_right, Distinct-turn, Has-append_cases, Has-append_left, Has-append_right, Has-split, Has-turn}
+use Rattle.cp_lists.proofs.FilteredLists.{filter_no, filter_yes}
+use Rattle.cp_maps.specs.Maps.{Below, flat, has}
+
+-- the two parts of a list in the other order are a turn
+pub turn_parts : (xs ys : List ℕ) → IsTurn (xs ++ ys) (ys ++ xs)
+turn_parts xs ys = (
+  length xs,
+  omega (arith, length-append xs ys),
+  sym (ap₂ (λ us vs. us ++ vs) (drop_at xs ys (length xs) refl) (take_at xs ys (length xs) refl)),
+)
+
+-- a turn turned back
+pub turn_back : (xs ys : List ℕ) → IsTurn xs ys → IsTurn ys xs
+turn_back xs ys turn =
+    subst (λ zs. IsTurn zs xs) (sym turn.2)
+    (subst (IsTurn (drop turn.0 xs ++ take turn.0 xs)) (take-append-drop turn.0 xs)
+    (turn_parts (drop turn.0 xs) (take turn.0 xs)))
+
+-- an item less
+pub Distinct-less : (xs : List ℕ) (z : ℕ) (ys : List ℕ) → Distinct (xs ++ z ∷ ys) → Distinct (xs ++ ys)
+Distinct-less xs z ys dis =
+    Distinct-append xs ys (Distinct-append_left xs (z ∷ ys) dis) (Distinct-append_right xs (z ∷ ys) dis).1
+    (λ d h. (Distinct-apart d xs (z ∷ ys) dis h).1)
+
+-- two rows in the other order
+pub Distinct-swapped : (xs ys zs : List ℕ) → Distinct (xs ++ (ys ++ zs)) → Distinct (ys ++ (xs ++ zs))
+Distinct-swapped xs ys zs dis =
+    let d : Distinct ((xs ++ ys) ++ zs) = subst Distinct (sym (append_assoc xs ys zs)) dis in
+    subst Distinct (append_assoc ys xs zs)
+    (Distinct-append (ys ++ xs) zs (Distinct-turn xs ys (Distinct-append_left (xs ++ ys) zs d))
+    (Distinct-append_right (xs ++ ys) zs d)
+    (λ x h. Distinct-apart x (xs ++ ys) zs d (Has-turn x ys xs h)))
+
+-- their items
+pub Has-swapped : (d : ℕ) (xs ys zs : List ℕ) → Has d (xs ++ (ys ++ zs)) → Has d (ys ++ (xs ++ zs))
+Has-swapped d xs ys zs h = ⊎_elim
+    (λ k. Has-append_right d ys (xs ++ zs) (Has-append_left d xs zs k))
+    (λ k. ⊎_elim (λ l. Has-append_left d ys (xs ++ zs) l)
+    (λ l. Has-append_right d ys (xs ++ zs) (Has-append_right d xs zs l)) (Has-append_cases d ys zs k))
+    (Has-append_cases d xs (ys ++ zs) h)
+
+-- a list with a dart in it, turned to begin with it
+pub from_dart : (x : ℕ) (xs : List ℕ) → Has x xs → (us : List ℕ) × (vs : List ℕ) × (xs ≡ us ++ x ∷ vs)
+from_dart x xs h = let s : (us : List ℕ) × (vs : List ℕ) × (xs ≡ us ++ x ∷ vs) × Lacks x us = Has-split x xs h in
+    (s.0, s.1, s.2)
+
+-- an item of it is the dart, or another one
+pub other_item : (d x : ℕ) (xs us vs : List ℕ) → xs ≡ us ++ x ∷ vs → Has d xs → (x ≡ d) ⊎ Has d (vs ++ us)
+other_item d x xs us vs e h = ⊎_elim
+    (λ k. inr (Has-append_right d vs us k))
+    (λ k. ⊎_elim (λ s. inl s) (λ l. inr (Has-append_left d vs us l)) k)
+    (Has-append_cases d us (x ∷ vs) (subst (Has d) e h))
+
+-- and back
+pub its_item : (d x : ℕ) (xs us vs : List ℕ) → xs ≡ us ++ x ∷ vs → Has d (vs ++ us) → Has d xs
+its_item d x xs us vs e h =
+    subst (Has d) (sym e) (⊎_elim (λ k. Has-append_right d us (x ∷ vs) (inr k)) (λ k. Has-append_left d us (x ∷ vs) k)
+    (Has-append_cases d vs us h))
+
+-- items are below the bound
+pub below_item : (n d : ℕ) (xs : List ℕ) → Below n xs → Has d xs → d < n
+below_item n d [] b h = absurd h
+below_item n d (x ∷ xs) b h = ⊎_elim (λ e. subst (λ y. y < n) e b.0) (λ k. below_item n d xs b.1 k) h
+
+-- and a list is where its items are
+pub Below-from : (n : ℕ) (xs : List ℕ) → ((d : ℕ) → Has d xs → d < n) → Below n xs
+Below-from n [] each = tt
+Below-from n (x ∷ xs) each = (each x (inl refl), Below-from n xs (λ d h. each d (inr h)))
+
+-- an item passes the test
+pub has_yes : (d : ℕ) (xs : List ℕ) → Has d xs → has d xs ≡ true
+has_yes d [] h = absurd h
+has_yes d (x ∷ xs) h =
+    ⊎_elim (λ e. or_left (eqb x d) (has d xs) (eq-eqb x d e)) (λ k. or_right (eqb x d) (has d xs) (has_yes d xs k)) h
+
+-- and nothing else
+pub has_no : (d : ℕ) (xs : List ℕ) → Lacks d xs → has d xs ≡ false
+has_no d [] l = refl
+has_no d (x ∷ xs) l = ap (λ b. b || has d xs) (ne_eqb x d l.0) ∙ has_no d xs l.1
+
+-- the items of two rows of lists
+pub flat-append : (rows others : List (List ℕ)) → flat (rows ++ others) ≡ flat rows ++ flat others
+flat-append [] others = refl
+flat-append (xs ∷ rows) others = ap (λ ys. xs ++ ys) (flat-append rows others)
+    ∙ sym (append_assoc xs (flat rows) (flat others))
+
+-- lists that agree on names
+pub map-agree : (lists lists' : ℕ → List ℕ) (names : List ℕ) → ((w : ℕ) → Has w names → lists w ≡ lists' w)
+    → map lists names ≡ map lists' names
+map-agree lists lists' [] same = refl
+map-agree lists lists' (w ∷ names) same =
+    ap₂ (λ xs rows. xs ∷ rows) (same w (inl refl)) (map-agree lists lists' names (λ v h. same v (inr h)))
+
+-- two filters are one
+pub filter_twice : (p q r : ℕ → Bool) (xs : List ℕ) → ((x : ℕ) → r x ≡ (p x && q x))
+    → filter q (filter p xs) ≡ filter r xs
+filter_twice p q r [] both = refl
+filter_twice p q r (x ∷ xs) both = ⊎_elim
+    (λ t. ap (filter q) (filter_yes p x xs t) ∙ ⊎_elim
+    (λ u. filter_yes q x (filter p xs) u ∙ ap (λ ys. x ∷ ys) (filter_twice p q r xs both)
+    ∙ sym (filter_yes r x xs (both x ∙ ap₂ (λ a b. a && b) t u)))
+    (λ u. filter_no q x (filter p xs) u ∙ filter_twice p q r xs both
+    ∙ sym (filter_no r x xs (both x ∙ ap₂ (λ a b. a && b) t u)))
+    (cases_Bool (q x)))
+    (λ u. ap (filter q) (filter_no p x xs u) ∙ filter_twice p q r xs both
+    ∙ sym (filter_no r x xs (both x ∙ ap (λ a. a && q x) u)))
+    (cases_Bool (p x))
