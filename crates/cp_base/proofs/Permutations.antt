@@ -1,5 +1,5 @@
 -- Which places of a list that is to be a permutation are wrong.
-use Rattle.std.proofs.Common.{◌≡◌, ℕ, suc, ◌+◌, ◌<◌, ◌≤◌, ◌⊎◌, Bool, true, false, List, length, slice_index, get_or, set, replicate, sym, ap, ◌∙◌, subst, inl, inr, ⊎_elim, arith, get_or-set_same, get_or-set_other, length-set}
+use Rattle.std.proofs.Common.{◌≡◌, ℕ, ◌+◌, ◌<◌, ◌≤◌, Bool, true, false, List, length, slice_index, get_or, set, replicate, sym, ap, ◌∙◌, subst, inl, inr, ⊎_elim, arith, get_or-set_same, get_or-set_other, length-set}
 use Rattle.std.proofs.lemmas.Bool.{cases_eq, cases_lt, cases_order, false≢true}
 use Rattle.std.proofs.lemmas.List.{get_or-replicate, get_or_past, length-replicate}
 use Rattle.cp_base.specs.Permutations.{IsPerm, IsWrongAt}
@@ -63,7 +63,8 @@ RightSoFar-more to i seen so lt free = record {
     same = get_or-set_same seen (slice_index to i) true false (omega (arith, so.size))
 
 -- a marked value stands at an earlier place too
-pub RightSoFar-twice : (to : List ℕ) (i : ℕ) (seen : List Bool) → RightSoFar to i seen → get_or seen (slice_index to i) false ≡ true → IsWrongAt to i
+pub RightSoFar-twice : (to : List ℕ) (i : ℕ) (seen : List Bool) → RightSoFar to i seen →
+    get_or seen (slice_index to i) false ≡ true → IsWrongAt to i
 RightSoFar-twice to i seen so h = inr (so.met (slice_index to i) h)
 
 -- a list without a wrong place is a permutation

@@ -112,9 +112,11 @@ Leads-parts es x z (p ∷ ps) qs l = let h = Leads-parts es (finish es p) z ps q
 abbrev pub twin : ℕ → ℕ
 twin d = cond (eqb (d % 2) 0) (d + 1) (d - 1)
 
+-- the reverse of an even dart is the next
 twin_even : (d : ℕ) → d % 2 ≡ 0 → twin d ≡ d + 1
 twin_even d e = rw (eq-eqb (d % 2) 0 e) refl
 
+-- the reverse of an odd dart is the one before
 twin_odd : (d : ℕ) → (d % 2 ≡ 0 → ⊥) → twin d ≡ d - 1
 twin_odd d ne = rw (ne_eqb (d % 2) 0 ne) refl
 
@@ -214,12 +216,14 @@ pub record Ring (es : List (ℕ × ℕ)) (v : ℕ) (ds : List ℕ) : Type 0 wher
 pub Ring-cycle : (es : List (ℕ × ℕ)) (v : ℕ) (ds : List ℕ) → Ring es v ds → IsSimpleCycle es ds
 Ring-cycle es v ds r = cycle_of es v ds r.leads r.apart r.two r.differ
 
+-- darts of which none starts at z miss it
 misses_from : (es : List (ℕ × ℕ)) (z : ℕ) (ds : List ℕ) → ((j : ℕ) → j < length ds → start es (get_or ds j 0) ≡ z → ⊥)
     → Misses es z ds
 misses_from es z [] no_start = tt
 misses_from es z (d ∷ ds) no_start =
     (no_start 0 (omega arith), misses_from es z ds (λ j lt. no_start (suc j) (omega arith)))
 
+-- darts of which the later do not start where the earlier do start apart
 apart_from : (es : List (ℕ × ℕ)) (ds : List ℕ)
     → ((i j : ℕ) → i < j → j < length ds → start es (get_or ds j 0) ≡ start es (get_or ds i 0) → ⊥) → Apart es ds
 apart_from es [] differ = tt
@@ -229,6 +233,7 @@ apart_from es (d ∷ ds) differ = (
       (λ i j l lt. differ (suc i) (suc j) (omega arith) (omega arith)),
 )
 
+-- darts of which each ends where the next starts lead from the start of the first to the end of the last
 leads_from : (es : List (ℕ × ℕ)) (d : ℕ) (ds : List ℕ)
     → ((i : ℕ) → i < length (d ∷ ds) → get_or (d ∷ ds) i 0 < 2 * length es)
     → ((i : ℕ) → suc i < length (d ∷ ds) → finish es (get_or (d ∷ ds) i 0) ≡ start es (get_or (d ∷ ds) (suc i) 0))
@@ -380,6 +385,7 @@ pub record HitPath (es : List (ℕ × ℕ)) (v y : ℕ) (ring : List ℕ) : Type
   pub on : IsOn es hit v v ring
   pub other : hit ≡ v → ⊥
 
+-- a path to the ring from w on, where w is on the path, or w is not on it
 cut_hit : (es : List (ℕ × ℕ)) (v w x hit : ℕ) (ring ds : List ℕ) → Leads es x ds hit → Apart es ds → Misses es hit ds
     → Disjoint es ds ring → IsOn es hit v v ring → (hit ≡ v → ⊥) → HitPath es v w ring ⊎ Misses es w ds
 cut_hit es v w x hit ring [] l a m j on ne = inr tt
@@ -399,6 +405,7 @@ cut_hit es v w x hit ring (d ∷ ds) l a m j on ne =
     (λ nd. ⊎_elim (λ p. inl p) (λ r. inr (nd, r)) (cut_hit es v w (finish es d) hit ring ds l.2 a.1 m.1 j.1 on ne))
     (cases_eq (start es d) w)
 
+-- a dart before a path to the ring
 before_hit : (es : List (ℕ × ℕ)) (v w x d : ℕ) (ring : List ℕ) → Leads es v ring v → HitPath es v x ring
     → d < 2 * length es → start es d ≡ w → finish es d ≡ x → (w ≡ v → ⊥) → HitPath es v w ring
 before_hit es v w x d ring l p lt from to ne =

@@ -18,6 +18,7 @@ Contains-split x e es c = split_at c.0 c.1 c.2
     split_at zero lt f = inl f
     split_at (suc k) lt f = inr (k, omega arith, f)
 
+-- what a filter keeps, where the test of the first item is known
 kept_first : {X : Type 0} (p : X → Bool) (x e : X) (es : List X) (b : Bool) → p x ≡ b
     → Contains (cond b (x ∷ filter p es) (filter p es)) e → (Contains (filter p es) e → Contains es e × (p e ≡ true))
     → Contains (x ∷ es) e × (p e ≡ true)
@@ -34,6 +35,7 @@ pub kept_pair : {X : Type 0} (p : X → Bool) (es : List X) (e : X) → Contains
 kept_pair p [] e c = absurd (omega (arith, c.1))
 kept_pair p (x ∷ es) e c = kept_first p x e es (p x) refl c (kept_pair p es e)
 
+-- what a filter keeps of the rest or as the first item, where the test of the first item is known
 keeps_first : {X : Type 0} (p : X → Bool) (x e : X) (es : List X) (b : Bool) → p x ≡ b → p e ≡ true → (x ≡ e)
     ⊎ Contains es e → (Contains es e → Contains (filter p es) e) → Contains (cond b (x ∷ filter p es) (filter p es)) e
 keeps_first p x e es true t pe at rest =

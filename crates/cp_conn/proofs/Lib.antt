@@ -1,29 +1,31 @@
+-- Facts about the definitions, for callers.
 pub mod DartChains
-pub mod Searching
-pub mod Classes
-pub mod Neighbours
+pub mod EdgeEnds
 pub mod CutVertices
+pub mod Removed
+pub mod NumberedClasses
 pub mod Paths
 pub mod OneBlock
-pub mod Grouping
-pub mod BlocksAt
 pub mod BlockSteps
 pub mod BlockClasses
-pub mod BlockNumbers
-pub mod Forests
-pub mod TreeLinks
-pub mod Deepening
-pub mod LowPoints
-pub mod SearchTrees
-pub mod NumberedClasses
-pub mod EdgeEnds
 pub mod CutBlocks
 pub mod BlockLabels
 pub mod BlockPaths
+pub mod BlockParts
 pub mod NamedGraphs
-pub mod DistinctSubsets
 pub mod Bonds
 pub mod EqualBonds
 pub mod BlockBonds
-pub mod BlockParts
-pub mod Removed
+pub mod Grouping
+pub mod DistinctSubsets
+-- What the functions rest on.
+mod Searching
+mod Classes
+mod Neighbours
+mod BlocksAt
+mod BlockNumbers
+mod Forests
+mod TreeLinks
+mod Deepening
+mod LowPoints
+mod SearchTrees

@@ -50,8 +50,8 @@ StayMet n before after = (v : ℕ) → v < n → slice_index before v < n → sl
 
 -- the order is as it was, or goes on with further vertices
 abbrev pub IsFurther : List ℕ → List ℕ → Type 0
-IsFurther order longer = (length order ≤ length longer) × ((i : ℕ) → i < length order → slice_index longer
-    i ≡ slice_index order i)
+IsFurther order longer =
+    (length order ≤ length longer) × ((i : ℕ) → i < length order → slice_index longer i ≡ slice_index order i)
 
 -- fewer darts are left, or as many and the search stands at a lower number
 abbrev pub IsNearer : List ℕ → ℕ → List ℕ → ℕ → Type 0

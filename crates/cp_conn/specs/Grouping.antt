@@ -8,8 +8,8 @@ touches es v e = eqb (slice_index_or es e (0, 0)).0 v || eqb (slice_index_or es 
 
 -- the end of the edge that is not v
 abbrev pub other_end : List (ℕ × ℕ) → ℕ → ℕ → ℕ
-other_end es v e = cond (eqb (slice_index_or es e (0, 0)).0 v) (slice_index_or es e (0, 0)).1
-    (slice_index_or es e (0, 0)).0
+other_end es v e =
+    cond (eqb (slice_index_or es e (0, 0)).0 v) (slice_index_or es e (0, 0)).1 (slice_index_or es e (0, 0)).0
 
 -- what the list tells of the end of the edge that is not v
 abbrev pub key_of : List (ℕ × ℕ) → ℕ → List ℕ → ℕ → ℕ
@@ -44,5 +44,5 @@ pub record IsPlaced (key : ℕ → ℕ) (n : ℕ) (parts : List (List ℕ)) (pla
 abbrev pub IsPut : ℕ → ℕ → List (List ℕ) → List ℕ → List (List ℕ) → List ℕ → Type 0
 IsPut e l parts places more moved =
     ((slice_index places l ≡ 0) × (more ≡ parts ++ (e ∷ []) ∷ []) × (moved ≡ slice_set places l (length parts + 1)))
-    ⊎ ((k : ℕ) × (slice_index places l ≡ suc k) × (more ≡ slice_set parts k
-    (slice_index_or parts k [] ++ e ∷ [])) × (moved ≡ places))
+    ⊎ ((k : ℕ) × (slice_index places l ≡ suc k)
+    × (more ≡ slice_set parts k (slice_index_or parts k [] ++ e ∷ [])) × (moved ≡ places))

@@ -5,8 +5,8 @@ use Rattle.cp_conn.specs.SearchForest.{Above}
 
 -- some edge leads to number k from v or from a vertex below it
 abbrev pub IsReached : List (ℕ × ℕ) → List ℕ → List ℕ → ℕ → ℕ → Type 0
-IsReached es number up v k = (d : ℕ) × (d < 2 * length es) × Above up v
-    (start es d) × (slice_index number (finish es d) ≡ k)
+IsReached es number up v k =
+    (d : ℕ) × (d < 2 * length es) × Above up v (start es d) × (slice_index number (finish es d) ≡ k)
 
 -- low points: from a vertex or from one below it no edge leads to a lower number than its low point,
 -- and some edge leads to that where it is lower than the vertex

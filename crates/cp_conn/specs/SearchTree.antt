@@ -13,9 +13,8 @@ abbrev pub PassesLow : List ℕ → List ℕ → ℕ → ℕ → Type 0
 PassesLow up low i j = (i < j) × (slice_index up j ≡ i) × (slice_index low j ≡ slice_index low i)
 
 -- each of two or more vertices stands once in the order; each but the first is adjacent to the one above it, which
--- stands before it;
--- each from the third on has its low point before the vertex above it, and is adjacent to it or has a child with that
--- low point
+-- stands before it; each from the third on has its low point before the vertex above it, and is adjacent to it or has
+-- a child with that low point
 pub record IsSearchTree (es : List (ℕ × ℕ)) (n : ℕ) (order up low : List ℕ) : Type 0 where
   pub two : 1 < n
   pub each_once : Exactly n (λ v. true) order

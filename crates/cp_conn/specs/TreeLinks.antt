@@ -33,5 +33,5 @@ pub record AddsTreeLinks (number up edge low : List ℕ) (vertices : ℕ) (befor
 -- the link of v with the vertex above it is added, where v leads past that one
 abbrev pub LinksUp : List ℕ → List ℕ → List ℕ → List ℕ → ℕ → List (ℕ × ℕ) → List (ℕ × ℕ) → Type 0
 LinksUp number up edge low v before links =
-    (LeadsPast number up low v × (links ≡ before ++ tree_link up edge v ∷ [])) ⊎ ((LeadsPast number up low v
-    → ⊥) × (links ≡ before))
+    (LeadsPast number up low v × (links ≡ before ++ tree_link up edge v ∷ []))
+    ⊎ ((LeadsPast number up low v → ⊥) × (links ≡ before))

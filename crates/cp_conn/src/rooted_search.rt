@@ -13,15 +13,16 @@ use crate::search_forest::{SearchForest, empty_forest, meet, search_on};
 use cp_base::{Graph, Memory};
 use std::alloc::Global;
 
-/// A depth-first search tree of a biconnected graph. Vertices are named by their places in the order.
+/// A search tree of a biconnected graph. Vertices are named by their places in the order.
 #[derive(Drop)]
 pub struct SearchTree {
-    /// The vertices in the order in which the search met them.
+    /// The vertices in the order in which the search met them: parents before their children.
     pub order: Vec<usize>,
     /// For each place the place of the parent. The first has none, and its value means nothing.
     pub up: Vec<usize>,
-    /// For each place its low point: the least place that an edge leads to from the vertex there or
-    /// from one below it.
+    /// For each place from the third on its low point: a place before that of the parent, which an
+    /// edge leads to from the vertex there or from one below it. The second has the low point 0; the
+    /// first has none, and its value means nothing.
     pub low: Vec<usize>,
 }
 
@@ -109,8 +110,11 @@ fn tree_from(
     Ok(SearchTree { order, up, low })
 }
 
-/// A depth-first search tree whose first two vertices are `s` and `t`, with the low points of its
-/// vertices (Hopcroft, Tarjan 1973). Linear in the numbers of vertices and edges, without recursion.
+/// A search tree whose first two vertices are `s` and `t`, with a low point for each vertex, as orders
+/// from `s` to `t` need them (Hopcroft, Tarjan 1973): each vertex from the third on or one below it
+/// is adjacent to its low point, which stands before its parent. That the search goes depth first and
+/// that low points are the least such places is not told. Linear in the numbers of vertices and
+/// edges, without recursion.
 pub fn search_tree(alloc: Global, g: &Graph, s: usize, t: usize) -> Result<SearchTree, Memory>
     requires biconnected { AreBiconnected g.now.vertices g.now.ends }
     requires joined { IsNeighbour g.now.ends s t }

@@ -1,7 +1,9 @@
+-- Facts about the definitions, for callers.
 pub mod Biconnected
 pub mod Numbered
-pub mod Rooms
-pub mod Places
-pub mod BipolarOrders
 pub mod Induced
 pub mod Samples
+-- What the functions rest on.
+mod Rooms
+mod Places
+mod BipolarOrders

@@ -12,9 +12,9 @@ pub record Puts (k p u : ℕ) (places room places' room' : List ℕ) : Type 0 wh
   pub room_is : room' ≡ set room p (get_or room p 0 - get_or room k 0)
   pub others : (x : ℕ) → x ≢ p → x ≢ k → get_or places' x 0 ≡ get_or places x 0
   pub side : ((get_or places u 0 < get_or places p 0) × (get_or places' k 0 ≡ get_or places p 0)
-          × (get_or places' p 0 ≡ get_or places p 0 + get_or room k 0))
-  ⊎ ((get_or places p 0 ≤ get_or places u 0)
-          × (get_or places' k 0 ≡ get_or places p 0 + (get_or room p 0 - get_or room k 0))
+      × (get_or places' p 0 ≡ get_or places p 0 + get_or room k 0))
+      ⊎ ((get_or places p 0 ≤ get_or places u 0)
+      × (get_or places' k 0 ≡ get_or places p 0 + (get_or room p 0 - get_or room k 0))
       × (get_or places' p 0 ≡ get_or places p 0))
 
 -- one vertex more has its place
@@ -25,23 +25,29 @@ put_step n k up low places room places' room' t s some lt h = record {
   size = h.size ∙ s.size;
   have = have_step n k up room room' s.have lt lower h.room_is;
   within = λ x ltx. ⊎_elim (λ e.
-      omega (arith, ap (λ (z : ℕ). get_or places' z 0) e, ap
-      (λ (z : ℕ). get_or room' z 0) e, inside.1, s.within p lower))
+      omega (
+        arith,
+        ap (λ (z : ℕ). get_or places' z 0) e,
+        ap
+            (λ (z : ℕ). get_or room' z 0) e,
+        inside.1,
+        s.within p lower,
+      ))
       (λ ne. omega (arith, nest x (omega arith), s.within x (omega arith))) (cases_eq x k);
   apart = λ x y ltx lty ne. ⊎_elim
       (λ e. subst (λ (z : ℕ). IsBefore places' room' z y ⊎ IsBefore places' room' y z) (sym e)
-          (⊎_elim (λ b. inr b) (λ b. inl b) (new_apart y (let nk : y ≢ k = λ f. ne (e ∙ sym f) in omega arith))))
+      (⊎_elim (λ b. inr b) (λ b. inl b) (new_apart y (let nk : y ≢ k = λ f. ne (e ∙ sym f) in omega arith))))
       (λ nx. ⊎_elim
       (λ e. subst (λ (z : ℕ). IsBefore places' room' x z ⊎ IsBefore places' room' z x) (sym e)
-          (new_apart x (omega arith)))
+      (new_apart x (omega arith)))
       (λ ny. ⊎_elim (λ b. inl (kept x y (omega arith) (omega arith) b))
-          (λ b. inr (kept y x (omega arith) (omega arith) b)) (s.apart x y (omega arith) (omega arith) ne))
+      (λ b. inr (kept y x (omega arith) (omega arith) b)) (s.apart x y (omega arith) (omega arith) ne))
       (cases_eq y k))
       (cases_eq x k);
   between = λ x late ltx. ⊎_elim
       (λ e. subst (λ (z : ℕ). (IsBefore places' room' (get_or low z 0) z × IsBefore places' room' z
-          (get_or up z 0)) ⊎ (IsBefore places' room' (get_or up z 0) z × IsBefore places' room' z (get_or low z 0)))
-          (sym e) (new_between (omega arith)))
+      (get_or up z 0)) ⊎ (IsBefore places' room' (get_or up z 0) z × IsBefore places' room' z (get_or low z 0)))
+      (sym e) (new_between (omega arith)))
       (λ ne. let ltk : x < k = omega arith in
       let ltu : get_or up x 0 < k = omega (arith, t.up_lower x (omega arith) (omega arith)) in
       let ltl : get_or low x 0 < k = omega (arith, t.low_lower x late (omega arith), ltu) in
@@ -87,9 +93,9 @@ put_step n k up low places room places' room' t s some lt h = record {
         × (get_or places' x 0 + get_or room' x 0 ≤ get_or places x 0 + get_or room x 0)
     nest x ltx = ⊎_elim
         (λ e. subst (λ (z : ℕ). (get_or places z 0 ≤ get_or places' z 0) × (get_or places' z 0 + get_or room' z
-            0 ≤ get_or places z 0 + get_or room z 0)) (sym e) nest_p)
+        0 ≤ get_or places z 0 + get_or room z 0)) (sym e) nest_p)
         (λ ne. let same : get_or places' x 0 ≡ get_or places x 0 = h.others x ne (λ f. omega arith) in
-            (omega (arith, same), omega (arith, same, room_other x ne)))
+        (omega (arith, same), omega (arith, same, room_other x ne)))
         (cases_eq x p)
 
     inside : (get_or places p 0 ≤ get_or places' k 0)
@@ -107,7 +113,7 @@ put_step n k up low places room places' room' t s some lt h = record {
     new_apart y lty = ⊎_elim
         (λ e. subst (λ (z : ℕ). IsBefore places' room' z k ⊎ IsBefore places' room' k z) (sym e) beside)
         (λ ne. ⊎_elim (λ b. inl (omega (arith, b, nest y lty, inside)))
-            (λ b. inr (omega (arith, b, nest y lty, inside))) (s.apart y p lty lower ne))
+        (λ b. inr (omega (arith, b, nest y lty, inside))) (s.apart y p lty lower ne))
         (cases_eq y p)
 
     new_between : 1 < k → (IsBefore places' room' u k × IsBefore places' room' k p)
@@ -134,25 +140,45 @@ put_step n k up low places room places' room' t s some lt h = record {
     front : k ≡ 1 → (get_or places' p 0 ≡ get_or places p 0)
         × (get_or places' k 0 ≡ get_or places p 0 + (get_or room p 0 - get_or room k 0))
     front e = ⊎_elim (λ f. absurd
-        (omega (arith, f.0, ap (λ (z : ℕ). get_or places z 0) (early e).0, ap (λ (z : ℕ). get_or places z 0)
-        (early e).1))) (λ g. (g.2, g.1)) h.side
+        (omega (
+          arith,
+          f.0,
+          ap (λ (z : ℕ). get_or places z 0) (early e).0,
+          ap (λ (z : ℕ). get_or places z 0)
+              (early e).1,
+        ))) (λ g. (g.2, g.1)) h.side
 
     first_kept : get_or places' 0 0 ≡ 0
     first_kept = ⊎_elim
         (λ e. let z : p ≡ 0 = (early e).0 in ap (λ (x : ℕ). get_or places' x 0) (sym z) ∙ (front e).0
-            ∙ ap (λ (x : ℕ). get_or places x 0) z ∙ s.first)
+        ∙ ap (λ (x : ℕ). get_or places x 0) z ∙ s.first)
         (λ ne. h.others 0 (λ e. omega (arith, t.low_lower k (omega arith) lt)) (λ e. omega arith) ∙ s.first)
         (cases_eq k 1)
 
     last_kept : 1 < k + 1 → get_or places' 1 0 + get_or room' 1 0 ≡ n
     last_kept late = ⊎_elim
         (λ e. let z : p ≡ 0 = (early e).0 in
-        omega (arith, ap (λ (x : ℕ). get_or places' x 0) (sym e), ap (λ (x : ℕ). get_or room' x 0) (sym e),
-            (front e).1, room_new, enough, ap (λ (x : ℕ). get_or places x 0) z, ap
-            (λ (x : ℕ). get_or room x 0) z, s.first, s.alone e))
+        omega (
+          arith,
+          ap (λ (x : ℕ). get_or places' x 0) (sym e),
+          ap (λ (x : ℕ). get_or room' x 0) (sym e),
+          (front e).1,
+          room_new,
+          enough,
+          ap (λ (x : ℕ). get_or places x 0) z,
+          ap
+              (λ (x : ℕ). get_or room x 0) z,
+          s.first,
+          s.alone e,
+        ))
         (λ ne. ⊎_elim (λ e. beside_last (omega arith) e)
-            (λ np. omega (arith, h.others 1 (λ f. np (sym f)) (λ f. ne (sym f)), room_other 1 (λ f. np (sym f)), s.last
-            (omega arith))) (cases_eq p 1))
+        (λ np. omega (
+          arith,
+          h.others 1 (λ f. np (sym f)) (λ f. ne (sym f)),
+          room_other 1 (λ f. np (sym f)),
+          s.last
+              (omega arith),
+        )) (cases_eq p 1))
         (cases_eq k 1)
       where
         beside_last : 1 < k → p ≡ 1 → get_or places' 1 0 + get_or room' 1 0 ≡ n
@@ -161,14 +187,30 @@ put_step n k up low places room places' room' t s some lt h = record {
             let one_u : 1 ≤ get_or room 1 0 = room_some n k 1 up room s.have (omega arith) (omega arith) in
             let one_0 : 1 ≤ get_or room 0 0 = room_some n k 0 up room s.have (omega arith) (omega arith) in
             let before : get_or places 0 0 < get_or places 1 0 =
-                ⊎_elim (λ b. omega (arith, b, one_0)) (λ b. absurd (omega (arith, b, one_u, s.first)))
-                (s.apart 0 1 (omega arith) l (λ f. omega arith)) in
+            ⊎_elim (λ b. omega (arith, b, one_0)) (λ b. absurd (omega (arith, b, one_u, s.first)))
+            (s.apart 0 1 (omega arith) l (λ f. omega arith)) in
             ⊎_elim
-            (λ f. omega (arith, f.2, room_at, enough, ap (λ (x : ℕ). get_or places' x 0) e, ap
-                (λ (x : ℕ). get_or room' x 0) e, ap (λ (x : ℕ). get_or places x 0) e, ap
-                (λ (x : ℕ). get_or room x 0) e, s.last l))
-            (λ g. absurd (omega (arith, g.0, before, ap (λ (x : ℕ). get_or places x 0) e, ap
-                (λ (x : ℕ). get_or places x 0) z)))
+            (λ f. omega (
+              arith,
+              f.2,
+              room_at,
+              enough,
+              ap (λ (x : ℕ). get_or places' x 0) e,
+              ap
+                  (λ (x : ℕ). get_or room' x 0) e,
+              ap (λ (x : ℕ). get_or places x 0) e,
+              ap
+                  (λ (x : ℕ). get_or room x 0) e,
+              s.last l,
+            ))
+            (λ g. absurd (omega (
+              arith,
+              g.0,
+              before,
+              ap (λ (x : ℕ). get_or places x 0) e,
+              ap
+                  (λ (x : ℕ). get_or places x 0) z,
+            )))
             h.side
 
 -- the first vertex alone has all the room
@@ -177,8 +219,14 @@ pub placing_start : (n : ℕ) (up low places room : List ℕ) → 1 < n → Shar
 placing_start n up low places room two s is = record {
   size = ap length is ∙ length-replicate n 0;
   have = s.have;
-  within = λ x lt. omega (arith, ap (λ (z : ℕ). get_or places z 0) (let e : x ≡ 0 = omega arith in e), ap
-      (λ (z : ℕ). get_or room z 0) (let e : x ≡ 0 = omega arith in e), zero_first, whole);
+  within = λ x lt. omega (
+    arith,
+    ap (λ (z : ℕ). get_or places z 0) (let e : x ≡ 0 = omega arith in e),
+    ap
+        (λ (z : ℕ). get_or room z 0) (let e : x ≡ 0 = omega arith in e),
+    zero_first,
+    whole,
+  );
   apart = λ x y ltx lty ne. absurd (ne (omega arith));
   between = λ x late lt. absurd (omega arith);
   first = zero_first;
@@ -221,20 +269,26 @@ pub share_read : (n k a b : ℕ) (up room : List ℕ) → ShareRoom n up room (k
     → ShareRoom n up (set room (get_or up k 0) (a + b)) k × (a + b ≤ n)
 share_read n k a b up room s lt lower a_is b_is =
     let at_a : a ≡ get_or room (get_or up k 0) 0 =
-        get_or_read room (get_or up k 0) a (omega (arith, lower, lt, s.have.size)) a_is 0 in
+    get_or_read room (get_or up k 0) a (omega (arith, lower, lt, s.have.size)) a_is 0 in
     let at_b : b ≡ get_or room k 0 = get_or_read room k b (omega (arith, lt, s.have.size)) b_is 0 in
-    let next : k + 1 ≡ suc k = omega arith in
-    (share_step n k up room (set room (get_or up k 0) (a + b)) s lt lower
-        (ap (λ (z : ℕ). set room (get_or up k 0) z) (omega (arith, at_a, at_b))),
-        omega (arith, at_a, at_b, total_item room k (get_or up k 0) lower, s.whole, ap (total room) next))
+    let next : k + 1 ≡ suc k = omega arith in (
+      share_step n k up room (set room (get_or up k 0) (a + b)) s lt lower
+          (ap (λ (z : ℕ). set room (get_or up k 0) z) (omega (arith, at_a, at_b))),
+      omega (arith, at_a, at_b, total_item room k (get_or up k 0) lower, s.whole, ap (total room) next),
+    )
 
 -- a parent has more room than its child
 pub read_enough : (n k a b : ℕ) (up low places room : List ℕ) → IsTree n up low → IsPlacing n up low places room k
     → 0 < k → k < n → a ≡ get_or room (get_or up k 0) a → b ≡ get_or room k b → b ≤ a
 read_enough n k a b up low places room t s some lt a_is b_is =
     let lower : get_or up k 0 < k = t.up_lower k some lt in
-    omega (arith, room_enough n k up room s.have lt lower, get_or_read room (get_or up k 0) a
-        (omega (arith, lower, lt, s.have.size)) a_is 0, get_or_read room k b (omega (arith, lt, s.have.size)) b_is 0)
+    omega (
+      arith,
+      room_enough n k up room s.have lt lower,
+      get_or_read room (get_or up k 0) a
+          (omega (arith, lower, lt, s.have.size)) a_is 0,
+      get_or_read room k b (omega (arith, lt, s.have.size)) b_is 0,
+    )
 
 -- the parent stays within the places where it moves behind its child
 pub front_fits : (n k b q r : ℕ) (up low places room : List ℕ) → IsTree n up low → IsPlacing n up low places room k
@@ -381,9 +435,9 @@ stand_step items places order i s lt within apart = record {
   size = length-set order (get_or places i 0) (get_or items i 0) ∙ s.size;
   each = λ j ltj. ⊎_elim
       (λ e. ap (λ (z : ℕ). get_or (set order (get_or places i 0) (get_or items i 0)) (get_or places z 0) 0) e
-          ∙ get_or-set_same order (get_or places i 0) (get_or items i 0) 0 (omega (arith, within i lt, s.size))
-          ∙ ap (λ (z : ℕ). get_or items z 0) (sym e))
+      ∙ get_or-set_same order (get_or places i 0) (get_or items i 0) 0 (omega (arith, within i lt, s.size))
+      ∙ ap (λ (z : ℕ). get_or items z 0) (sym e))
       (λ ne. get_or-set_other order (get_or places i 0) (get_or places j 0) (get_or items i 0) 0
-          (λ e. ne (apart j i (omega (arith, ltj, lt)) lt e)) ∙ s.each j (omega arith))
+      (λ e. ne (apart j i (omega (arith, ltj, lt)) lt e)) ∙ s.each j (omega arith))
       (cases_eq j i);
 }

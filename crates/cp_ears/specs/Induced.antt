@@ -11,9 +11,8 @@ is_item (y ∷ ys) x = eqb y x || is_item ys x
 abbrev pub induced : List ℕ → List (ℕ × ℕ) → List (ℕ × ℕ)
 induced vertices es = filter (λ e. is_item vertices e.0 && is_item vertices e.1) es
 
--- the vertices induce a connected graph: any two of them are joined by a walk along edges that have both ends among
--- them
+-- the vertices induce a connected graph: a walk along edges that have both ends among them joins any two of them
 abbrev pub InduceConnected : List (ℕ × ℕ) → List ℕ → Type 0
 InduceConnected es vertices =
-    (i j : ℕ) → i < length vertices → j < length vertices → Connected (induced vertices es) (slice_index vertices i)
-    (slice_index vertices j)
+    (i j : ℕ) → i < length vertices → j < length vertices
+    → Connected (induced vertices es) (slice_index vertices i) (slice_index vertices j)

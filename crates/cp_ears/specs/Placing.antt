@@ -1,8 +1,7 @@
 -- Places that the vertices of a search tree get in a bipolar order, the parents first (Tarjan 1986).
 use Rattle.std.specs.Prelude.{◌≡◌, ◌≢◌, ℕ, zero, suc, ◌+◌, ◌<◌, ◌≤◌, ◌⊎◌, eqb, cond, List, length, slice_index}
 
--- each of n vertices but the first has its parent before it, and each from the third on has its low point before its
--- parent
+-- each of n vertices but the first has its parent before it, and each from the third on its low point before its parent
 pub record IsTree (n : ℕ) (up low : List ℕ) : Type 0 where
   pub up_size : length up ≡ n
   pub low_size : length low ≡ n
@@ -20,9 +19,9 @@ pub record ArePlaces (n : ℕ) (up low places : List ℕ) : Type 0 where
   pub last : slice_index places 1 + 1 ≡ n
   pub between : (x : ℕ) → 1 < x → x < n
       → ((slice_index places (slice_index low x) < slice_index places x)
-          × (slice_index places x < slice_index places (slice_index up x)))
-  ⊎ ((slice_index places (slice_index up x) < slice_index places x)
-          × (slice_index places x < slice_index places (slice_index low x)))
+      × (slice_index places x < slice_index places (slice_index up x)))
+      ⊎ ((slice_index places (slice_index up x) < slice_index places x)
+      × (slice_index places x < slice_index places (slice_index low x)))
 
 -- how much room the children of p have, of so many vertices from k on
 abbrev pub children_from : List ℕ → List ℕ → ℕ → ℕ → ℕ → ℕ

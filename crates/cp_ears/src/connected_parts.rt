@@ -12,6 +12,4 @@ pub fn prefixes_are_connected(g: &Graph, s: usize, t: usize, order: &[usize])
     requires bipolar { IsBipolar g.now s t order.now }
     ensures prefixes { (count : ℕ) → InduceConnected g.now.ends (take count order.now) }
     ensures suffixes { (count : ℕ) → InduceConnected g.now.ends (drop count order.now) }
-{
-    let _ = (g.vertices(), s, t, order.len());
-}
+{}

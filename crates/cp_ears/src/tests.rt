@@ -1,12 +1,12 @@
 // Orders of small graphs, worked out by hand.
-ghost use Rattle.std.specs.Prelude.{◌≡◌, ℕ, ◌<◌, ◌≤◌, false, true, length, slice_index, slice_index_or, IsTrue, IfOk, EachIndex};
+ghost use Rattle.std.specs.Prelude.{◌≡◌, ℕ, ◌<◌, ◌≤◌, false, true, length, slice_index, slice_index_or, IsTrue, IfOk, EachIndex, MatchOption};
 ghost use Rattle.cp_base.specs.Graphs.{AreWithin};
 ghost use Rattle.cp_conn.specs.Blocks.{HaveNoLoop};
-ghost use Rattle.cp_ears.specs.Bipolar.{HaveEdges};
+ghost use Rattle.cp_ears.specs.Bipolar.{HaveEdges, IsOneBlock};
 
 use crate::{bipolar, prefixes_are_connected};
 use cp_base::{Graph, Memory};
-use cp_conn::blocks;
+use cp_conn::{blocks, search_tree};
 use std::alloc::Global;
 use std::test::Fail;
 
@@ -37,6 +37,26 @@ fn have_edges(alloc: Global, vertices: usize, ends: &[(usize, usize)]) -> Result
     Ok(are_true(touched.as_slice()))
 }
 
+// The graph, if it is one block with an edge at each vertex.
+fn graph_of_one_block(
+    alloc: Global,
+    vertices: usize,
+    ends: &[(usize, usize)],
+) -> Result<Option<Graph>, Memory>
+    requires ends_within { AreWithin vertices ends.now }
+    requires no_loop { HaveNoLoop ends.now }
+    ensures graph { IfOk result (λ found. MatchOption found (Unit {0}) (λ g. g ≡ record { vertices = vertices; ends = ends.now })) }
+    ensures one_block { IfOk result (λ found. MatchOption found (Unit {0}) (λ g. IsOneBlock g.ends)) }
+    ensures each_has_edge { IfOk result (λ found. MatchOption found (Unit {0}) (λ g. HaveEdges g.vertices g.ends)) }
+{
+    let g = Graph::from_ends(alloc, vertices, ends)?;
+    let numbers = blocks(alloc, &g)?;
+    if !are_zero(numbers.as_slice()) || !have_edges(alloc, vertices, ends)? {
+        return Ok(None);
+    }
+    Ok(Some(g))
+}
+
 // Whether the graph is one block with an edge at each vertex, and its order between the ends of an edge
 // is one of these two.
 fn has_order(
@@ -51,15 +71,41 @@ fn has_order(
     requires no_loop { HaveNoLoop ends.now }
     requires edge_within { edge < length ends.now }
 {
-    let g = Graph::from_ends(alloc, vertices, ends)?;
-    let numbers = blocks(alloc, &g)?;
-    if !are_zero(numbers.as_slice()) || !have_edges(alloc, vertices, ends)? {
-        return Ok(false);
-    }
     let (s, t) = ends[edge];
-    let found = bipolar(alloc, &g, s, t)?;
-    prefixes_are_connected(&g, s, t, found.as_slice());
-    Ok(found.as_slice() == order || found.as_slice() == other)
+    match graph_of_one_block(alloc, vertices, ends)? {
+        Some(g) => {
+            let found = bipolar(alloc, &g, s, t)?;
+            prefixes_are_connected(&g, s, t, found.as_slice());
+            Ok(found.as_slice() == order || found.as_slice() == other)
+        }
+        None => Ok(false),
+    }
+}
+
+// Whether the graph is one block with an edge at each vertex, and this is its search tree from the first
+// end of an edge over the second: the order, and for each place from the second on the place of the
+// parent and the low point.
+fn has_tree(
+    alloc: Global,
+    vertices: usize,
+    ends: &[(usize, usize)],
+    edge: usize,
+    order: &[usize],
+    places: &[(usize, usize)],
+) -> Result<bool, Memory>
+    requires ends_within { AreWithin vertices ends.now }
+    requires no_loop { HaveNoLoop ends.now }
+    requires edge_within { edge < length ends.now }
+{
+    let (s, t) = ends[edge];
+    match graph_of_one_block(alloc, vertices, ends)? {
+        Some(g) => {
+            let tree = search_tree(alloc, &g, s, t)?;
+            let found = tree.up.iter().copied().zip(tree.low.iter().copied());
+            Ok(tree.order.as_slice() == order && found.skip(1).eq(places.iter().copied()))
+        }
+        None => Ok(false),
+    }
 }
 
 #[test]
@@ -92,6 +138,50 @@ fn orders_of_small_graphs(rt: HostRuntime) -> Result<(), Fail> {
         has_order(alloc, 4, &chord, 3, &[3, 2, 1, 0], &[]),
         Ok(true),
         "a cycle with a chord"
+    );
+    Ok(())
+}
+
+#[test]
+fn search_trees_of_small_graphs(rt: HostRuntime) -> Result<(), Fail> {
+    let alloc = rt.alloc();
+    assert_eq!(rt;
+        has_tree(
+            alloc,
+            3,
+            &[(0, 1), (1, 2), (0, 2)],
+            2,
+            &[0, 2, 1],
+            &[(0, 0), (1, 0)]
+        ),
+        Ok(true),
+        "a triangle"
+    );
+    let chord = [(0, 1), (1, 2), (2, 3), (3, 0), (1, 3)];
+    assert_eq!(rt;
+        has_tree(
+            alloc,
+            4,
+            &chord,
+            3,
+            &[3, 0, 1, 2],
+            &[(0, 0), (1, 0), (2, 0)]
+        ),
+        Ok(true),
+        "a cycle with a chord"
+    );
+    let long = [(0, 1), (1, 2), (2, 3), (3, 4), (4, 0), (1, 3)];
+    assert_eq!(rt;
+        has_tree(
+            alloc,
+            5,
+            &long,
+            0,
+            &[0, 1, 3, 4, 2],
+            &[(0, 0), (1, 0), (2, 0), (2, 1)]
+        ),
+        Ok(true),
+        "a low point that is the parent of the parent"
     );
     Ok(())
 }

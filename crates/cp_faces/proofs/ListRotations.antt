@@ -1,16 +1,15 @@
 -- Lists of the darts round each vertex make a rotation as a function on darts.
-use Rattle.std.proofs.Common.{◌≡◌, ℕ, ◌+◌, ◌-◌, ◌<◌, ◌≢◌, true, List, length, slice_index, eqb, sym, refl, ap, ◌∙◌, subst, ⊎_elim, arith}
-use Rattle.std.specs.Fn.{iterate}
+use Rattle.std.proofs.Common.{◌≡◌, ℕ, ◌<◌, ◌≢◌, true, List, eqb, sym, refl, ap, ◌∙◌, subst, ⊎_elim}
 use Rattle.std.proofs.lemmas.Bool.{cases_eq, cond-true, cond-false, eq-eqb, ne_eqb, eqb-true}
 use Rattle.cp_lists.specs.Count.{Exactly}
 use Rattle.cp_orbits.specs.Orbits.{Reaches, splice}
 use Rattle.cp_lists.specs.CyclicLists.{Has, Distinct, but, follow}
 use Rattle.cp_faces.specs.Faces.{Rotates}
-use Rattle.cp_orbits.proofs.OrbitLaws.{iterate-agree, Reaches-trans, Permutes-agree}
+use Rattle.cp_orbits.proofs.OrbitLaws.{iterate-agree, Permutes-agree}
 use Rattle.cp_orbits.proofs.ListOrbits.{follow-reaches}
-use Rattle.cp_lists.proofs.DistinctLists.{Has-place, Exactly-Distinct, Exactly-Has}
+use Rattle.cp_lists.proofs.DistinctLists.{Exactly-Distinct, Exactly-Has}
 use Rattle.cp_lists.proofs.CyclicLists.{follow-Has, follow-apart, follow-but}
-use Rattle.cp_lists.proofs.FollowedLists.{follow_at, follow_last, follow_steps, iterate_in_list}
+use Rattle.cp_lists.proofs.FollowedLists.{iterate_in_list}
 
 -- functions that agree below n are rotations together
 pub Rotates-agree : (v n : ℕ) (at next at' next' : ℕ → ℕ) → ((d : ℕ) → d < n → at d ≡ at' d) → ((d : ℕ) → d < n → next d ≡ next' d) → Rotates v n at next → Rotates v n at' next'

@@ -4,7 +4,8 @@ use Rattle.std.proofs.lemmas.Bool.{cases_eq, cond-true, cond-false, eq-eqb, ne_e
 use Rattle.cp_lists.proofs.Counting.{count_all, count_inject}
 
 -- a number with a property for each below n makes a function
-pub choose : (n : ℕ) (R : ℕ → ℕ → Type 0) → ((x : ℕ) → x < n → (y : ℕ) × R x y) → (f : ℕ → ℕ) × ((x : ℕ) → x < n → R x (f x))
+pub choose : (n : ℕ) (R : ℕ → ℕ → Type 0) → ((x : ℕ) → x < n → (y : ℕ) × R x y) →
+    (f : ℕ → ℕ) × ((x : ℕ) → x < n → R x (f x))
 choose zero R each = (λ x. 0, λ x lt. absurd (omega arith))
 choose (suc n) R each =
     let rest = choose n R (λ x lt. each x (omega arith)) in
@@ -17,7 +18,8 @@ choose (suc n) R each =
     )
 
 -- numbers below n and below m that are given to each other are equally many
-pub same_size : (n m : ℕ) (p q : ℕ → ℕ) → ((x : ℕ) → x < n → (p x < m) × (q (p x) ≡ x)) → ((x : ℕ) → x < m → (q x < n) × (p (q x) ≡ x)) → n ≡ m
+pub same_size : (n m : ℕ) (p q : ℕ → ℕ) → ((x : ℕ) → x < n → (p x < m) × (q (p x) ≡ x)) →
+    ((x : ℕ) → x < m → (q x < n) × (p (q x) ≡ x)) → n ≡ m
 same_size n m p q there back = omega (arith, half n m p q there, half m n q p back)
   where
     half : (n m : ℕ) (p q : ℕ → ℕ) → ((x : ℕ) → x < n → (p x < m) × (q (p x) ≡ x)) → n ≤ m

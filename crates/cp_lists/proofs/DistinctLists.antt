@@ -1,5 +1,5 @@
 -- Lists of distinct items by recursion, and the same by places.
-use Rattle.std.proofs.Common.{◌≡◌, ℕ, zero, suc, ◌<◌, ◌⊎◌, ◌↔◌, ◌≢◌, Bool, true, List, [], ◌∷◌, ◌++◌, length, slice_index, sym, refl, ap, ap₂, ◌∙◌, subst, inl, inr, ⊎_elim, arith}
+use Rattle.std.proofs.Common.{◌≡◌, ℕ, zero, suc, ◌<◌, ◌⊎◌, ◌↔◌, ◌≢◌, Bool, true, List, [], ◌∷◌, ◌++◌, length, slice_index, sym, refl, ap, ap₂, ◌∙◌, subst, inl, inr, ⊎_elim, arith, append_assoc}
 use Rattle.std.specs.List.{Contains}
 use Rattle.std.proofs.lemmas.Bool.{cases_eq, eq-eqb, ne_eqb}
 use Rattle.cp_lists.specs.Count.{Exactly}
@@ -85,6 +85,31 @@ Distinct-turn xs ys d = Distinct-append ys xs (Distinct-append_right xs ys d) (D
 -- a turn has the same items
 pub Has-turn : (d : ℕ) (xs ys : List ℕ) → Has d (xs ++ ys) → Has d (ys ++ xs)
 Has-turn d xs ys h = ⊎_elim (Has-append_right d ys xs) (Has-append_left d ys xs) (Has-append_cases d xs ys h)
+
+-- distinct items stay distinct without one of them
+pub Distinct-less : (xs : List ℕ) (z : ℕ) (ys : List ℕ) → Distinct (xs ++ z ∷ ys) → Distinct (xs ++ ys)
+Distinct-less xs z ys dis =
+    Distinct-append xs ys (Distinct-append_left xs (z ∷ ys) dis) (Distinct-append_right xs (z ∷ ys) dis).1
+    (λ d h. (Distinct-apart d xs (z ∷ ys) dis h).1)
+
+-- distinct items stay distinct with their first two parts in the other order
+pub Distinct-swapped : (xs ys zs : List ℕ) → Distinct (xs ++ (ys ++ zs)) → Distinct (ys ++ (xs ++ zs))
+Distinct-swapped xs ys zs dis =
+    let d : Distinct ((xs ++ ys) ++ zs) = subst Distinct (sym (append_assoc xs ys zs)) dis in
+    subst Distinct (append_assoc ys xs zs)
+    (Distinct-append (ys ++ xs) zs (Distinct-turn xs ys (Distinct-append_left (xs ++ ys) zs d)) (Distinct-append_right (xs ++ ys) zs d)
+    (λ x h. Distinct-apart x (xs ++ ys) zs d (Has-turn x ys xs h)))
+
+-- the items stay the same with their first two parts in the other order
+pub Has-swapped : (d : ℕ) (xs ys zs : List ℕ) → Has d (xs ++ (ys ++ zs)) → Has d (ys ++ (xs ++ zs))
+Has-swapped d xs ys zs h =
+    ⊎_elim
+    (λ k. Has-append_right d ys (xs ++ zs) (Has-append_left d xs zs k))
+    (λ k. ⊎_elim
+    (λ l. Has-append_left d ys (xs ++ zs) l)
+    (λ l. Has-append_right d ys (xs ++ zs) (Has-append_right d xs zs l))
+    (Has-append_cases d ys zs k))
+    (Has-append_cases d xs (ys ++ zs) h)
 
 -- an item, with what stands before and behind it
 pub Has-split : (d : ℕ) (xs : List ℕ) → Has d xs → (ys : List ℕ) × (zs : List ℕ) × (xs ≡ ys ++ d ∷ zs) × Lacks d ys

@@ -59,8 +59,22 @@ filter_agree p q (x ∷ xs) same =
     (λ fx. filter_no p x xs fx ∙ rest ∙ sym (filter_no q x xs (sym (same x (inl refl)) ∙ fx)))
     (cases_Bool (p x))
 
+-- two tests one after the other are one test
+pub filter_twice : (p q r : ℕ → Bool) (xs : List ℕ) → ((x : ℕ) → r x ≡ (p x && q x)) →
+    filter q (filter p xs) ≡ filter r xs
+filter_twice p q r [] both = refl
+filter_twice p q r (x ∷ xs) both =
+    ⊎_elim
+    (λ t. ap (filter q) (filter_yes p x xs t) ∙ ⊎_elim
+    (λ u. filter_yes q x (filter p xs) u ∙ ap (λ ys. x ∷ ys) (filter_twice p q r xs both) ∙ sym (filter_yes r x xs (both x ∙ ap₂ (λ a b. a && b) t u)))
+    (λ u. filter_no q x (filter p xs) u ∙ filter_twice p q r xs both ∙ sym (filter_no r x xs (both x ∙ ap₂ (λ a b. a && b) t u)))
+    (cases_Bool (q x)))
+    (λ u. ap (filter q) (filter_no p x xs u) ∙ filter_twice p q r xs both ∙ sym (filter_no r x xs (both x ∙ ap (λ a. a && q x) u)))
+    (cases_Bool (p x))
+
 -- new numbers for what passes one test, and then for what passes another
-pub map_filtered : (s t g : ℕ → ℕ) (p q k : ℕ → Bool) (xs : List ℕ) → ((d : ℕ) → g d ≡ t (s d)) → ((d : ℕ) → k d ≡ (p d && q (s d))) → map t (filter q (map s (filter p xs))) ≡ map g (filter k xs)
+pub map_filtered : (s t g : ℕ → ℕ) (p q k : ℕ → Bool) (xs : List ℕ) → ((d : ℕ) → g d ≡ t (s d)) →
+    ((d : ℕ) → k d ≡ (p d && q (s d))) → map t (filter q (map s (filter p xs))) ≡ map g (filter k xs)
 map_filtered s t g p q k [] one both = refl
 map_filtered s t g p q k (x ∷ xs) one both =
     let rest : map t (filter q (map s (filter p xs))) ≡ map g (filter k xs) = map_filtered s t g p q k xs one both in
@@ -73,12 +87,14 @@ map_filtered s t g p q k (x ∷ xs) one both =
     (cases_Bool (p x))
 
 -- the head of what is kept, where the head passes
-head_kept : (p : ℕ → Bool) (first other : ℕ) (xs : List ℕ) → (p first ≡ true → other ≡ first) → p (head_or first xs) ≡ true → head_or other (filter p xs) ≡ head_or first xs
+head_kept : (p : ℕ → Bool) (first other : ℕ) (xs : List ℕ) → (p first ≡ true → other ≡ first) →
+    p (head_or first xs) ≡ true → head_or other (filter p xs) ≡ head_or first xs
 head_kept p first other [] same t = same t
 head_kept p first other (x ∷ xs) same t = ap (head_or other) (filter_yes p x xs t)
 
 -- behind an item that is kept comes what came behind it, if that is kept too
-next_kept : (p : ℕ → Bool) (first other d : ℕ) (xs : List ℕ) → (p first ≡ true → other ≡ first) → Has d xs → p d ≡ true → p (next_from first xs d) ≡ true → next_from other (filter p xs) d ≡ next_from first xs d
+next_kept : (p : ℕ → Bool) (first other d : ℕ) (xs : List ℕ) → (p first ≡ true → other ≡ first) → Has d xs →
+    p d ≡ true → p (next_from first xs d) ≡ true → next_from other (filter p xs) d ≡ next_from first xs d
 next_kept p first other d [] same h t k = absurd h
 next_kept p first other d (x ∷ xs) same h t k =
     ⊎_elim
@@ -95,6 +111,7 @@ next_kept p first other d (x ∷ xs) same h t k =
     (cases_eq x d)
 
 -- behind an item that is kept comes what came behind it, if that is kept too, in a cyclic list
-pub follow_kept : (p : ℕ → Bool) (d : ℕ) (xs : List ℕ) → Has d xs → p d ≡ true → p (follow xs d) ≡ true → follow (filter p xs) d ≡ follow xs d
+pub follow_kept : (p : ℕ → Bool) (d : ℕ) (xs : List ℕ) → Has d xs → p d ≡ true → p (follow xs d) ≡ true →
+    follow (filter p xs) d ≡ follow xs d
 follow_kept p d [] h t k = absurd h
 follow_kept p d (x ∷ xs) h t k = next_kept p x (head_or 0 (filter p (x ∷ xs))) d (x ∷ xs) (λ px. ap (head_or 0) (filter_yes p x xs px)) h t k

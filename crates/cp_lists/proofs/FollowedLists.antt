@@ -1,5 +1,5 @@
 -- The items of a cyclic list of distinct items by their places, and lists with the same items behind the same items.
-use Rattle.std.proofs.Common.{◌≡◌, ℕ, zero, suc, ◌+◌, ◌-◌, ◌<◌, ◌↔◌, List, [], ◌∷◌, ◌++◌, length, slice_index, eqb, sym, refl, ap, ◌∙◌, subst, inl, ⊎_elim, arith, ext_get_or}
+use Rattle.std.proofs.Common.{◌≡◌, ℕ, zero, suc, ◌+◌, ◌<◌, ◌↔◌, List, [], ◌∷◌, ◌++◌, length, slice_index, eqb, sym, refl, ap, ◌∙◌, subst, inl, ⊎_elim, arith, ext_get_or}
 use Rattle.std.specs.Fn.{iterate}
 use Rattle.std.proofs.lemmas.Bool.{cases_order, cond-true, cond-false, eq-eqb, ne_eqb}
 use Rattle.cp_lists.specs.CyclicLists.{Has, Lacks, Distinct, follow}

@@ -1,13 +1,13 @@
 -- The least items of a list, and lists that are turned to the first of them.
-use Rattle.std.proofs.Common.{◌≡◌, ℕ, zero, suc, ◌-◌, ◌<◌, ◌≤◌, ◌⊎◌, Bool, true, false, leb, List, [], ◌∷◌, ◌++◌, length, take, drop, slice_index, sym, refl, ap, ◌∙◌, subst, inl, inr, ⊎_elim, arith, length-append}
-use Rattle.std.specs.List.{list_all, position_or_len}
-use Rattle.std.proofs.lemmas.Bool.{cases_lt, le-leb, lt-leb, leb-true, and_from, and_left, and_right, and_parts}
+use Rattle.std.proofs.Common.{◌≡◌, ℕ, zero, suc, ◌-◌, ◌<◌, ◌≤◌, Bool, true, false, leb, List, [], ◌∷◌, ◌++◌, length, take, drop, slice_index, sym, refl, ap, ◌∙◌, subst, inl, inr, ⊎_elim, arith}
+use Rattle.std.specs.List.{list_all}
+use Rattle.std.proofs.lemmas.Bool.{cases_lt, le-leb, lt-leb, and_from, and_left, and_right}
 use Rattle.std.proofs.lemmas.List.{nil_from_length}
 use Rattle.std.proofs.lemmas.List.Sums.{position_or_len_is}
-use Rattle.cp_lists.specs.CyclicLists.{Has, Distinct, head_or}
+use Rattle.cp_lists.specs.CyclicLists.{Has, Distinct}
 use Rattle.cp_lists.specs.Turns.{IsTurn, least_place, turned_to_least}
 use Rattle.cp_lists.proofs.DistinctLists.{Has_at, Has-place}
-use Rattle.cp_lists.proofs.TurnedLists.{parts_of_turn, turn-length, turn-sym, turn-trans, turn-Distinct, Has-of_turn, turn_to_item-unique}
+use Rattle.cp_lists.proofs.TurnedLists.{turn-length, turn-sym, turn-trans, turn-Distinct, Has-of_turn, turn_to_item-unique}
 
 -- a test that each item passes is passed by all
 pub list_all-from : (p : ℕ → Bool) (xs : List ℕ) → ((x : ℕ) → Has x xs → p x ≡ true) → list_all p xs ≡ true
@@ -35,7 +35,8 @@ pub LeastSoFar-none : (xs : List ℕ) → LeastSoFar xs 0 0
 LeastSoFar-none xs = record { within = omega arith; before = λ k lt. absurd (omega arith); least = λ k lt. absurd (omega arith) }
 
 -- a lesser item is the least
-pub LeastSoFar-less : (xs : List ℕ) (place i : ℕ) → LeastSoFar xs place i → slice_index xs i < slice_index xs place → LeastSoFar xs i (suc i)
+pub LeastSoFar-less : (xs : List ℕ) (place i : ℕ) → LeastSoFar xs place i → slice_index xs i < slice_index xs place →
+    LeastSoFar xs i (suc i)
 LeastSoFar-less xs place i so less = record {
   within = omega arith;
   before = λ k lt. omega (arith, so.least k lt);
@@ -43,7 +44,8 @@ LeastSoFar-less xs place i so less = record {
 }
 
 -- an item that is no less changes nothing
-pub LeastSoFar-more : (xs : List ℕ) (place i : ℕ) → LeastSoFar xs place i → slice_index xs place ≤ slice_index xs i → LeastSoFar xs place (suc i)
+pub LeastSoFar-more : (xs : List ℕ) (place i : ℕ) → LeastSoFar xs place i → slice_index xs place ≤ slice_index xs i →
+    LeastSoFar xs place (suc i)
 LeastSoFar-more xs place i so more = record {
   within = omega (arith, so.within);
   before = so.before;
@@ -103,7 +105,8 @@ turned_to_least-head x xs has =
     )
 
 -- a turn of a distinct list that begins with the least item is the list turned to it
-pub turned_to_least-unique : (xs ys : List ℕ) (x : ℕ) → Distinct xs → IsTurn xs (x ∷ ys) → ((y : ℕ) → Has y xs → x ≤ y) → turned_to_least xs ≡ x ∷ ys
+pub turned_to_least-unique : (xs ys : List ℕ) (x : ℕ) → Distinct xs → IsTurn xs (x ∷ ys) →
+    ((y : ℕ) → Has y xs → x ≤ y) → turned_to_least xs ≡ x ∷ ys
 turned_to_least-unique xs ys x dis turn least =
     let has : Has x xs = Has-of_turn xs (x ∷ ys) x turn (inl refl) in
     let w = turned_to_least-head x xs has in

@@ -10,3 +10,7 @@ pub mod ReversedLists
 pub mod TurnedLists
 pub mod SmallTurns
 pub mod LeastItems
+pub mod Orders
+pub mod Crossings
+pub mod FlatLists
+pub mod Runs

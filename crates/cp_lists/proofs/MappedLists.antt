@@ -21,7 +21,8 @@ head_or-map_on h z [] = refl
 head_or-map_on h z (x ∷ xs) = refl
 
 -- behind a named item comes the name of what is behind it
-next_from-map_on : (h : ℕ → ℕ) (first d : ℕ) (xs : List ℕ) → ((x : ℕ) → Has x xs → h x ≡ h d → x ≡ d) → next_from (h first) (map h xs) (h d) ≡ h (next_from first xs d)
+next_from-map_on : (h : ℕ → ℕ) (first d : ℕ) (xs : List ℕ) → ((x : ℕ) → Has x xs → h x ≡ h d → x ≡ d) →
+    next_from (h first) (map h xs) (h d) ≡ h (next_from first xs d)
 next_from-map_on h first d [] apart = refl
 next_from-map_on h first d (x ∷ xs) apart =
     ⊎_elim
@@ -30,12 +31,14 @@ next_from-map_on h first d (x ∷ xs) apart =
     (cases_eq x d)
 
 -- the same in a cyclic list
-pub follow-map_on : (h : ℕ → ℕ) (d : ℕ) (xs : List ℕ) → ((x : ℕ) → Has x xs → h x ≡ h d → x ≡ d) → Has d xs → follow (map h xs) (h d) ≡ h (follow xs d)
+pub follow-map_on : (h : ℕ → ℕ) (d : ℕ) (xs : List ℕ) → ((x : ℕ) → Has x xs → h x ≡ h d → x ≡ d) → Has d xs →
+    follow (map h xs) (h d) ≡ h (follow xs d)
 follow-map_on h d [] apart has = absurd has
 follow-map_on h d (x ∷ xs) apart has = next_from-map_on h x d (x ∷ xs) apart
 
 -- distinct items have distinct names
-pub Distinct-map_on : (h : ℕ → ℕ) (xs : List ℕ) → ((x y : ℕ) → Has x xs → Has y xs → h x ≡ h y → x ≡ y) → Distinct xs → Distinct (map h xs)
+pub Distinct-map_on : (h : ℕ → ℕ) (xs : List ℕ) → ((x y : ℕ) → Has x xs → Has y xs → h x ≡ h y → x ≡ y) → Distinct xs →
+    Distinct (map h xs)
 Distinct-map_on h [] apart dis = tt
 Distinct-map_on h (x ∷ xs) apart dis = (
   Lacks-from (h x) (map h xs) (λ has. let w = map_on-Has h (h x) xs has in has_lacks x xs (subst (λ y. Has y xs) (apart w.0 x (inr w.1) (inl refl) w.2) w.1) dis.0),
@@ -48,7 +51,8 @@ map_agree_on h k [] same = refl
 map_agree_on h k (x ∷ xs) same = ap₂ (λ y ys. y ∷ ys) (same x (inl refl)) (map_agree_on h k xs (λ y l. same y (inr l)))
 
 -- where the names are distinct, different items have different names
-pub Distinct-map_on_apart : (h : ℕ → ℕ) (xs : List ℕ) (x y : ℕ) → Distinct (map h xs) → Has x xs → Has y xs → h x ≡ h y → x ≡ y
+pub Distinct-map_on_apart : (h : ℕ → ℕ) (xs : List ℕ) (x y : ℕ) → Distinct (map h xs) → Has x xs → Has y xs →
+    h x ≡ h y → x ≡ y
 Distinct-map_on_apart h [] x y dis hx hy e = absurd hx
 Distinct-map_on_apart h (z ∷ xs) x y dis hx hy e =
     ⊎_elim

@@ -1,6 +1,6 @@
 -- Turns of lists of at most three items.
 use Rattle.std.proofs.Common.{◌≡◌, ◌≢◌, ℕ, ◌<◌, ◌≤◌, ◌⊎◌, ◌↔◌, List, [], ◌∷◌, length, sym, refl, ap, ◌∙◌, subst, inl, inr, ⊎_elim, arith}
-use Rattle.cp_lists.specs.CyclicLists.{Has, Lacks, Distinct, head_or}
+use Rattle.cp_lists.specs.CyclicLists.{Has, Distinct, head_or}
 use Rattle.cp_lists.specs.Turns.{IsTurn}
 use Rattle.cp_lists.proofs.DistinctLists.{has_lacks}
 use Rattle.cp_lists.proofs.TurnedLists.{turn-refl, turn-sym, turn-trans, turn_parts, turn_same, turn-Distinct, turn-Has, Has-of_turn, turn_to_item}
@@ -23,21 +23,23 @@ behind : (x : ℕ) (xs : List ℕ) (d : ℕ) → d ≢ x → Has d (x ∷ xs) �
 behind x xs d ne has = ⊎_elim (λ e. absurd (ne (sym e))) (λ h. h) has
 
 -- two distinct lists of the same one or two items are turns of each other
-pub turn_of_two : (x y : ℕ) (ys : List ℕ) → Distinct ys → x ≢ y → ((d : ℕ) → Has d ys ↔ Has d (x ∷ y ∷ [])) → IsTurn (x ∷ y ∷ []) ys
+pub turn_of_two : (x y : ℕ) (ys : List ℕ) → Distinct ys → x ≢ y → ((d : ℕ) → Has d ys ↔ Has d (x ∷ y ∷ [])) →
+    IsTurn (x ∷ y ∷ []) ys
 turn_of_two x y ys dis ne same =
     let w = turn_to_item x ys ((same x).1 (inl refl)) in
     let apart : Distinct (x ∷ w.0) = turn-Distinct ys (x ∷ w.0) w.1 dis in
     let rest : w.0 ≡ y ∷ [] = single y w.0 apart.1
-        (behind x w.0 y (λ e. ne (sym e)) (turn-Has ys (x ∷ w.0) y w.1 ((same y).1 (inr (inl refl)))))
-        (λ d h. ⊎_elim
-        (λ e. absurd (has_lacks x w.0 (subst (λ z. Has z w.0) (sym e) h) apart.0))
-        (λ k. ⊎_elim (λ e. sym e) (λ n. absurd n) k)
-        ((same d).0 (Has-of_turn ys (x ∷ w.0) d w.1 (inr h))))
+    (behind x w.0 y (λ e. ne (sym e)) (turn-Has ys (x ∷ w.0) y w.1 ((same y).1 (inr (inl refl)))))
+    (λ d h. ⊎_elim
+    (λ e. absurd (has_lacks x w.0 (subst (λ z. Has z w.0) (sym e) h) apart.0))
+    (λ k. ⊎_elim (λ e. sym e) (λ n. absurd n) k)
+    ((same d).0 (Has-of_turn ys (x ∷ w.0) d w.1 (inr h))))
     in
     turn-sym ys (x ∷ y ∷ []) (subst (λ zs. IsTurn ys (x ∷ zs)) rest w.1)
 
 -- two distinct lists of the same items, at most two, are turns of each other
-pub turn_of_at_most_two : (xs ys : List ℕ) → Distinct xs → Distinct ys → ((d : ℕ) → Has d ys ↔ Has d xs) → length xs ≤ 2 → IsTurn xs ys
+pub turn_of_at_most_two : (xs ys : List ℕ) → Distinct xs → Distinct ys → ((d : ℕ) → Has d ys ↔ Has d xs) →
+    length xs ≤ 2 → IsTurn xs ys
 turn_of_at_most_two [] ys dx dy same le = subst (IsTurn []) (sym (nothing ys (λ d h. (same d).0 h))) (turn-refl [])
 turn_of_at_most_two (x ∷ []) ys dx dy same le =
     subst (IsTurn (x ∷ [])) (sym (single x ys dy ((same x).1 (inl refl)) (λ d h. ⊎_elim (λ e. sym e) (λ n. absurd n) ((same d).0 h))))
@@ -46,7 +48,8 @@ turn_of_at_most_two (x ∷ y ∷ []) ys dx dy same le = turn_of_two x y ys dy (�
 turn_of_at_most_two (x ∷ y ∷ z ∷ xs) ys dx dy same le = absurd (omega arith)
 
 -- distinct lists of two items: the one order or the other
-two_orders : (y z : ℕ) (ys : List ℕ) → Distinct ys → y ≢ z → ((d : ℕ) → Has d ys ↔ Has d (y ∷ z ∷ [])) → (ys ≡ y ∷ z ∷ []) ⊎ (ys ≡ z ∷ y ∷ [])
+two_orders : (y z : ℕ) (ys : List ℕ) → Distinct ys → y ≢ z → ((d : ℕ) → Has d ys ↔ Has d (y ∷ z ∷ [])) →
+    (ys ≡ y ∷ z ∷ []) ⊎ (ys ≡ z ∷ y ∷ [])
 two_orders y z [] dis ne same = absurd ((same y).1 (inl refl))
 two_orders y z (u ∷ us) dis ne same =
     ⊎_elim
@@ -62,7 +65,8 @@ two_orders y z (u ∷ us) dis ne same =
     ((same u).0 (inl refl))
 
 -- a distinct list of three items is a turn of the one order or of the other
-pub turn_of_three : (x y z : ℕ) (ws : List ℕ) → Distinct (x ∷ y ∷ z ∷ []) → Distinct ws → ((d : ℕ) → Has d ws ↔ Has d (x ∷ y ∷ z ∷ [])) →
+pub turn_of_three : (x y z : ℕ) (ws : List ℕ) → Distinct (x ∷ y ∷ z ∷ []) → Distinct ws →
+    ((d : ℕ) → Has d ws ↔ Has d (x ∷ y ∷ z ∷ [])) →
     IsTurn (x ∷ y ∷ z ∷ []) ws ⊎ IsTurn (z ∷ y ∷ x ∷ []) ws
 turn_of_three x y z ws dis dw same =
     let w = turn_to_item x ws ((same x).1 (inl refl)) in
@@ -83,11 +87,12 @@ turn_of_three x y z ws dis dw same =
     (two_orders y z w.0 apart.1 (λ e. dis.1.0.0 (sym e)) rest)
 
 -- and not of both
-pub turn_of_three-not_both : (x y z : ℕ) (ws : List ℕ) → Distinct (x ∷ y ∷ z ∷ []) → IsTurn (x ∷ y ∷ z ∷ []) ws → IsTurn (z ∷ y ∷ x ∷ []) ws → ⊥
+pub turn_of_three-not_both : (x y z : ℕ) (ws : List ℕ) → Distinct (x ∷ y ∷ z ∷ []) → IsTurn (x ∷ y ∷ z ∷ []) ws →
+    IsTurn (z ∷ y ∷ x ∷ []) ws → ⊥
 turn_of_three-not_both x y z ws dis one two =
     let both : IsTurn (x ∷ y ∷ z ∷ []) (x ∷ z ∷ y ∷ []) =
-        turn-trans (x ∷ y ∷ z ∷ []) ws (x ∷ z ∷ y ∷ []) one
-        (turn-trans ws (z ∷ y ∷ x ∷ []) (x ∷ z ∷ y ∷ []) (turn-sym (z ∷ y ∷ x ∷ []) ws two) (turn_parts (z ∷ y ∷ []) (x ∷ [])))
+    turn-trans (x ∷ y ∷ z ∷ []) ws (x ∷ z ∷ y ∷ []) one
+    (turn-trans ws (z ∷ y ∷ x ∷ []) (x ∷ z ∷ y ∷ []) (turn-sym (z ∷ y ∷ x ∷ []) ws two) (turn_parts (z ∷ y ∷ []) (x ∷ [])))
     in
     dis.1.0.0 (sym (ap (head_or 0) (turn_same x (y ∷ z ∷ []) (z ∷ y ∷ []) dis.0 both)))
 

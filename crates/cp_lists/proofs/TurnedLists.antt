@@ -1,5 +1,5 @@
 -- Lists that are turns of each other.
-use Rattle.std.proofs.Common.{◌≡◌, ℕ, zero, suc, ◌+◌, ◌↔◌, ◌⊎◌, Bool, List, [], ◌∷◌, ◌++◌, length, take, drop, map, reverse, sym, refl, ap, ap₂, ◌∙◌, subst, inl, inr, ⊎_elim, arith, append-nil, append_assoc, take-append-drop, length-append, take_at, drop_at}
+use Rattle.std.proofs.Common.{◌≡◌, ℕ, ◌↔◌, ◌⊎◌, Bool, List, [], ◌∷◌, ◌++◌, length, take, drop, map, reverse, sym, refl, ap, ap₂, ◌∙◌, subst, inl, inr, ⊎_elim, arith, append-nil, append_assoc, take-append-drop, length-append, take_at, drop_at}
 use Rattle.std.specs.List.{filter}
 use Rattle.std.proofs.lemmas.List.{map-append, reverse-append, reverse-reverse}
 use Rattle.std.proofs.lemmas.List.Elements.{filter-append}
@@ -31,7 +31,8 @@ pub turn-Distinct : (xs ys : List ℕ) → IsTurn xs ys → Distinct xs → Dist
 turn-Distinct xs ys turn dis = subst Distinct (sym turn.2) (Distinct-turn (take turn.0 xs) (drop turn.0 xs) (subst Distinct (sym (take-append-drop turn.0 xs)) dis))
 
 -- two lists with the same items behind the same items are turns
-pub turn_from : (xs ys : List ℕ) → Distinct xs → Distinct ys → ((d : ℕ) → Has d xs ↔ Has d ys) → ((d : ℕ) → Has d xs → follow xs d ≡ follow ys d) → IsTurn xs ys
+pub turn_from : (xs ys : List ℕ) → Distinct xs → Distinct ys → ((d : ℕ) → Has d xs ↔ Has d ys) →
+    ((d : ℕ) → Has d xs → follow xs d ≡ follow ys d) → IsTurn xs ys
 turn_from xs ys dx dy same behind =
     let w = turn_from_follow xs ys dx dy same behind in (
       length w.0,
@@ -155,7 +156,7 @@ pub turn_mirrored : (f g : ℕ → ℕ) (xs ys : List ℕ) → ((y : ℕ) → Ha
     IsTurn xs (reverse (map f ys)) → IsTurn ys (reverse (map g xs))
 turn_mirrored f g xs ys undone turn =
     let back : reverse (map g (reverse (map f ys))) ≡ ys =
-        sym (map-reverse g (reverse (map f ys))) ∙ ap (map g) (reverse-reverse (map f ys)) ∙ map_undone f g ys undone
+    sym (map-reverse g (reverse (map f ys))) ∙ ap (map g) (reverse-reverse (map f ys)) ∙ map_undone f g ys undone
     in
     turn-sym (reverse (map g xs)) ys
     (subst (IsTurn (reverse (map g xs))) back

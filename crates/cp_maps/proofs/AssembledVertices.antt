@@ -4,7 +4,7 @@ use Rattle.std.proofs.lemmas.Bool.{eq-eqb, ne_eqb, false≢true}
 use Rattle.std.specs.List.{filter}
 use Rattle.cp_lists.specs.CyclicLists.{Distinct, Has, follow}
 use Rattle.cp_lists.proofs.DistinctLists.{Distinct-apart, Distinct-append, Distinct-append_left, Distinct-append_right, Has-append_cases, Has-append_left, Has-append_right, Lacks-from, has_lacks}
-use Rattle.cp_lists.proofs.TurnedLists.{Has-of_turn, turn-Distinct, turn-Has}
+use Rattle.cp_lists.proofs.TurnedLists.{Has-of_turn, turn-Distinct, turn-Has, turn-sym}
 use Rattle.cp_orbits.specs.Classes.{labels}
 use Rattle.cp_orbits.specs.Orbits.{Permutes}
 use Rattle.cp_maps.specs.Crossings.{EachClassOf, IsUncrossed}
@@ -15,7 +15,7 @@ use Rattle.cp_maps.proofs.Copies.{copies-Has, copies-split}
 use Rattle.cp_maps.proofs.Edges.{twin-OnePart}
 use Rattle.cp_maps.proofs.Genus.{SameGenus-trans}
 use Rattle.cp_maps.proofs.GluedVertices.{concatenated-Becomes}
-use Rattle.cp_maps.proofs.ListFacts.{Below-from, below_item, flat-append, turn_back}
+use Rattle.cp_maps.proofs.ListFacts.{Below-from, below_item, flat-append}
 use Rattle.cp_maps.proofs.MapLists.{IsMapOf-Permutes, IsMapOf-among, IsMapOf-bare, IsMapOf-other, IsMapOf-swap, IsMapOf-turn}
 use Rattle.cp_maps.proofs.MergedVertices.{same_lists-SameGenus}
 use Rattle.cp_maps.proofs.Parts.{Evenly-two_parts, Ring-OnePart}
@@ -98,7 +98,7 @@ assembled-Distinct : (row : List ℕ) (copies : List (List ℕ)) → IsAssembled
     → Distinct (flat copies)
 assembled-Distinct row [] is dis = tt
 assembled-Distinct row (xs ∷ copies) is dis =
-    let back : Distinct (xs ++ is.0) = turn-Distinct row (xs ++ is.0) (turn_back (xs ++ is.0) row is.1) dis in
+    let back : Distinct (xs ++ is.0) = turn-Distinct row (xs ++ is.0) (turn-sym (xs ++ is.0) row is.1) dis in
     Distinct-append xs (flat copies) (Distinct-append_left xs is.0 back)
     (assembled-Distinct is.0 copies is.2 (Distinct-append_right xs is.0 back))
     (λ d h. Lacks-from d (flat copies)

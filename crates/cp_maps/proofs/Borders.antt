@@ -3,6 +3,7 @@
 use Rattle.std.proofs.Common.{◌≡◌, ℕ, List, [], ◌∷◌, ◌++◌, append_assoc, sym, refl, ap, ◌∙◌, subst, ◌*◌, map}
 use Rattle.std.proofs.lemmas.List.{append-nil, reverse-append}
 use Rattle.cp_lists.specs.CyclicLists.{Distinct}
+use Rattle.cp_lists.proofs.TurnedLists.{turn_parts}
 use Rattle.cp_maps.specs.Borders.{Place, border_lists, closed_border, inside_darts, last_begin, outside_darts}
 use Rattle.cp_maps.specs.Genus.{Apart, Becomes, CanBeFlat, IsFlat, SameGenus}
 use Rattle.cp_maps.specs.Maps.{Below, IsMapOf, flat, next_by}
@@ -10,7 +11,6 @@ use Rattle.cp_maps.specs.Twins.{twin}
 use Rattle.cp_maps.proofs.ContractedEdges.{contracted_edge-Becomes}
 use Rattle.cp_maps.proofs.CutLoops.{cut_loop-Apart, cut_loop-CanBeFlat, cut_loop-SameGenus}
 use Rattle.cp_maps.proofs.Genus.{SameGenus-IsFlat, SameGenus-sym, SameGenus-trans}
-use Rattle.cp_maps.proofs.ListFacts.{turn_parts}
 use Rattle.cp_maps.proofs.MapLists.{IsMapOf-by, IsMapOf-swap, IsMapOf-turn}
 
 inside-cons : (q : Place) (qs : List Place) (is : List ℕ)

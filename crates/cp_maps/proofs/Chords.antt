@@ -2,13 +2,14 @@
 use Rattle.std.proofs.Common.{◌≡◌, ℕ, ◌<◌, List, [], ◌∷◌, ◌++◌, append_assoc, sym, refl, subst, inl, ◌*◌, arith}
 use Rattle.cp_lists.specs.CyclicLists.{Distinct, Has, Lacks}
 use Rattle.cp_lists.proofs.DistinctLists.{Distinct-middle, Has-append_left, Has-append_right, Lacks-append, Lacks-append_left, Lacks-append_right, has_other}
+use Rattle.cp_lists.proofs.TurnedLists.{turn_parts}
 use Rattle.cp_orbits.specs.Orbits.{Permutes}
 use Rattle.cp_maps.specs.Genus.{OneFace, RaisesGenus, SameGenus}
 use Rattle.cp_maps.specs.Maps.{IsMapOf, flat, swapped}
 use Rattle.cp_maps.specs.Twins.{twin}
 use Rattle.cp_maps.proofs.Edges.{lt_twin, put_edge-RaisesGenus, put_within-SameGenus}
 use Rattle.cp_maps.proofs.Genus.{SameGenus-trans}
-use Rattle.cp_maps.proofs.ListFacts.{below_item, turn_parts}
+use Rattle.cp_maps.proofs.ListFacts.{below_item}
 use Rattle.cp_maps.proofs.MapLists.{IsMapOf-Permutes, IsMapOf-loose, IsMapOf-merged, IsMapOf-turn, one_vertex}
 use Rattle.cp_maps.proofs.MergedVertices.{same_lists-SameGenus}
 use Rattle.cp_maps.proofs.Swaps.{vertex-OnePart}

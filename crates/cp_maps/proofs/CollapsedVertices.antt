@@ -3,13 +3,14 @@ use Rattle.std.proofs.Common.{◌≡◌, ℕ, List, [], ◌∷◌, ◌++◌, app
 use Rattle.std.proofs.lemmas.List.{append-nil}
 use Rattle.cp_lists.specs.CyclicLists.{Distinct, Has, Lacks}
 use Rattle.cp_lists.proofs.DistinctLists.{Distinct-apart, Distinct-append_right, Has-append_cases, Has-append_left, Has-append_right, Lacks-append_left, Lacks-append_right, Lacks-from, has_lacks}
+use Rattle.cp_lists.proofs.TurnedLists.{turn_parts}
 use Rattle.cp_maps.specs.Genus.{Becomes}
 use Rattle.cp_maps.specs.Gluings.{Grows, HoldsLeaving}
 use Rattle.cp_maps.specs.Maps.{IsMapOf, flat}
 use Rattle.cp_maps.specs.Twins.{twin}
 use Rattle.cp_maps.proofs.ContractedEdges.{contracted_edge-Becomes}
 use Rattle.cp_maps.proofs.Genus.{SameGenus-trans}
-use Rattle.cp_maps.proofs.ListFacts.{from_dart, its_item, other_item, turn_parts}
+use Rattle.cp_maps.proofs.ListFacts.{from_dart, its_item, other_item}
 use Rattle.cp_maps.proofs.MapLists.{IsMapOf-swap, IsMapOf-turn}
 use Rattle.cp_maps.proofs.Twins.{twin-twin}
 

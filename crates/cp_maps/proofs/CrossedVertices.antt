@@ -1,6 +1,7 @@
 -- Two vertices are not joined crosswise to a third in a flat map.
 use Rattle.std.proofs.Common.{ℕ, ◌<◌, ◌≢◌, List, [], ◌∷◌, ◌++◌, append_assoc, sym, refl, ap, ◌∙◌, subst, inl, inr, ⊎_elim, ◌*◌}
 use Rattle.cp_lists.specs.CyclicLists.{Has}
+use Rattle.cp_lists.proofs.TurnedLists.{turn_parts}
 use Rattle.cp_orbits.specs.Orbits.{Permutes}
 use Rattle.cp_maps.specs.Genus.{Becomes, CanBeFlat, IsFlat}
 use Rattle.cp_maps.specs.Maps.{IsMapOf, flat, next_by}
@@ -10,7 +11,7 @@ use Rattle.cp_maps.proofs.CutLoops.{cut_loop-Apart}
 use Rattle.cp_maps.proofs.Edges.{twin-OnePart}
 use Rattle.cp_maps.proofs.FewerDarts.{next_kept-CanBeFlat, swapped_lists-CanBeFlat, third_list-CanBeFlat, two_kept-CanBeFlat}
 use Rattle.cp_maps.proofs.Genus.{SameGenus-IsFlat}
-use Rattle.cp_maps.proofs.ListFacts.{Distinct-less, turn_parts}
+use Rattle.cp_maps.proofs.ListFacts.{Distinct-less}
 use Rattle.cp_maps.proofs.MapLists.{IsMapOf-Permutes, IsMapOf-some, IsMapOf-third, IsMapOf-turn, one_vertex}
 use Rattle.cp_maps.proofs.Swaps.{vertex-OnePart}
 use Rattle.cp_maps.proofs.Twins.{twin-twin}

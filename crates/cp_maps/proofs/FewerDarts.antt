@@ -2,11 +2,12 @@
 use Rattle.std.proofs.Common.{◌≡◌, ℕ, ◌≢◌, List, [], ◌∷◌, ◌++◌, append_assoc, sym, subst, inr, ⊎_elim, ◌*◌, ◌↔◌}
 use Rattle.std.proofs.lemmas.List.{append-nil}
 use Rattle.cp_lists.specs.CyclicLists.{Has}
+use Rattle.cp_lists.proofs.TurnedLists.{turn_parts}
 use Rattle.cp_maps.specs.Genus.{CanBeFlat, IsFlat, IsPlane}
 use Rattle.cp_maps.specs.Maps.{IsMapOf, next_by}
 use Rattle.cp_maps.proofs.FlatMaps.{IsFlat-agree}
 use Rattle.cp_maps.proofs.KeptDarts.{dart_out-IsFlat}
-use Rattle.cp_maps.proofs.ListFacts.{from_dart, other_item, turn_parts}
+use Rattle.cp_maps.proofs.ListFacts.{from_dart, other_item}
 use Rattle.cp_maps.proofs.MapLists.{IsMapOf-Permutes, IsMapOf-front, IsMapOf-some, IsMapOf-swap, IsMapOf-third, IsMapOf-turn, IsMapOf-unbare, IsMapOf-unique}
 
 -- each map with the lists tells it

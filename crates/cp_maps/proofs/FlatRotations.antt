@@ -1,7 +1,8 @@
 -- A rotation is flat by its darts exactly where Euler's formula holds.
-use Rattle.std.proofs.Common.{◌≡◌, ℕ, ◌<◌, true, false, eqb, sym, refl, ap, ◌∙◌, subst, ⊎_elim, suc, ◌+◌, ◌*◌, ◌≤◌, Bool, arith, zero, not, ◌&&◌, ap₂, cond}
-use Rattle.std.proofs.lemmas.Bool.{cases_eq, eq-eqb, ne_eqb, false≢true, cond-true, cond-false, eqb-true, cases_Bool, not-true, not_from_true, not_from_false, and_parts, and_from}
+use Rattle.std.proofs.Common.{◌≡◌, ℕ, ◌<◌, true, false, eqb, sym, refl, ap, ◌∙◌, ⊎_elim, suc, ◌+◌, ◌*◌, ◌≤◌, Bool, arith, zero, not, ◌&&◌, ap₂}
+use Rattle.std.proofs.lemmas.Bool.{eq-eqb, ne_eqb, false≢true, eqb-true, cases_Bool, not-true, not_from_true, not_from_false, and_from, and_parts}
 use Rattle.cp_lists.specs.Count.{count}
+use Rattle.cp_lists.proofs.Choices.{choose}
 use Rattle.cp_lists.proofs.Counting.{count_agree, count_inject, count_no, count_yes}
 use Rattle.cp_orbits.specs.Classes.{Respects, graph, labels}
 use Rattle.cp_orbits.proofs.ClassLabels.{labels-keeps, labels-labels, labels-le, labels-respects, same_labels}
@@ -45,22 +46,7 @@ count_parts (suc n) p q = ⊎_elim
     ))
     (cases_Bool (p n))
 
--- a number with a property for each below n makes a function
-pub choose : (n : ℕ) (R : ℕ → ℕ → Type 0) → ((x : ℕ) → x < n → (y : ℕ) × R x y)
-    → (f : ℕ → ℕ) × ((x : ℕ) → x < n → R x (f x))
-choose zero R each = (λ x. 0, λ x lt. absurd (omega arith))
-choose (suc n) R each =
-    let rest = choose n R (λ x lt. each x (omega arith)) in
-    let last = each n (omega arith) in (
-      λ x. cond (eqb x n) last.0 (rest.0 x),
-      λ x lt. ⊎_elim
-          (λ e. subst (λ y. R x y) (sym (cond-true (eqb x n) last.0 (rest.0 x) (eq-eqb x n e)))
-          (subst (λ y. R y last.0) (sym e) last.1))
-          (λ ne. subst (λ y. R x y) (sym (cond-false (eqb x n) last.0 (rest.0 x) (ne_eqb x n ne)))
-          (rest.1 x (omega arith)))
-          (cases_eq x n),
-    )
-
+-- a rotation by its darts
 module _ (v e : ℕ) (at next : ℕ → ℕ) (rot : Turns v e at next) where
   -- the label of a vertex
   abbrev ends : ℕ → ℕ

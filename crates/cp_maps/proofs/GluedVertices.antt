@@ -5,13 +5,14 @@ use Rattle.std.proofs.lemmas.List.{append-nil, map-append, reverse-append}
 use Rattle.cp_lists.specs.CyclicLists.{Distinct, Has, Lacks}
 use Rattle.cp_lists.proofs.DistinctLists.{Distinct-apart, Distinct-apart_right, Distinct-append_right, Distinct-middle, Has-append_cases, Has-append_left, Has-append_right, Lacks-append_left, Lacks-append_right, has_lacks}
 use Rattle.cp_lists.proofs.MappedLists.{Has-map_on}
+use Rattle.cp_lists.proofs.TurnedLists.{turn_parts}
 use Rattle.cp_maps.specs.Genus.{Apart, Becomes, CanBeFlat, IsFlat}
 use Rattle.cp_maps.specs.Gluings.{onto}
 use Rattle.cp_maps.specs.Maps.{IsMapOf, flat, swapped}
 use Rattle.cp_maps.specs.Twins.{twin}
 use Rattle.cp_maps.proofs.ContractedEdges.{contracted_edge-Becomes}
 use Rattle.cp_maps.proofs.Genus.{SameGenus-IsFlat}
-use Rattle.cp_maps.proofs.ListFacts.{flat-append, from_dart, turn_parts}
+use Rattle.cp_maps.proofs.ListFacts.{flat-append, from_dart}
 use Rattle.cp_maps.proofs.MapLists.{IsMapOf-among, IsMapOf-bare, IsMapOf-front, IsMapOf-merged, IsMapOf-split, IsMapOf-swap, IsMapOf-turn, IsMapOf-unbare}
 use Rattle.cp_maps.proofs.MergedVertices.{merged_between-SameGenus, split_list-IsFlat}
 use Rattle.cp_maps.proofs.Twins.{twin-twin}

@@ -8,6 +8,7 @@ pub mod Rings
 pub mod MapLists
 pub mod NamedLists
 pub mod Parts
+pub mod NamedParts
 pub mod Swaps
 pub mod Edges
 pub mod MergedVertices
@@ -30,6 +31,7 @@ pub mod FewerDarts
 pub mod CrossedVertices
 pub mod GluedVertices
 pub mod CollapsedVertices
+pub mod CollapsedClasses
 pub mod AssembledVertices
 pub mod Runs
 mod Examples

@@ -1,27 +1,11 @@
 -- Facts of lists of lists that the maps need.
-use Rattle.std.proofs.Common.{take, drop, take-append-drop, ◌≡◌, ℕ, ◌<◌, true, false, ◌||◌, eqb, List, [], ◌∷◌, ◌++◌, append_assoc, sym, refl, ap, ◌∙◌, subst, inl, inr, ⊎_elim, Bool, arith, ◌⊎◌, length, length-append, ◌&&◌, map, ap₂, take_at, drop_at}
+use Rattle.std.proofs.Common.{◌≡◌, ℕ, ◌<◌, true, false, ◌||◌, eqb, List, [], ◌∷◌, ◌++◌, append_assoc, sym, refl, ap, ◌∙◌, subst, inl, inr, ⊎_elim, Bool, ◌⊎◌, ◌&&◌, map, ap₂}
 use Rattle.std.proofs.lemmas.Bool.{eq-eqb, ne_eqb, or_left, or_right, cases_Bool}
 use Rattle.std.specs.List.{filter}
 use Rattle.cp_lists.specs.CyclicLists.{Distinct, Has, Lacks}
-use Rattle.cp_lists.specs.Turns.{IsTurn}
 use Rattle.cp_lists.proofs.DistinctLists.{Distinct-apart, Distinct-append, Distinct-append_left, Distinct-append_right, Distinct-turn, Has-append_cases, Has-append_left, Has-append_right, Has-split, Has-turn}
 use Rattle.cp_lists.proofs.FilteredLists.{filter_no, filter_yes}
 use Rattle.cp_maps.specs.Maps.{Below, flat, has}
-
--- the two parts of a list in the other order are a turn
-pub turn_parts : (xs ys : List ℕ) → IsTurn (xs ++ ys) (ys ++ xs)
-turn_parts xs ys = (
-  length xs,
-  omega (arith, length-append xs ys),
-  sym (ap₂ (λ us vs. us ++ vs) (drop_at xs ys (length xs) refl) (take_at xs ys (length xs) refl)),
-)
-
--- a turn turned back
-pub turn_back : (xs ys : List ℕ) → IsTurn xs ys → IsTurn ys xs
-turn_back xs ys turn =
-    subst (λ zs. IsTurn zs xs) (sym turn.2)
-    (subst (IsTurn (drop turn.0 xs ++ take turn.0 xs)) (take-append-drop turn.0 xs)
-    (turn_parts (drop turn.0 xs) (take turn.0 xs)))
 
 -- an item less
 pub Distinct-less : (xs : List ℕ) (z : ℕ) (ys : List ℕ) → Distinct (xs ++ z ∷ ys) → Distinct (xs ++ ys)

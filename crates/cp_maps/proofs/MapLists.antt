@@ -10,8 +10,8 @@ use Rattle.cp_lists.proofs.TurnedLists.{Has-of_turn, turn-Distinct, turn-Has}
 use Rattle.cp_orbits.specs.Classes.{graph, labels}
 use Rattle.cp_orbits.specs.Orbits.{Permutes, exchange}
 use Rattle.cp_orbits.proofs.ClassLabels.{same_labels}
+use Rattle.cp_orbits.proofs.ListOrbits.{follow-reaches}
 use Rattle.cp_orbits.proofs.OrbitLaws.{Respects-graph, exchange_other, labels_reached}
-use Rattle.cp_faces.proofs.ListRotations.{follow-reaches}
 use Rattle.cp_maps.specs.Maps.{Below, IsMapOf, Ring, Rings, flat, has, next_by, swapped}
 use Rattle.cp_maps.proofs.ListFacts.{Below-from, Distinct-swapped, Has-swapped, below_item, flat-append, has_no, has_yes}
 use Rattle.cp_maps.proofs.Rings.{Ring-merged, Ring-split, Ring-turned, Rings-append, Rings-append_left, Rings-append_right, Rings-far, loose_by, rings_apart, rings_by, rings_same, rings_stay}

@@ -1,9 +1,9 @@
 -- Lists under names of vertices, and how to take one in front.
-use Rattle.std.proofs.Common.{◌≡◌, ℕ, ◌≢◌, List, ◌∷◌, ◌++◌, sym, ap, ◌∙◌, subst, map}
+use Rattle.std.proofs.Common.{◌≡◌, ℕ, ◌≢◌, List, [], ◌∷◌, ◌++◌, sym, ap, ◌∙◌, subst, ⊎_elim, map}
 use Rattle.std.proofs.lemmas.List.{map-append}
 use Rattle.cp_lists.specs.CyclicLists.{Distinct, Has, Lacks, but}
-use Rattle.cp_lists.proofs.DistinctLists.{Has-split, but-Distinct, but-Has, but_middle}
-use Rattle.cp_maps.specs.Maps.{IsMapOf}
+use Rattle.cp_lists.proofs.DistinctLists.{Has-append_left, Has-append_right, Has-split, but-Distinct, but-Has, but_middle}
+use Rattle.cp_maps.specs.Maps.{IsMapOf, flat}
 use Rattle.cp_maps.proofs.MapLists.{IsMapOf-among, IsMapOf-front}
 
 -- the lists of names, with that of u in front
@@ -47,3 +47,12 @@ pub two_named_front : (n : ℕ) (f : ℕ → ℕ) (lists : ℕ → List ℕ) (u 
 two_named_front n f lists u v names dis hu hv differ is =
     second_named_front n f lists u (lists v) (but v names) (but-Distinct v names dis) (but-Has v u names differ hu)
     (named_front n f lists v names dis hv is)
+
+-- an item of the list of a name is an item of the lists
+pub named_item : (lists : ℕ → List ℕ) (names : List ℕ) (u d : ℕ) → Has u names → Has d (lists u)
+    → Has d (flat (map lists names))
+named_item lists [] u d h k = absurd h
+named_item lists (w ∷ names) u d h k = ⊎_elim
+    (λ s. Has-append_left d (lists w) (flat (map lists names)) (subst (λ y. Has d (lists y)) (sym s) k))
+    (λ q. Has-append_right d (lists w) (flat (map lists names)) (named_item lists names u d q k))
+    h

@@ -4,6 +4,7 @@ use Rattle.std.proofs.lemmas.Bool.{cases_eq, false≢true, cond-true, cond-false
 use Rattle.std.proofs.lemmas.List.{map-append}
 use Rattle.cp_lists.specs.Count.{count}
 use Rattle.cp_lists.specs.CyclicLists.{Has, Lacks}
+use Rattle.cp_lists.proofs.Choices.{choose}
 use Rattle.cp_lists.proofs.Counting.{count_all, count_both, count_inject, count_some}
 use Rattle.cp_lists.proofs.DistinctLists.{Has-append_cases, Has-append_left, Has-append_right, Lacks-from, has_cases, has_lacks}
 use Rattle.cp_lists.proofs.MappedLists.{Has-map_on, follow-map_on, map_on-Has}
@@ -16,7 +17,6 @@ use Rattle.cp_maps.specs.Genus.{OneGenus, SameGenus}
 use Rattle.cp_maps.specs.Maps.{IsMapOf, Rings, flat}
 use Rattle.cp_maps.specs.Names.{Carries, Names}
 use Rattle.cp_maps.specs.Twins.{twin}
-use Rattle.cp_maps.proofs.FlatRotations.{choose}
 use Rattle.cp_maps.proofs.Genus.{OneGenus-trans, SameGenus-agree}
 use Rattle.cp_maps.proofs.ListFacts.{below_item}
 use Rattle.cp_maps.proofs.MapLists.{IsMapOf-Permutes}

@@ -2,12 +2,13 @@
 use Rattle.std.proofs.Common.{◌≡◌, ℕ, List, [], ◌∷◌, ◌++◌, append_assoc, sym, refl, ap, ◌∙◌, subst, inl, inr, ⊎_elim, ◌*◌}
 use Rattle.std.proofs.lemmas.List.{append-nil}
 use Rattle.cp_lists.proofs.DistinctLists.{Has-append_cases, Has-append_left, Has-append_right}
+use Rattle.cp_lists.proofs.TurnedLists.{turn_parts}
 use Rattle.cp_maps.specs.Genus.{Becomes, SameGenus}
 use Rattle.cp_maps.specs.Maps.{IsMapOf, flat, next_by}
 use Rattle.cp_maps.specs.Twins.{mirror, twin}
 use Rattle.cp_maps.proofs.ContractedEdges.{contracted_edge-IsMapOf, contracted_edge-SameGenus, trivial_loop-SameGenus}
 use Rattle.cp_maps.proofs.Genus.{SameGenus-sym, SameGenus-trans}
-use Rattle.cp_maps.proofs.ListFacts.{Distinct-less, turn_parts}
+use Rattle.cp_maps.proofs.ListFacts.{Distinct-less}
 use Rattle.cp_maps.proofs.MapLists.{IsMapOf-some, IsMapOf-swap, IsMapOf-turn}
 use Rattle.cp_maps.proofs.MergedVertices.{same_lists-SameGenus}
 use Rattle.cp_maps.proofs.Twins.{mirror-cons, twin-twin}

@@ -6,8 +6,8 @@ use Rattle.cp_lists.proofs.DistinctLists.{Has-append_cases, has_cases}
 use Rattle.cp_lists.proofs.FollowedLists.{iterate_in_list}
 use Rattle.cp_orbits.specs.Orbits.{Permutes}
 use Rattle.cp_orbits.proofs.ClassLabels.{same_labels}
+use Rattle.cp_orbits.proofs.ListOrbits.{follow-reaches}
 use Rattle.cp_orbits.proofs.OrbitLaws.{Respects-graph, labels_reached}
-use Rattle.cp_faces.proofs.ListRotations.{follow-reaches}
 use Rattle.cp_maps.specs.Genus.{Evenly, OnePart, linked}
 use Rattle.cp_maps.specs.Maps.{IsMapOf, Ring, Rings, flat}
 use Rattle.cp_maps.specs.Twins.{twin}

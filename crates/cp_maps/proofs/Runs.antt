@@ -8,10 +8,9 @@ use Rattle.cp_lists.specs.CyclicLists.{Distinct, Has, follow}
 use Rattle.cp_lists.specs.Turns.{IsTurn}
 use Rattle.cp_lists.proofs.DistinctLists.{Distinct-apart, Distinct-append, Distinct-append_left, Distinct-append_right, Distinct-turn, Has-append_cases, Has-append_left, Has-append_right, Has-turn, Lacks-append_right}
 use Rattle.cp_lists.proofs.FilteredLists.{Has-filter, filter-Distinct, filter_all, filter_no}
-use Rattle.cp_lists.proofs.TurnedLists.{turn-follow}
+use Rattle.cp_lists.proofs.TurnedLists.{turn-follow, turn_parts}
 use Rattle.cp_maps.specs.Crossings.{EachClassOf, InOrder, IsClassOf, IsUncrossed, Run}
 use Rattle.cp_maps.specs.Gluings.{IsAssembled}
-use Rattle.cp_maps.proofs.ListFacts.{turn_parts}
 
 -- behind more items
 order_right : (ws l m : List ℕ) → InOrder ws m → InOrder ws (l ++ m)

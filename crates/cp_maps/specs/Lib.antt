@@ -6,3 +6,4 @@ pub mod Borders
 pub mod Trees
 pub mod Gluings
 pub mod Crossings
+pub mod Classes

@@ -1,5 +1,5 @@
 -- The length of a cycle of a permutation.
-use Rattle.std.proofs.Common.{◌≡◌, ◌≢◌, ℕ, suc, ◌-◌, ◌<◌, ◌≤◌, ◌⊎◌, Bool, true, false, eqb, sym, refl, ap, ◌∙◌, subst, ⊎_elim, arith}
+use Rattle.std.proofs.Common.{◌≡◌, ◌≢◌, ℕ, suc, ◌-◌, ◌<◌, ◌≤◌, true, false, eqb, sym, refl, ap, ◌∙◌, subst, ⊎_elim, arith}
 use Rattle.std.specs.Fn.{iterate}
 use Rattle.std.proofs.lemmas.Bool.{cases_eq, cases_lt, cases_order, eqb-true, eqb-false}
 use Rattle.cp_lists.proofs.Counting.{first_below}
@@ -81,7 +81,8 @@ pub WalksCycle-end : (f : ℕ → ℕ) (x k here : ℕ) → WalksCycle f x k her
 WalksCycle-end f x k here walk back = record { some = walk.some; returns = sym walk.at ∙ back; first = walk.first }
 
 -- elsewhere the steps are fewer than n
-pub WalksCycle-lt : (n : ℕ) (f : ℕ → ℕ) → Permutes n f → (x k here : ℕ) → x < n → WalksCycle f x k here → here ≢ x → k < n
+pub WalksCycle-lt : (n : ℕ) (f : ℕ → ℕ) → Permutes n f → (x k here : ℕ) → x < n → WalksCycle f x k here → here ≢ x →
+    k < n
 WalksCycle-lt n f perm x k here lt walk elsewhere =
     let w = CycleLength-exists n f perm x lt in
     ⊎_elim

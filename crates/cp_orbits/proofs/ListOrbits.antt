@@ -1,5 +1,5 @@
 -- Cyclic lists as orbits: the step to the item behind, and maps that turn a list.
-use Rattle.std.proofs.Common.{◌≡◌, ℕ, zero, suc, ◌+◌, ◌-◌, ◌<◌, ◌↔◌, List, length, map, slice_index, sym, refl, ap, ◌∙◌, subst, arith}
+use Rattle.std.proofs.Common.{◌≡◌, ℕ, zero, suc, ◌+◌, ◌-◌, ◌<◌, List, length, map, slice_index, sym, refl, ap, ◌∙◌, subst, arith}
 use Rattle.std.specs.Fn.{iterate}
 use Rattle.cp_lists.specs.CyclicLists.{Has, Distinct, follow}
 use Rattle.cp_lists.specs.Turns.{IsTurn}
@@ -45,7 +45,8 @@ module _ (m : ℕ → ℕ) (xs : List ℕ) (dis : Distinct xs) (turn : IsTurn xs
   power_follow (suc c) d has = ap (iterate m c) (turned_follow d has) ∙ power_follow c (m d) (turned_item d has)
 
   -- what a power keeps it keeps further on along the list
-  power_fixes : (c k x : ℕ) → Has x xs → iterate m c x ≡ x → iterate m c (iterate (follow xs) k x) ≡ iterate (follow xs) k x
+  power_fixes : (c k x : ℕ) → Has x xs → iterate m c x ≡ x →
+      iterate m c (iterate (follow xs) k x) ≡ iterate (follow xs) k x
   power_fixes c zero x has e = e
   power_fixes c (suc k) x has e =
       power_fixes c k (follow xs x) (follow-Has x xs has) (power_follow c x has ∙ ap (follow xs) e)

@@ -1,18 +1,20 @@
+-- facts about the definitions, for callers
 pub mod Rotations
-pub mod Found
-pub mod Walks
-pub mod Searches
-pub mod NextTables
-pub mod WrongLists
-pub mod Euler
 pub mod Functions
+pub mod Euler
 pub mod ListEdits
 pub mod ListSystems
-pub mod MergedLists
+pub mod NextTables
+pub mod RewriteCode
+pub mod Searches
+pub mod WrongLists
 pub mod DeletedEdges
 pub mod MergedVertices
-pub mod RewriteCode
 pub mod Inserted
 pub mod ExpandedVertices
-pub mod InsertCode
 pub mod LawCounts
+-- the proofs of this crate
+mod Found
+mod Walks
+mod MergedLists
+mod InsertCode

@@ -1,39 +1,13 @@
--- What holds in each rotation system: twins, the darts behind darts, and the step round faces.
+-- What holds in each rotation system: the darts behind darts, and the step round faces.
 use Rattle.std.proofs.Common.{◌≡◌, ℕ, ◌+◌, ◌-◌, ◌*◌, ◌/◌, ◌%◌, ◌<◌, List, length, slice_index, sym, refl, ap, ◌∙◌, subst, ⊎_elim, arith}
 use Rattle.std.specs.List.{Contains}
 use Rattle.std.proofs.lemmas.Bool.{cases_eq, eq-eqb, ne_eqb, eqb-true}
 use Rattle.cp_orbits.specs.Orbits.{Permutes}
 use Rattle.cp_lists.proofs.ExactLists.{EachOnce, place, place_at, place_is}
-use Rattle.cp_rot.specs.Systems.{System, darts, twin, vertex_of, list_of, place_after, next_in, next, IsRotation}
+use Rattle.cp_rot.specs.Systems.{System, darts, vertex_of, list_of, place_after, next_in, next, IsRotation}
+use Rattle.cp_faces.specs.Twins.{twin}
+use Rattle.cp_faces.proofs.Twins.{twin-below, twin-apart}
 use Rattle.cp_rot.specs.Genus.{face_step}
-
--- the twin of an even dart
-pub twin_even : (d : ℕ) → d % 2 ≡ 0 → twin d ≡ d + 1
-twin_even d e = rw (eq-eqb (d % 2) 0 e) refl
-
--- the twin of an odd dart
-pub twin_odd : (d : ℕ) → (d % 2 ≡ 0 → ⊥) → twin d ≡ d - 1
-twin_odd d ne = rw (ne_eqb (d % 2) 0 ne) refl
-
--- the twin of the twin is the dart
-pub twin-twin : (d : ℕ) → twin (twin d) ≡ d
-twin-twin d =
-    ⊎_elim
-    (λ e. ap twin (twin_even d e) ∙ twin_odd (d + 1) (λ f. omega arith) ∙ omega arith)
-    (λ ne. ap twin (twin_odd d ne) ∙ twin_even (d - 1) (omega arith) ∙ omega arith)
-    (cases_eq (d % 2) 0)
-
--- below an even number twins stay below it
-pub twin-below : (n d : ℕ) → n ≡ 2 * (n / 2) → d < n → twin d < n
-twin-below n d even lt =
-    ⊎_elim
-    (λ e. subst (λ t. t < n) (sym (twin_even d e)) (omega arith))
-    (λ ne. subst (λ t. t < n) (sym (twin_odd d ne)) (omega arith))
-    (cases_eq (d % 2) 0)
-
--- two darts with one twin are equal
-pub twin-apart : (c d : ℕ) → twin c ≡ twin d → c ≡ d
-twin-apart c d e = sym (twin-twin c) ∙ ap twin e ∙ twin-twin d
 
 -- behind the last place comes the first
 pub place_after_last : (n i : ℕ) → i + 1 ≡ n → place_after n i ≡ 0

@@ -7,11 +7,13 @@ use Rattle.cp_orbits.specs.Connected.{Joins, here, step}
 use Rattle.cp_lists.proofs.Counting.{count-le}
 use Rattle.cp_lists.proofs.ExactLists.{place_of}
 use Rattle.cp_orbits.proofs.ClassLabels.{Connected-sym, Connected-trans}
-use Rattle.cp_rot.specs.Systems.{System, darts, twin, vertex_of, list_of, IsRotation}
+use Rattle.cp_rot.specs.Systems.{System, darts, vertex_of, list_of, IsRotation}
+use Rattle.cp_faces.specs.Twins.{twin}
 use Rattle.cp_rot.specs.Genus.{end_pairs, Joined}
 use Rattle.cp_rot.specs.Tables.{IsMarked, IsUnmarked}
 use Rattle.cp_rot.specs.Search.{neighbour_at, unmarked, IsClosed, IsStacked, IsPushed, Searching}
-use Rattle.cp_rot.proofs.Rotations.{twin_even, twin_odd, twin-below, in_list, item_stands}
+use Rattle.cp_rot.proofs.Rotations.{in_list, item_stands}
+use Rattle.cp_faces.proofs.Twins.{twin_even, twin_odd, twin-below}
 use Rattle.cp_rot.proofs.Found.{Relates, FoundUpto, marked_class}
 use Rattle.cp_rot.proofs.Walks.{stays_marked, was_marked, unmarked_below-set}
 

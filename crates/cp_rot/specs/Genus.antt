@@ -3,7 +3,8 @@ use Rattle.std.specs.Prelude.{◌≡◌, ℕ, ◌+◌, ◌*◌, List, [], ◌∷
 use Rattle.cp_lists.specs.Count.{IsCount}
 use Rattle.cp_orbits.specs.Connected.{Connected, IsLeastConnected}
 use Rattle.cp_orbits.specs.Orbits.{Reaches, IsLeastOfOrbit}
-use Rattle.cp_rot.specs.Systems.{System, darts, edges, twin, next, list_of}
+use Rattle.cp_rot.specs.Systems.{System, darts, edges, next, list_of}
+use Rattle.cp_faces.specs.Twins.{twin}
 
 -- along dart d to its other end, and there to the next dart
 abbrev pub face_step : System → ℕ → ℕ

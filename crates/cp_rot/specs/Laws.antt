@@ -1,7 +1,8 @@
 -- How rotation systems stand to each other: with new numbers, and side by side.
 use Rattle.std.specs.Prelude.{◌≡◌, ℕ, ◌+◌, ◌<◌}
 use Rattle.cp_orbits.specs.Orbits.{Renumbers}
-use Rattle.cp_rot.specs.Systems.{System, darts, twin, vertex_of, next}
+use Rattle.cp_rot.specs.Systems.{System, darts, vertex_of, next}
+use Rattle.cp_faces.specs.Twins.{twin}
 
 -- s is r with new numbers: h for the vertices and k for the darts, which back and undo take back
 pub record IsRenamed (r s : System) (h back k undo : ℕ → ℕ) : Type 0 where

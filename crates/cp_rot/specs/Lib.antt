@@ -1,11 +1,14 @@
+-- what contracts rest on
 pub mod Systems
 pub mod Genus
-pub mod Rows
 pub mod FirstWrong
 pub mod Faults
 pub mod Tables
+pub mod Rewrites
+pub mod Laws
+-- examples
+pub mod Rows
+-- what functions inside promise each other
 pub mod Search
 pub mod Lists
-pub mod Rewrites
 pub mod RewriteTables
-pub mod Laws

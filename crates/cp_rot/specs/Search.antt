@@ -1,7 +1,8 @@
 -- What a search for a component has found while it goes on.
 use Rattle.std.specs.Prelude.{◌≡◌, ℕ, ◌+◌, ◌<◌, ◌≤◌, ◌⊎◌, Bool, false, not, List, length, slice_index, slice_index_or}
 use Rattle.cp_lists.specs.Count.{count}
-use Rattle.cp_rot.specs.Systems.{System, darts, twin, vertex_of, list_of}
+use Rattle.cp_rot.specs.Systems.{System, darts, vertex_of, list_of}
+use Rattle.cp_faces.specs.Twins.{twin}
 use Rattle.cp_rot.specs.Genus.{Joined}
 use Rattle.cp_rot.specs.Tables.{IsMarked}
 

@@ -17,10 +17,6 @@ darts r = length r.at
 abbrev pub edges : System → ℕ
 edges r = darts r / 2
 
--- the other dart of the same edge
-abbrev pub twin : ℕ → ℕ
-twin d = cond (d % 2 == 0) (d + 1) (d - 1)
-
 abbrev pub vertex_of : System → ℕ → ℕ
 vertex_of r d = slice_index r.at d
 

@@ -1,6 +1,7 @@
 // What the counts need to know of a rotation system.
 ghost use Rattle.std.specs.Prelude.{◌≡◌, ℕ, ◌^◌, ◌<◌, length, slice_index};
-ghost use Rattle.cp_rot.specs.Systems.{System, IsRotation, darts, vertex_of, list_of, next, twin};
+ghost use Rattle.cp_rot.specs.Systems.{System, IsRotation, darts, vertex_of, list_of, next};
+ghost use Rattle.cp_faces.specs.Twins.{twin};
 
 /// What tells a rotation system (Heffter 1891, Edmonds 1960): darts stand at vertices, and round
 /// each vertex they have a cyclic order, counterclockwise. Vertices and darts are numbered from 0,

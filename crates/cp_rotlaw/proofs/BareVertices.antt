@@ -9,18 +9,6 @@ use Rattle.cp_faces.proofs.Faces.{stands_none}
 use Rattle.cp_faces.proofs.Renaming.{Respects-ends}
 use Rattle.cp_faces.proofs.Parts.{count_add}
 
--- numbers below n and below m that are given to each other are equally many
-pub same_size : (n m : ℕ) (p q : ℕ → ℕ) → ((x : ℕ) → x < n → (p x < m) × (q (p x) ≡ x)) → ((x : ℕ) → x < m → (q x < n) × (p (q x) ≡ x)) → n ≡ m
-same_size n m p q there back = omega (arith, half n m p q there, half m n q p back)
-  where
-    half : (n m : ℕ) (p q : ℕ → ℕ) → ((x : ℕ) → x < n → (p x < m) × (q (p x) ≡ x)) → n ≤ m
-    half n m p q there = omega (
-      arith,
-      count_all n (λ x. true) (λ x lt. refl),
-      count_all m (λ x. true) (λ x lt. refl),
-      count_inject n m (λ x. true) (λ x. true) p (λ x lt t. ((there x lt).0, refl)) (λ x y ltx lty tx ty e. sym (there x ltx).1 ∙ ap q e ∙ (there y lty).1),
-    )
-
 -- a rotation stays one
 pub Rotates-more : (v w n : ℕ) (at next : ℕ → ℕ) → v ≤ w → Rotates v n at next → Rotates w n at next
 Rotates-more v w n at next le rot = record { permutes = rot.permutes; placed = λ d lt. omega (arith, rot.placed d lt); kept = rot.kept; around = rot.around }

@@ -9,9 +9,11 @@ use Rattle.cp_lists.proofs.Counting.{count_none, count_yes, count_no}
 use Rattle.cp_orbits.proofs.ClassLabels.{labels-le, labels-respects}
 use Rattle.cp_faces.proofs.Faces.{stands_at, face_upto-Permutes}
 use Rattle.cp_faces.proofs.Renaming.{ends-respects}
-use Rattle.cp_rot.specs.Systems.{System, darts, edges, twin, vertex_of, list_of, next, IsRotation}
+use Rattle.cp_rot.specs.Systems.{System, darts, edges, vertex_of, list_of, next, IsRotation}
+use Rattle.cp_faces.specs.Twins.{twin}
 use Rattle.cp_rot.specs.Genus.{face_step, HasGenusZero}
-use Rattle.cp_rot.proofs.Rotations.{twin_even, twin_odd, twin-below, next_stands, face_step-Permutes}
+use Rattle.cp_rot.proofs.Rotations.{next_stands, face_step-Permutes}
+use Rattle.cp_faces.proofs.Twins.{twin_even, twin_odd, twin-below, half_twin, same_half}
 use Rattle.cp_rot.proofs.Functions.{next-follow, Turns-system, components_of, face_step-upto, zero_counts, HasGenusZero-from}
 use Rattle.cp_rot.proofs.ListSystems.{Listed, Listed-system}
 use Rattle.cp_rotlaw.specs.Dipoles.{IsDipole, AreReverse, edges_round}
@@ -19,17 +21,6 @@ use Rattle.cp_lists.proofs.ReversedLists.{Has-reverse, reverse-Has, Distinct-rev
 use Rattle.cp_lists.proofs.TurnedLists.{turn-follow, turn_from}
 use Rattle.cp_lists.proofs.MappedLists.{Has-map_on, map_on-Has, follow-map_on, Distinct-map_on}
 use Rattle.cp_rotlaw.proofs.ShortOrbits.{orbits_of_two, two_of_orbits}
-
--- twins are of one edge
-pub half_twin : (d : ℕ) → twin d / 2 ≡ d / 2
-half_twin d = ⊎_elim (λ e. ap (λ (y : ℕ). y / 2) (twin_even d e) ∙ omega arith) (λ ne. ap (λ (y : ℕ). y / 2) (twin_odd d ne) ∙ omega arith) (cases_eq (d % 2) 0)
-
--- two darts of one edge are one, or twins
-pub same_half : (d f : ℕ) → d / 2 ≡ f / 2 → (d ≡ f) ⊎ (f ≡ twin d)
-same_half d f e = ⊎_elim
-    (λ even. ⊎_elim (λ h. inl (omega arith)) (λ nh. inr (let odd : f ≡ d + 1 = omega arith in odd ∙ sym (twin_even d even))) (cases_eq (f % 2) 0))
-    (λ odd. ⊎_elim (λ h. inr (let even : f ≡ d - 1 = omega arith in even ∙ sym (twin_odd d odd))) (λ nh. inl (omega arith)) (cases_eq (f % 2) 0))
-    (cases_eq (d % 2) 0)
 
 module _ (r : System) (is : IsRotation r) (dipole : IsDipole r) where
   -- the darts and lists

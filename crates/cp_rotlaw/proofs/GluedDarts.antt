@@ -4,10 +4,11 @@ use Rattle.std.proofs.lemmas.Bool.{cases_eq, cases_Bool, cases_lt, eq-eqb, ne_eq
 use Rattle.cp_lists.specs.Count.{count}
 use Rattle.cp_lists.specs.CyclicLists.{Has, Distinct, follow}
 use Rattle.cp_faces.specs.Faces.{on_edges}
-use Rattle.cp_rot.specs.Systems.{System, darts, edges, twin, vertex_of, list_of, next, IsRotation}
+use Rattle.cp_rot.specs.Systems.{System, darts, edges, vertex_of, list_of, next, IsRotation}
+use Rattle.cp_faces.specs.Twins.{twin}
 use Rattle.cp_rot.specs.Tables.{system_of}
 use Rattle.cp_rot.specs.Rewrites.{values}
-use Rattle.cp_rot.proofs.Rotations.{twin-twin, twin-below, twin_even, twin_odd}
+use Rattle.cp_faces.proofs.Twins.{twin-twin, twin-below, twin_even, twin_odd}
 use Rattle.cp_rot.proofs.Functions.{next-follow}
 use Rattle.cp_rot.proofs.ListEdits.{length-values, values_at}
 use Rattle.cp_rot.proofs.ListSystems.{Listed, Listed-system, Listed-exact}

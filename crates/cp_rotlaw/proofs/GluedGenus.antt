@@ -13,9 +13,11 @@ use Rattle.cp_faces.proofs.Merges.{partner-twin}
 use Rattle.cp_faces.proofs.Parts.{partner_more, partner_shift}
 use Rattle.cp_lists.proofs.DistinctLists.{Has_at, Has-place, Distinct-from}
 use Rattle.cp_lists.proofs.FollowedLists.{follow_at, follow_last}
-use Rattle.cp_rot.specs.Systems.{System, darts, edges, twin, vertex_of, list_of, next, place_after, IsRotation}
+use Rattle.cp_rot.specs.Systems.{System, darts, edges, vertex_of, list_of, next, place_after, IsRotation}
+use Rattle.cp_faces.specs.Twins.{twin}
 use Rattle.cp_rot.specs.Genus.{HasGenusZero}
-use Rattle.cp_rot.proofs.Rotations.{twin-twin, twin-below, twin_even, twin_odd, place_after_last, place_after_other, item_stands, next_stands, next_of_item}
+use Rattle.cp_rot.proofs.Rotations.{place_after_last, place_after_other, item_stands, next_stands, next_of_item}
+use Rattle.cp_faces.proofs.Twins.{twin-twin, twin-below, twin_even, twin_odd}
 use Rattle.cp_rot.proofs.Functions.{next-follow, Turns-system, zero_counts, HasGenusZero-from}
 use Rattle.cp_rot.proofs.ListSystems.{Listed-system}
 use Rattle.cp_rotlaw.specs.Systems.{HasNoLoopAt}
@@ -24,9 +26,10 @@ use Rattle.cp_lists.proofs.ReversedLists.{reverse_at}
 use Rattle.cp_lists.proofs.TurnedLists.{turn-follow}
 use Rattle.cp_rotlaw.proofs.GluedPairs.{partner_first, partner_second}
 use Rattle.cp_rotlaw.proofs.GluedDarts.{number, kept, number_joined, number_kept, number-below, number-apart, number-other, origin, size, IsRotation-glued, next_first, next_second}
+use Rattle.cp_lists.proofs.Choices.{choose}
 use Rattle.cp_maps.specs.Genus.{linked, IsFlat}
 use Rattle.cp_maps.proofs.FlatMaps.{linked-from}
-use Rattle.cp_maps.proofs.FlatRotations.{choose, flat_from_zero, zero_from_flat}
+use Rattle.cp_maps.proofs.FlatRotations.{flat_from_zero, zero_from_flat}
 use Rattle.cp_maps.proofs.FlatUnions.{Permutes-union, IsFlat-union}
 use Rattle.cp_rotlaw.proofs.ZippedVertices.{AreReverseRows, zipped, zip-Permutes, zip_other, zip-IsFlat, zip_x, zip_y}
 use Rattle.cp_rotlaw.proofs.ShortCuts.{IsShortCut, IsFlat-cut}

@@ -4,9 +4,10 @@ use Rattle.std.proofs.lemmas.Bool.{cases_eq, eq-eqb, ne_eqb, eqb-true, cond-true
 use Rattle.cp_lists.specs.Count.{count, Exactly}
 use Rattle.cp_faces.specs.Faces.{on_edges}
 use Rattle.cp_lists.proofs.Counting.{count-le}
-use Rattle.cp_rot.specs.Systems.{System, darts, edges, twin, vertex_of, IsRotation}
+use Rattle.cp_rot.specs.Systems.{System, darts, edges, vertex_of, IsRotation}
+use Rattle.cp_faces.specs.Twins.{twin}
 use Rattle.cp_rot.specs.Rewrites.{values}
-use Rattle.cp_rot.proofs.Rotations.{twin-twin, twin-below}
+use Rattle.cp_faces.proofs.Twins.{twin-twin, twin-below}
 use Rattle.cp_rot.proofs.ListEdits.{length-values, values_at, values_more}
 use Rattle.cp_rot.specs.Tables.{system_of}
 use Rattle.cp_rotlaw.specs.Glue.{ArePartners, partner_of_second, edge_avoids, first_vertex, second_vertex, second_dart, IsGlued}

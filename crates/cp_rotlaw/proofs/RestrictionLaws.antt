@@ -8,19 +8,20 @@ use Rattle.cp_lists.specs.CyclicLists.{follow}
 use Rattle.cp_faces.specs.Faces.{on_edges}
 use Rattle.cp_orbits.proofs.OrbitLaws.{exchange_left, exchange_other, exchange_case, exchange-exchange, exchange-below}
 use Rattle.cp_faces.proofs.Renaming.{Renumbers-on_edges}
-use Rattle.cp_rot.specs.Systems.{System, IsRotation, edges, twin, vertex_of, list_of, next}
+use Rattle.cp_rot.specs.Systems.{System, IsRotation, edges, vertex_of, list_of, next}
+use Rattle.cp_faces.specs.Twins.{twin}
 use Rattle.cp_rot.specs.Genus.{HasGenusZero}
 use Rattle.cp_rot.specs.Rewrites.{renumbered, without_edge, deleted}
 use Rattle.cp_rotlaw.specs.Restrictions.{split_off}
 use Rattle.cp_rot.specs.Laws.{IsRenamed}
 use Rattle.cp_rotlaw.specs.Restrictions.{IsRestricted, restricted, MeetAt}
-use Rattle.cp_rot.proofs.Rotations.{twin_even, twin_odd}
+use Rattle.cp_faces.proofs.Twins.{twin_even, twin_odd}
 use Rattle.cp_rot.proofs.Functions.{faces_of, components_of, FaceCount-faces, ComponentCount-components, zero_counts, HasGenusZero-from}
 use Rattle.cp_rot.proofs.ListSystems.{Listed-edges, system_list}
 use Rattle.cp_rot.proofs.DeletedEdges.{IsRotation-deleted, deleted-edges, deleted_at}
 use Rattle.cp_rot.proofs.LawCounts.{renamed_counts}
 use Rattle.cp_lists.proofs.FilteredLists.{filter_all, filter_agree, map_filtered}
-use Rattle.cp_rotlaw.proofs.BareVertices.{same_size}
+use Rattle.cp_lists.proofs.Choices.{same_size}
 use Rattle.cp_rotlaw.proofs.RestrictedSystems.{on_edges_half, on_edges_bit, on_edges-chain, kept_list, old_kept, new_kept, restricted_stand, restricted_zero, kept_item, kept_follow, restricted_next}
 use Rattle.cp_rotlaw.proofs.SplitParts.{split_by_parts}
 

@@ -18,7 +18,8 @@ use Rattle.cp_rot.proofs.Functions.{Turns-system, zero_counts, HasGenusZero-from
 use Rattle.cp_rot.proofs.ListSystems.{turn, Listed-Rotates, system_zero}
 use Rattle.cp_rotlaw.proofs.SplitVertices.{fails_not, at_split, lists_split, split_before, split_moved, split_left, split_other, Listed-split, split_turn_left, split_turn_taken, of_taken, of_taken_u, of_taken_no, of_taken_yes}
 use Rattle.cp_rotlaw.proofs.RestrictedSystems.{on_edges_same, kept_list, old_kept, restricted_stand, kept_item, kept_follow, restricted_next}
-use Rattle.cp_rotlaw.proofs.BareVertices.{same_size, Rotates-more, faces-more_vertices, components-more_vertices}
+use Rattle.cp_rotlaw.proofs.BareVertices.{Rotates-more, faces-more_vertices, components-more_vertices}
+use Rattle.cp_lists.proofs.Choices.{same_size}
 
 -- a: the edges that are left; b: those that are taken
 module _ (r : System) (is : IsRotation r) (u : ℕ) (lt : u < r.vertices) (takes : ℕ → Bool) (meet : MeetAt r u takes) (a b : System) (is_a : IsRotation a) (is_b : IsRotation b) (na oa nb ob : ℕ → ℕ) (res_a : IsRestricted r a (λ e. not (takes e)) na oa) (res_b : IsRestricted r b takes nb ob) where

@@ -8,9 +8,10 @@ use Rattle.cp_conn.specs.Darts.{start, finish}
 use Rattle.cp_conn.specs.Blocks.{IsSimpleCycle, AreInOneBlock}
 use Rattle.cp_conn.proofs.DartChains.{start_even, start_odd, finish_even, finish_odd, dart_joins, Joins-sym}
 use Rattle.cp_conn.proofs.OneBlock.{flat, connected_of}
-use Rattle.cp_rot.specs.Systems.{System, darts, twin, vertex_of, IsRotation}
+use Rattle.cp_rot.specs.Systems.{System, darts, vertex_of, IsRotation}
+use Rattle.cp_faces.specs.Twins.{twin}
 use Rattle.cp_rot.specs.Genus.{end_pairs}
-use Rattle.cp_rot.proofs.Rotations.{twin_even, twin_odd, twin-twin}
+use Rattle.cp_faces.proofs.Twins.{twin_even, twin_odd, twin-twin}
 use Rattle.cp_rot.proofs.Searches.{pair_of_edge}
 use Rattle.cp_rotlaw.specs.Stars.{star_vertex, HaveSameBlocks}
 use Rattle.cp_rotlaw.specs.StarParts.{far_key, AreEntered, part_of, star_at}

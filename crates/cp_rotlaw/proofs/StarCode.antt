@@ -13,10 +13,12 @@ use Rattle.cp_orbits.proofs.ClassLabels.{Connected-sym, Connected-trans, Connect
 use Rattle.cp_conn.specs.CutVertex.{avoids, without_vertex}
 use Rattle.cp_conn.specs.Numbering.{IsLeast, HasNumber, AreNumbered}
 use Rattle.cp_conn.proofs.CutVertices.{kept_pair, avoided}
-use Rattle.cp_rot.specs.Systems.{System, darts, twin, vertex_of, list_of, IsRotation}
+use Rattle.cp_rot.specs.Systems.{System, darts, vertex_of, list_of, IsRotation}
+use Rattle.cp_faces.specs.Twins.{twin}
 use Rattle.cp_rot.specs.Genus.{end_pairs}
 use Rattle.cp_rot.specs.Tables.{stands_at}
-use Rattle.cp_rot.proofs.Rotations.{twin-below, item_stands}
+use Rattle.cp_rot.proofs.Rotations.{item_stands}
+use Rattle.cp_faces.proofs.Twins.{twin-below}
 use Rattle.cp_rot.proofs.Searches.{end_pair_at, pair_of_edge}
 use Rattle.cp_rotlaw.specs.Systems.{HasNoLoopAt}
 use Rattle.cp_rotlaw.specs.Stars.{IsDartOf}

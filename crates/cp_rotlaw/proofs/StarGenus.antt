@@ -5,7 +5,8 @@ use Rattle.std.proofs.lemmas.Bool.{cases_eq, cases_lt, cases_Bool, eq-eqb, ne_eq
 use Rattle.std.proofs.lemmas.List.{get_or_default}
 use Rattle.cp_lists.specs.CyclicLists.{Has}
 use Rattle.cp_lists.proofs.Counting.{same_tests}
-use Rattle.cp_rot.specs.Systems.{System, darts, edges, twin, vertex_of, list_of, IsRotation}
+use Rattle.cp_rot.specs.Systems.{System, darts, edges, vertex_of, list_of, IsRotation}
+use Rattle.cp_faces.specs.Twins.{twin}
 use Rattle.cp_rot.specs.Genus.{HasGenusZero}
 use Rattle.cp_rot.specs.Rewrites.{values, system}
 use Rattle.cp_rotlaw.specs.Restrictions.{split_vertex, split_list, split_off}

@@ -7,11 +7,12 @@ use Rattle.cp_orbits.specs.Connected.{Connected, here, step}
 use Rattle.cp_orbits.proofs.ClassLabels.{Respects-from, Connected-keeps}
 use Rattle.cp_conn.specs.CutVertex.{without_vertex, avoids}
 use Rattle.cp_conn.proofs.CutVertices.{kept_of, avoids_of}
-use Rattle.cp_rot.specs.Systems.{System, darts, edges, twin, vertex_of, list_of, IsRotation}
+use Rattle.cp_rot.specs.Systems.{System, darts, edges, vertex_of, list_of, IsRotation}
+use Rattle.cp_faces.specs.Twins.{twin}
 use Rattle.cp_rot.specs.Genus.{end_pairs, Joined}
 use Rattle.cp_rot.specs.Tables.{system_of}
 use Rattle.cp_rot.specs.Rewrites.{values, system}
-use Rattle.cp_rot.proofs.Rotations.{twin_even, twin_odd}
+use Rattle.cp_faces.proofs.Twins.{twin_even, twin_odd}
 use Rattle.cp_rot.proofs.ListEdits.{length-values, values_at}
 use Rattle.cp_rot.proofs.ListSystems.{system_at, system_list}
 use Rattle.cp_rot.proofs.RewriteCode.{values_system}

@@ -1,7 +1,8 @@
 -- Dipoles: two vertices, and edges from one to the other.
 use Rattle.std.specs.Prelude.{◌≡◌, ◌≢◌, ℕ, ◌/◌, ◌<◌, List, map, reverse}
 use Rattle.cp_lists.specs.Turns.{IsTurn}
-use Rattle.cp_rot.specs.Systems.{System, darts, edges, twin, vertex_of, list_of}
+use Rattle.cp_rot.specs.Systems.{System, darts, edges, vertex_of, list_of}
+use Rattle.cp_faces.specs.Twins.{twin}
 
 -- two vertices, at least one edge, and no loop
 pub record IsDipole (r : System) : Type 0 where

@@ -3,7 +3,8 @@ use Rattle.std.specs.Prelude.{◌≡◌, ◌≢◌, ℕ, ◌+◌, ◌-◌, ◌*�
 use Rattle.cp_lists.specs.Turns.{IsTurn}
 use Rattle.cp_lists.specs.Count.{count, Exactly}
 use Rattle.cp_faces.specs.Faces.{on_edges}
-use Rattle.cp_rot.specs.Systems.{System, darts, edges, twin, vertex_of, list_of}
+use Rattle.cp_rot.specs.Systems.{System, darts, edges, vertex_of, list_of}
+use Rattle.cp_faces.specs.Twins.{twin}
 use Rattle.cp_rotlaw.specs.Systems.{is_other}
 
 -- each pair has a dart of a at u and a dart of b at w, and each of these darts stands in exactly one pair

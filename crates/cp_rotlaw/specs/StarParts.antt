@@ -3,7 +3,8 @@ use Rattle.std.specs.Prelude.{◌≡◌, ℕ, suc, ◌+◌, ◌-◌, ◌<◌, �
 use Rattle.std.specs.List.{filter}
 use Rattle.cp_orbits.specs.Connected.{Connected}
 use Rattle.cp_conn.specs.CutVertex.{without_vertex}
-use Rattle.cp_rot.specs.Systems.{System, darts, twin, vertex_of, list_of}
+use Rattle.cp_rot.specs.Systems.{System, darts, vertex_of, list_of}
+use Rattle.cp_faces.specs.Twins.{twin}
 use Rattle.cp_rot.specs.Genus.{end_pairs}
 use Rattle.cp_rotlaw.specs.Stars.{IsDartOf, EnterOne, star_vertex}
 

@@ -4,7 +4,8 @@ use Rattle.std.specs.List.{filter}
 use Rattle.cp_orbits.specs.Connected.{Connected}
 use Rattle.cp_conn.specs.CutVertex.{without_vertex}
 use Rattle.cp_conn.specs.Blocks.{AreInOneBlock}
-use Rattle.cp_rot.specs.Systems.{System, darts, edges, twin, vertex_of, list_of}
+use Rattle.cp_rot.specs.Systems.{System, darts, edges, vertex_of, list_of}
+use Rattle.cp_faces.specs.Twins.{twin}
 use Rattle.cp_rot.specs.Genus.{end_pairs, Joined}
 
 -- a dart of u: it stands there

@@ -1,6 +1,7 @@
 -- What several laws ask of a rotation system.
 use Rattle.std.specs.Prelude.{◌≡◌, ◌≢◌, ℕ, ◌<◌, Bool, not, eqb}
-use Rattle.cp_rot.specs.Systems.{System, darts, twin, vertex_of}
+use Rattle.cp_rot.specs.Systems.{System, darts, vertex_of}
+use Rattle.cp_faces.specs.Twins.{twin}
 
 -- no edge has both ends at u
 abbrev pub HasNoLoopAt : System → ℕ → Type 0

@@ -2,7 +2,8 @@
 ghost use Rattle.std.specs.Prelude.{◌≡◌, ◌≢◌, ℕ, ◌+◌, ◌-◌, ◌*◌, ◌/◌, ◌^◌, ◌<◌, ◌≤◌, ◌↔◌, IfOk, IsTrue, length, map, slice_index, slice_index_or};
 ghost use Rattle.cp_lists.specs.Count.{count};
 ghost use Rattle.cp_faces.specs.Faces.{on_edges};
-ghost use Rattle.cp_rot.specs.Systems.{darts, edges, twin, vertex_of, list_of};
+ghost use Rattle.cp_rot.specs.Systems.{darts, edges, vertex_of, list_of};
+ghost use Rattle.cp_faces.specs.Twins.{twin};
 ghost use Rattle.cp_rot.specs.Rewrites.{values};
 ghost use Rattle.cp_rotlaw.specs.Systems.{is_other};
 ghost use Rattle.cp_rotlaw.specs.Glue.{edge_avoids};

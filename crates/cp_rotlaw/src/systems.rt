@@ -1,6 +1,6 @@
 // What several laws need of rotation systems.
 ghost use Rattle.std.specs.Prelude.{◌≡◌, ◌<◌, ◌^◌};
-ghost use Rattle.cp_rot.specs.Systems.{twin};
+ghost use Rattle.cp_faces.specs.Twins.{twin};
 
 // The other dart of the same edge.
 pub(crate) fn other_dart(d: usize) -> usize

@@ -1,7 +1,8 @@
 // Dipoles and gluing, on drawings with known results.
 ghost use Rattle.std.specs.Prelude.{◌≡◌, ◌≢◌, ℕ, ◌<◌, IfOk, IsTrue, length, map, reverse, slice_index};
 ghost use Rattle.cp_lists.specs.Turns.{IsTurn};
-ghost use Rattle.cp_rot.specs.Systems.{darts, twin, vertex_of, list_of};
+ghost use Rattle.cp_rot.specs.Systems.{darts, vertex_of, list_of};
+ghost use Rattle.cp_faces.specs.Twins.{twin};
 ghost use Rattle.cp_rot.specs.Genus.{HasGenusZero};
 ghost use Rattle.cp_rotlaw.specs.Glue.{ArePartners, AreReversed};
 

@@ -1,5 +1,5 @@
 use Rattle.std.proofs.Common.{true, slice_index_or}
-use Rattle.cp_rot.specs.Systems.{twin}
+use Rattle.cp_faces.specs.Twins.{twin}
 use Rattle.cp_rotlaw.proofs.GluedNumbers.{Written}
 use Rattle.cp_rotlaw.proofs.gluing_tables.write_partners.Given as goal
 

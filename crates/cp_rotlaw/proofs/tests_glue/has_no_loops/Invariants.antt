@@ -1,5 +1,6 @@
 use Rattle.std.proofs.Common.{◌≢◌, ℕ, ◌<◌}
-use Rattle.cp_rot.specs.Systems.{twin, vertex_of}
+use Rattle.cp_rot.specs.Systems.{vertex_of}
+use Rattle.cp_faces.specs.Twins.{twin}
 use Rattle.cp_rotlaw.proofs.tests_glue.has_no_loops.Given as goal
 
 abbrev pub invariant-loop-d : goal.invariant-loop-d

@@ -1,5 +1,5 @@
-use Rattle.std.proofs.Common.{length, arith}
-use Rattle.cp_lists.proofs.LeastItems.{LeastSoFar, least_place-LeastSoFar}
+use Rattle.std.proofs.Common.{arith}
+use Rattle.cp_lists.proofs.LeastItems.{least_place-LeastSoFar}
 use Rattle.cp_base.proofs.cyc_list.CycList.turn_to_least.Goals as goal
 
 pub rotate_left-requires : goal.rotate_left-requires

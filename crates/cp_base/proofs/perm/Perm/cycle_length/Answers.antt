@@ -1,7 +1,7 @@
 -- elsewhere the walk has made fewer steps than there are numbers
-use Rattle.std.proofs.Common.{◌≡◌, ◌<◌, ◌+◌, ℕ, List, length, slice_index, get_or, sym, ap, ◌∙◌, subst, rules, arith, add-one}
+use Rattle.std.proofs.Common.{◌≡◌, ◌<◌, ◌+◌, ℕ, List, length, slice_index, sym, ap, ◌∙◌, subst, rules, arith, add-one}
 use Rattle.cp_base.specs.Permutations.{IsPerm}
-use Rattle.cp_orbits.proofs.CycleLengths.{WalksCycle, WalksCycle-start, WalksCycle-more, WalksCycle-lt, WalksCycle-below}
+use Rattle.cp_orbits.proofs.CycleLengths.{WalksCycle, WalksCycle-more, WalksCycle-lt, WalksCycle-below}
 use Rattle.cp_base.proofs.perm.Perm.cycle_length.Goals as goal
 
 -- one step more
@@ -32,8 +32,8 @@ loop-at-preserved c =
     let perm : IsPerm c.args.self.now = subst IsPerm c.self.view_is c.self.invariant in
     let same : c.as_slice-to.result.now ≡ c.args.self.now = c.as_slice-to.ensures.value ∙ c.self.view_is in
     let on : WalksCycle (slice_index c.args.self.now) c.args.i (c.loop-at.length + 1) (slice_index c.as_slice-to.result.now c.loop-at.at) =
-        subst (λ xs. WalksCycle (slice_index c.args.self.now) c.args.i (c.loop-at.length + 1) (slice_index xs c.loop-at.at)) (sym same)
-        (step c.args.self.now perm c.args.i c.loop-at.length c.loop-at.at c.requires c.loop-at.invariant.walk c.loop-at-test.true)
+    subst (λ xs. WalksCycle (slice_index c.args.self.now) c.args.i (c.loop-at.length + 1) (slice_index xs c.loop-at.at)) (sym same)
+    (step c.args.self.now perm c.args.i c.loop-at.length c.loop-at.at c.requires c.loop-at.invariant.walk c.loop-at-test.true)
     in
     record {
       walk = on;
