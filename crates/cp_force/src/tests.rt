@@ -1,0 +1,1 @@
+// Trees read, copied and told.
