@@ -7,7 +7,7 @@ use std::alloc::Global;
 
 // An equal node. Linear in its size.
 #[cycle(copies)]
-fn copy_of_node(alloc: Global, node: &Node) -> Result<Node, Memory>
+pub(crate) fn copy_of_node(alloc: Global, node: &Node) -> Result<Node, Memory>
     ensures { IfOk result (λ copy. copy ≡ node.now) }
 {
     match node {

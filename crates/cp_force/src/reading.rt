@@ -26,7 +26,7 @@ fn place(count: usize, turned: bool, i: usize) -> usize
 
 // Appends the leaves of a node as the bits read it. Linear in its size.
 #[cycle(words)]
-fn push_word(node: &Node, bits: &[bool], word: &mut Vec<usize>) -> Result<(), Memory>
+pub(crate) fn push_word(node: &Node, bits: &[bool], word: &mut Vec<usize>) -> Result<(), Memory>
     ensures { OnOk result (word.new.items ≡ word.old.items ++ word_by bits.now node.now) }
 {
     match node {

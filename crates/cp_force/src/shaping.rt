@@ -8,7 +8,7 @@ use std::alloc::Global;
 
 // The node without its owners and vars. Linear in its size.
 #[cycle(shapes)]
-fn branch_of_node(alloc: Global, node: &Node) -> Result<Branch, Memory>
+pub(crate) fn branch_of_node(alloc: Global, node: &Node) -> Result<Branch, Memory>
     ensures { IfOk result (λ branch. branch ≡ branch_of node.now) }
 {
     match node {
