@@ -1,12 +1,12 @@
 -- Nodes layer by layer: folds, the variants told apart, and induction.
-use Rattle.std.proofs.Common.{◌≡◌, ℕ, Bool, true, false, ◌&&◌, List, [], ◌∷◌, ◌++◌, map, length, flat_map, reverse, refl, sym, ap, ap₂, ◌∙◌, subst, inl, inr, ◌⊎◌}
-use Rattle.std.specs.Prelude.{nat_lt, cond}
+use Rattle.std.proofs.Common.{◌≡◌, ℕ, Bool, ◌&&◌, List, [], ◌∷◌, ◌++◌, map, flat_map, reverse, refl, sym, ap, ◌∙◌, subst}
+use Rattle.std.specs.Prelude.{nat_lt}
 use Rattle.std.specs.List.{list_all, AllByRecursion}
 use Rattle.std.proofs.lemmas.List.{reverse-append}
 use Rattle.cp_pq.specs.declared.node.Node.{Node}
 use Rattle.cp_pq.specs.declared.node.Node.TheOpen.{Node-F}
 use Rattle.cp_pq.specs.declared.node.Node.TheViews.{roll-Node, out-Node, out-roll-Node}
-use Rattle.cp_pq.specs.declared.node.Node.TheFolds.{fold-Node, fold-roll-Node, map-Node, ind-Node}
+use Rattle.cp_pq.specs.declared.node.Node.TheFolds.{fold-roll-Node, map-Node, ind-Node}
 use Rattle.cp_pq.specs.declared.node.Node.TheVariants.{Leaf, P, Q, rolls-Leaf, rolls-P, rolls-Q}
 use Rattle.cp_pq.specs.Nodes.{has_vars_below, below_step}
 
@@ -27,9 +27,11 @@ node_induction M leaf p q = ind-Node M step
         → map-Node ((n : Node) × M n) Node (λ e. e.0) y ≡ x → M (roll-Node x)
     step x (Node-F.Leaf z) e = subst (λ w. M (roll-Node w)) e (subst M (sym (rolls-Leaf z)) (leaf z))
     step x (Node-F.P owner es) e =
-        subst (λ w. M (roll-Node w)) e (subst M (sym (rolls-P owner (map (λ e. e.0) es))) (p owner (map (λ e. e.0) es) (all_of M es)))
+        subst (λ w. M (roll-Node w)) e (subst M (sym (rolls-P owner (map (λ e. e.0) es)))
+        (p owner (map (λ e. e.0) es) (all_of M es)))
     step x (Node-F.Q var es) e =
-        subst (λ w. M (roll-Node w)) e (subst M (sym (rolls-Q var (map (λ e. e.0) es))) (q var (map (λ e. e.0) es) (all_of M es)))
+        subst (λ w. M (roll-Node w)) e (subst M (sym (rolls-Q var (map (λ e. e.0) es)))
+        (q var (map (λ e. e.0) es) (all_of M es)))
 
 -- all tests of the images are the test of all
 list_all-map : (f : Node → Bool) (kids : List Node) → list_all (λ (b : Bool). b) (map f kids) ≡ list_all f kids
@@ -37,7 +39,8 @@ list_all-map f [] = refl
 list_all-map f (k ∷ ks) = ap (λ b. f k && b) (list_all-map f ks)
 
 -- the vars of a P-node are those of its kids
-pub has_vars_below-P : (vars owner : ℕ) (kids : List Node) → has_vars_below vars (P owner kids) ≡ list_all (has_vars_below vars) kids
+pub has_vars_below-P : (vars owner : ℕ) (kids : List Node) → has_vars_below vars (P owner kids) ≡ list_all
+    (has_vars_below vars) kids
 unfolding has_vars_below
 has_vars_below-P vars owner kids =
     ap (has_vars_below vars) (sym (rolls-P owner kids))
@@ -49,10 +52,12 @@ pub has_vars_below-Q : (vars var : ℕ) (kids : List Node)
 unfolding has_vars_below
 has_vars_below-Q vars var kids =
     ap (has_vars_below vars) (sym (rolls-Q var kids))
-    ∙ fold-roll-Node Bool (below_step vars) (Node-F.Q var kids) ∙ ap (λ b. nat_lt var vars && b) (list_all-map (has_vars_below vars) kids)
+    ∙ fold-roll-Node Bool (below_step vars) (Node-F.Q var kids)
+    ∙ ap (λ b. nat_lt var vars && b) (list_all-map (has_vars_below vars) kids)
 
 -- lists one behind the other
-pub flat_map-map : {A B : Type 0} (f : A → List B) (xs : List A) → flat_map (λ (ys : List B). ys) (map f xs) ≡ flat_map f xs
+pub flat_map-map : {A B : Type 0} (f : A → List B) (xs : List A)
+    → flat_map (λ (ys : List B). ys) (map f xs) ≡ flat_map f xs
 flat_map-map f [] = refl
 flat_map-map f (x ∷ xs) = ap (λ ys. f x ++ ys) (flat_map-map f xs)
 
@@ -69,7 +74,8 @@ map-reverse f (x ∷ xs) =
     ∙ ap (λ zs. zs ++ f x ∷ []) (map-reverse f xs) ∙ sym (reverse-append (f x ∷ []) (map f xs))
 
 -- what holds of both parts holds of the whole
-pub all-append : {A : Type 0} (P : A → Type 0) (xs ys : List A) → AllByRecursion P xs → AllByRecursion P ys → AllByRecursion P (xs ++ ys)
+pub all-append : {A : Type 0} (P : A → Type 0) (xs ys : List A) → AllByRecursion P xs → AllByRecursion P ys
+    → AllByRecursion P (xs ++ ys)
 all-append P [] ys one two = two
 all-append P (x ∷ xs) ys one two = (one.0, all-append P xs ys one.1 two)
 
@@ -77,7 +83,8 @@ all-append P (x ∷ xs) ys one two = (one.0, all-append P xs ys one.1 two)
 pub all-reverse : {A : Type 0} (P : A → Type 0) (xs : List A) → AllByRecursion P xs → AllByRecursion P (reverse xs)
 all-reverse P [] all = all
 all-reverse P (x ∷ xs) all =
-    subst (AllByRecursion P) (sym (reverse-append (x ∷ []) xs)) (all-append P (reverse xs) (x ∷ []) (all-reverse P xs all.1) (all.0, tt))
+    subst (AllByRecursion P) (sym (reverse-append (x ∷ []) xs))
+    (all-append P (reverse xs) (x ∷ []) (all-reverse P xs all.1) (all.0, tt))
 
 -- the layer of a P-node
 out-P : (owner : ℕ) (kids : List Node) → out-Node (P owner kids) ≡ Node-F.P owner kids

@@ -16,7 +16,8 @@ branch_of-Leaf x = ap branch_of (sym (rolls-Leaf x)) ∙ fold-roll-Node Branch b
 -- the shape of a P-node
 pub branch_of-P : (owner : ℕ) (kids : List Node) → branch_of (P owner kids) ≡ branch.P (map branch_of kids)
 unfolding branch_of
-branch_of-P owner kids = ap branch_of (sym (rolls-P owner kids)) ∙ fold-roll-Node Branch branch_step (Node-F.P owner kids)
+branch_of-P owner kids = ap branch_of (sym (rolls-P owner kids))
+    ∙ fold-roll-Node Branch branch_step (Node-F.P owner kids)
 
 -- the shape of a Q-node
 pub branch_of-Q : (var : ℕ) (kids : List Node) → branch_of (Q var kids) ≡ branch.Q (map branch_of kids)

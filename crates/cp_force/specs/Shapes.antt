@@ -1,5 +1,4 @@
 -- Shapes of order trees: the trees without owners, vars and equations.
-use Rattle.std.specs.Prelude.{ℕ, List}
 use Rattle.cp_base.specs.declared.shape.Branch.{Branch}
 use Rattle.cp_base.specs.declared.shape.Branch.TheVariants as branch
 use Rattle.cp_base.specs.declared.shape.Shape.{Shape}

@@ -1,8 +1,6 @@
 -- One node more was read.
-use Rattle.std.proofs.Common.{◌≡◌, ℕ, ◌+◌, ◌<◌, Bool, true, false, List, [], ◌∷◌, ◌++◌, length, take, get_or, sym, ap, ap₂, ◌∙◌, subst, arith, append_assoc, append-nil, cond, ◌-◌}
-use Rattle.std.proofs.lemmas.List.{take_all, get_or_read}
+use Rattle.std.proofs.Common.{◌≡◌, ℕ, ◌+◌, ◌<◌, Bool, List, ◌++◌, length, take, get_or, sym, ap, ap₂, ◌∙◌, arith, append_assoc, append-nil, cond, ◌-◌}
 use Rattle.cp_pq.specs.declared.node.Node.{Node}
-use Rattle.cp_pq.specs.Bits.{bit_of}
 use Rattle.cp_force.specs.Words.{word_by, words_by, turned_row}
 use Rattle.cp_force.proofs.Words.{word_by-Leaf, word_by-P, word_by-Q, words_by-more, words_by-none, turned_at, length-turned}
 use Rattle.cp_force.proofs.reading.+words.Goals as goal
@@ -10,13 +8,15 @@ use Rattle.cp_force.proofs.reading.+words.Goals as goal
 pub push_word-returns-in_ok-push-in-Leaf : goal.push_word-returns-in_ok-push-in-Leaf
 push_word-returns-in_ok-push-in-Leaf t c =
     c.in_ok-push-in-Leaf.ensures.items
-    ∙ ap (λ xs. c.args.word.now.items ++ xs) (sym (ap (word_by c.args.bits.now) c.in-Leaf.is ∙ word_by-Leaf c.args.bits.now c.in-Leaf.x))
+    ∙ ap (λ xs. c.args.word.now.items ++ xs) (sym (ap (word_by c.args.bits.now) c.in-Leaf.is
+    ∙ word_by-Leaf c.args.bits.now c.in-Leaf.x))
 
 pub push_word-returns-in_ok-push_words-in-P : goal.push_word-returns-in_ok-push_words-in-P
 push_word-returns-in_ok-push_words-in-P t c =
     c.in_ok-push_words-in-P.ensures
     ∙ ap (λ xs. c.args.word.now.items ++ xs)
-    (ap (words_by c.args.bits.now) c.items.ensures ∙ sym (ap (word_by c.args.bits.now) c.in-P.is ∙ word_by-P c.args.bits.now c.in-P.owner c.in-P.kids))
+    (ap (words_by c.args.bits.now) c.items.ensures ∙ sym
+    (ap (word_by c.args.bits.now) c.in-P.is ∙ word_by-P c.args.bits.now c.in-P.owner c.in-P.kids))
 
 pub push_word-returns-in_ok-push_words-in-Q : goal.push_word-returns-in_ok-push_words-in-Q
 push_word-returns-in_ok-push_words-in-Q t c =
@@ -30,7 +30,8 @@ push_words-loop-i-init t c =
     sym (ap (λ xs. c.args.word.now.items ++ xs) (words_by-none c.args.bits.now) ∙ append-nil c.args.word.now.items)
 
 -- one node more, in the code's own terms
-one_more : (bits : List Bool) (nodes : List Node) (turned : Bool) (i place : ℕ) (node : Node) (start word longer : List ℕ)
+one_more : (bits : List Bool) (nodes : List Node) (turned : Bool) (i place : ℕ) (node : Node)
+    (start word longer : List ℕ)
     → i < length nodes → place ≡ cond turned (length nodes - 1 - i) i → node ≡ get_or nodes place node
     → word ≡ start ++ words_by bits (take i (turned_row turned nodes)) → longer ≡ word ++ word_by bits node
     → longer ≡ start ++ words_by bits (take (i + 1) (turned_row turned nodes))

@@ -1,6 +1,5 @@
 -- Each variant has its shape.
-use Rattle.std.proofs.Common.{◌≡◌, List, map, sym, ap, ◌∙◌}
-use Rattle.cp_base.specs.declared.shape.Branch.{Branch}
+use Rattle.std.proofs.Common.{map, sym, ap, ◌∙◌}
 use Rattle.cp_base.specs.declared.shape.Branch.TheVariants as branch
 use Rattle.cp_force.specs.Shapes.{branch_of}
 use Rattle.cp_force.proofs.Shapes.{branch_of-Leaf, branch_of-P, branch_of-Q}

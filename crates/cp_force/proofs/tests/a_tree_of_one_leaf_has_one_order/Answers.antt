@@ -2,7 +2,6 @@
 use Rattle.std.proofs.Common.{◌≡◌, ℕ, Bool, true, List, [], ◌∷◌, sym, ap, ◌∙◌, subst, arith}
 use Rattle.std.specs.List.{AllByRecursion}
 use Rattle.cp_lists.specs.CyclicLists.{Distinct}
-use Rattle.cp_base.specs.declared.equation.Equation.{Equation}
 use Rattle.cp_pq.specs.declared.node.Node.TheOpen.{Node-F}
 use Rattle.cp_pq.specs.declared.node.Node.TheFolds.{fold-roll-Node}
 use Rattle.cp_pq.specs.declared.node.Node.TheVariants.{Leaf, rolls-Leaf}
@@ -23,7 +22,8 @@ branching-Leaf x = ap is_branching (sym (rolls-Leaf x)) ∙ fold-roll-Node Bool 
 -- a leaf has no var
 below-Leaf : (vars x : ℕ) → has_vars_below vars (Leaf x) ≡ true
 unfolding has_vars_below
-below-Leaf vars x = ap (has_vars_below vars) (sym (rolls-Leaf x)) ∙ fold-roll-Node Bool (below_step vars) (Node-F.Leaf x)
+below-Leaf vars x = ap (has_vars_below vars) (sym (rolls-Leaf x))
+    ∙ fold-roll-Node Bool (below_step vars) (Node-F.Leaf x)
 
 -- two different leaves
 two : Distinct (0 ∷ 1 ∷ [])
