@@ -1,9 +1,18 @@
 //! Order trees: PQ-trees with a bit at each Q-node, equations over the bits and an owner at each P-node.
 #![tactic(auto)]
 
+mod change;
+mod close;
 mod fault;
+mod found;
+mod frame;
+mod kinds;
+mod lists;
 mod node;
 mod part;
+mod pour;
+mod row;
+mod step;
 mod tree;
 
 pub use fault::ReduceFault;
