@@ -27,3 +27,5 @@ mod RootLaws
 mod FilledChanges
 mod ConsecutiveWords
 mod GivenBits
+mod NodeReadings
+mod Reductions
