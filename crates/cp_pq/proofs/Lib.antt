@@ -29,3 +29,7 @@ mod ConsecutiveWords
 mod GivenBits
 mod NodeReadings
 mod Reductions
+mod LeafSets
+mod Stars
+mod ReducedTrees
+mod SetInTrees

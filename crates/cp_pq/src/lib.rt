@@ -11,11 +11,15 @@ mod lists;
 mod node;
 mod part;
 mod pour;
+mod reducing;
 mod row;
+mod star_tree;
 mod step;
 mod tree;
 
 pub use fault::ReduceFault;
 pub use node::{Node, Nodes};
 pub use part::Part;
+pub use reducing::reduce;
+pub use star_tree::star;
 pub use tree::Tree;
