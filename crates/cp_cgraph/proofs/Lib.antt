@@ -1,7 +1,6 @@
 -- for callers: facts about the definitions
 pub mod Crossing
 pub mod FaultLaw
-
 -- what the proofs of this crate rest on
 mod Ancestors
 mod Counted
