@@ -15,7 +15,7 @@ use Rattle.cp_border.specs.Good.{IsRightNode, IsRightCluster, IsArranged}
 Contains-prop : (xs : List ℕ) (x : ℕ) → EachOnce xs → IsProp (Contains xs x)
 Contains-prop xs x once a b =
     let place : a.0 ≡ b.0 =
-        once a.0 b.0 a.1 b.1 (get_or_default xs a.0 0 x a.1 ∙ a.2 ∙ sym (get_or_default xs b.0 0 x b.1 ∙ b.2)) in
+    once a.0 b.0 a.1 b.1 (get_or_default xs a.0 0 x a.1 ∙ a.2 ∙ sym (get_or_default xs b.0 0 x b.1 ∙ b.2)) in
     λ i. (
       place i,
       is_prop→PathP (λ j. place j < length xs) (λ j. le_prop) a.1 b.1 i,

@@ -56,14 +56,7 @@ impl<'a> Arranged<'a> {
 
     // Writes the border vertex of the edge at place `k` of the list of cluster `c`, whose border
     // edges have the darts from `start` on.
-    fn write_item(
-        &self,
-        c: usize,
-        k: usize,
-        start: usize,
-        next: &mut [usize],
-        begins: &mut [usize],
-    )
+    fn write_item(&self, c: usize, k: usize, start: usize, next: &mut [usize], begins: &mut [usize])
         requires inner { 0 < c }
         requires cluster { c < clusters self.now.graph.now }
         requires place { k < length (cluster_list self.now.layout.now c) }

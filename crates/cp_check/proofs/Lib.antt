@@ -1,5 +1,4 @@
 -- for callers: facts about the definitions
 pub mod Verdicts
-
 -- what the proofs of this crate rest on
 mod Counts
