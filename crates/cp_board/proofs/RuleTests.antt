@@ -17,7 +17,8 @@ use Rattle.cp_board.specs.Names.{has, rising}
 use Rattle.cp_conn.specs.NamedGraphs.{NamedGraph, pairs, far, edges_at}
 use Rattle.cp_board.specs.Instances.{Synchronized, IsSynchronized, AreNames, IsRightKind, HasRightEnds, HasRightPairs, vert_names, edge_names, pipe_names, cells, edges_of, graph, kind_of}
 use Rattle.cp_board.specs.Joins.{ArePartsAt, part_of}
-use Rattle.cp_board.proofs.Named.{arranged, All-from_test, rises, IsStrictlyIncreasing-from_test, Contains-from_has, distinct, Distinct-from_test, same, same_lists}
+use Rattle.cp_board.proofs.NamedLists.{arranged}
+use Rattle.cp_board.proofs.ListTests.{All-from_test, rises, IsStrictlyIncreasing-from_test, Contains-from_has, distinct, Distinct-from_test, same, same_lists}
 
 -- the test of the kind of a vertex
 abbrev pub right_kind : Synchronized → ℕ → Kind → Bool

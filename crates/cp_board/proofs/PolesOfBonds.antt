@@ -19,8 +19,8 @@ use Rattle.cp_orbits.specs.Orbits.{CycleLength}
 use Rattle.cp_board.specs.Effects.{After}
 use Rattle.cp_board.specs.Reasons.{IsBlamed}
 use Rattle.cp_board.specs.Rows.{vert, edge, pipe}
-use Rattle.cp_board.proofs.Named.{All-from_test, Contains-from_has}
-use Rattle.cp_board.proofs.Examples.{is_up_to, is_up_to_tells}
+use Rattle.cp_board.proofs.ListTests.{All-from_test, Contains-from_has}
+use Rattle.cp_board.proofs.WorkedRun.{is_up_to, is_up_to_tells}
 
 -- with the pipe 0
 abbrev bond : List (ℕ × ℕ) → Synchronized

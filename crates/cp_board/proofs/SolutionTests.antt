@@ -20,7 +20,8 @@ use Rattle.cp_board.specs.Solutions.{Solves, IsSolution, IsInDirection, IsMirror
 use Rattle.cp_board.specs.Rows.{edge, fixed, last}
 use Rattle.cp_board.specs.declared.parts.Kind.{Kind}
 use Rattle.cp_board.specs.declared.parts.Kind.TheVariants.{P, Q}
-use Rattle.cp_board.proofs.Named.{arranged, All-from_test, Contains-from_has, distinct, Distinct-from_test, same, same_lists}
+use Rattle.cp_board.proofs.NamedLists.{arranged}
+use Rattle.cp_board.proofs.ListTests.{All-from_test, Contains-from_has, distinct, Distinct-from_test, same, same_lists}
 
 -- what a test tells of each number below n
 pub below_from_test : (holds : ℕ → Type 0) (t : ℕ → Bool) → ((x : ℕ) → t x ≡ true → holds x) → (n : ℕ) → list_all t (range_with_len 0 n) ≡ true → (x : ℕ) → x < n → holds x

@@ -12,9 +12,9 @@ use Rattle.cp_board.specs.declared.steps.Step.TheVariants.{Propagate}
 use Rattle.cp_conn.specs.NamedGraphs.{NamedGraph, IsCut, pairs, edges_at, far}
 use Rattle.cp_board.specs.Instances.{graph}
 use Rattle.cp_board.specs.Runs.{IsDriven}
-use Rattle.cp_board.proofs.Named.{All-from_test}
-use Rattle.cp_board.proofs.Tests.{part_label}
-use Rattle.cp_board.proofs.Examples.{is_up_to, is_up_to_tells}
+use Rattle.cp_board.proofs.ListTests.{All-from_test}
+use Rattle.cp_board.proofs.RuleTests.{part_label}
+use Rattle.cp_board.proofs.WorkedRun.{is_up_to, is_up_to_tells}
 use Rattle.cp_board.proofs.Wheel.{wheel, wheel_pipe, row}
 
 -- what is contained behind a first item

@@ -1,20 +1,19 @@
 -- The instances of the rows keep the rules, and the steps lead from each to the next.
 use Rattle.std.proofs.Common.{◌≡◌, ◌⊎◌, ◌<◌, ◌≤◌, Bool, true, ◌&&◌, ◌||◌, eqb, ltb, leb, [], ◌∷◌, refl, inl, inr, ⊎_elim, arith}
 use Rattle.std.specs.List.{list_all}
-use Rattle.std.proofs.lemmas.Bool.{or_cases, and_parts, eqb-true, ltb-true, leb-true}
+use Rattle.std.proofs.lemmas.Bool.{or_cases, and_parts, eqb-true, ltb-true, leb-true, eqb-false}
 use Rattle.cp_board.specs.declared.parts.Pipe.{Pipe}
 use Rattle.cp_board.specs.Runs.{IsDriven, IsLegal, done, more}
 use Rattle.cp_conn.specs.NamedGraphs.{IsCut, pairs}
 use Rattle.cp_board.specs.Instances.{Synchronized, IsSynchronized, graph, pipe_named}
 use Rattle.cp_board.specs.Steps.{Allowed, degree}
 use Rattle.cp_board.specs.Effects.{After}
-use Rattle.cp_board.proofs.Named.{All-from_test}
 use Rattle.std.specs.Prelude.{Some}
-use Rattle.std.proofs.lemmas.Bool.{eqb-false}
 use Rattle.cp_conn.specs.CutVertex.{without_vertex}
 use Rattle.cp_board.specs.declared.steps.Step.TheVariants.{Small, Join}
 use Rattle.cp_board.specs.Rows as rows
-use Rattle.cp_board.proofs.Tests.{IsSynchronized-from_tests, ArePartsAt-from_tests, apart_from_test}
+use Rattle.cp_board.proofs.ListTests.{All-from_test}
+use Rattle.cp_board.proofs.RuleTests.{IsSynchronized-from_tests, ArePartsAt-from_tests, apart_from_test}
 
 -- q does not come before p where the pipe of greatest degree is sought
 abbrev pub is_up_to : Pipe → Pipe → Bool
