@@ -1,5 +1,7 @@
 pub mod NamedLists
 pub mod NewNames
+pub mod Rules
+pub mod FirstBroken
 pub mod EdgesOfVertices
 pub mod DroppedPipes
 pub mod ShapeEquations
