@@ -22,7 +22,8 @@ later : {A : Type 0} (y x : A) (ys : List A) → Contains ys x → Contains (y �
 later y x ys h = (suc h.0, omega (arith, h.1), h.2)
 
 -- a value of a list of values is that of an item
-Contains-map_back : {A B : Type 0} (f : A → B) (xs : List A) (y : B) → Contains (map f xs) y → (x : A) × Contains xs x × (f x ≡ y)
+Contains-map_back : {A B : Type 0} (f : A → B) (xs : List A) (y : B) → Contains (map f xs) y
+    → (x : A) × Contains xs x × (f x ≡ y)
 Contains-map_back f [] y c = absurd (omega (arith, c.1))
 Contains-map_back f (x ∷ xs) y c =
     ⊎_elim

@@ -16,14 +16,16 @@ use Rattle.cp_board.proofs.ListTests.{IsStrictlyIncreasing-from_test}
 use Rattle.cp_board.proofs.NamedLists.{rises_from, by_name_same, filter_true, rises-filter}
 
 -- what holds of the values holds of the items
-All-unmapped : {A B : Type 0} (holds : B → Type 0) (f : A → B) (xs : List A) → All holds (map f xs) → All (λ x. holds (f x)) xs
+All-unmapped : {A B : Type 0} (holds : B → Type 0) (f : A → B) (xs : List A) → All holds (map f xs)
+    → All (λ x. holds (f x)) xs
 All-unmapped holds f xs all k d lt = subst holds (get_or-map f xs k d (f d) lt) (all k (f d) (omega (arith, length-map xs f)))
 
 -- the ends of all pipes
 abbrev ends_of_all : List Pipe → List ℕ
 ends_of_all ps = flat_map (λ p. p.a ∷ p.b ∷ []) ps
 
-lacks-filter : (d : ℕ) (t : Pipe → Bool) (ps : List Pipe) → Lacks d (ends_of_all ps) → Lacks d (ends_of_all (filter t ps))
+lacks-filter : (d : ℕ) (t : Pipe → Bool) (ps : List Pipe) → Lacks d (ends_of_all ps)
+    → Lacks d (ends_of_all (filter t ps))
 lacks-filter d t [] h = h
 lacks-filter d t (p ∷ ps) h =
     cond_both (t p) (p ∷ filter t ps) (filter t ps) (λ qs. Lacks d (ends_of_all qs))
@@ -75,7 +77,8 @@ rewritten_dropping i pipe is =
     same_pipes = ap (by_name (λ p. p.name)) (append-nil (other_pipes i (pipe ∷ []))) ∙ by_name_same (λ p. p.name) (other_pipes i (pipe ∷ [])) (rises-filter (λ p. p.name) _ i.pipes (rises_from (pipe_names i) is.pipes_named.rise))
 
 -- dropping a live pipe fits an instance
-pub IsRewriteOf-dropping : (i : Synchronized) (pipe : ℕ) → IsSynchronized i → Contains (pipe_names i) pipe → IsRewriteOf i (dropping pipe)
+pub IsRewriteOf-dropping : (i : Synchronized) (pipe : ℕ) → IsSynchronized i → Contains (pipe_names i) pipe
+    → IsRewriteOf i (dropping pipe)
 IsRewriteOf-dropping i pipe is live = record {
   pipes_live = one_live;
   pipes_once = (tt, tt);
@@ -95,13 +98,15 @@ IsRewriteOf-dropping i pipe is live = record {
     one_live zero d lt = live
     one_live (suc k) d lt = absurd (omega arith)
 
-pub IsWithoutPipe-dropping : (i j : Synchronized) (pipe : ℕ) → IsSynchronized i → j ≡ rewritten (dropping pipe) i → IsWithoutPipe i pipe j
+pub IsWithoutPipe-dropping : (i j : Synchronized) (pipe : ℕ) → IsSynchronized i → j ≡ rewritten (dropping pipe) i
+    → IsWithoutPipe i pipe j
 IsWithoutPipe-dropping i j pipe is e =
     let same = e ∙ rewritten_dropping i pipe is in
     record { verts = ap (λ z. z.verts) same; edges = ap (λ z. z.edges) same; pipes = ap (λ z. z.pipes) same }
 
 -- a step that only drops a pipe keeps each solution
-pub Solves-without_pipe : (i j : Synchronized) (pipe : ℕ) (s : ℕ → List ℕ) → IsWithoutPipe i pipe j → Solves i s → Solves j s
+pub Solves-without_pipe : (i j : Synchronized) (pipe : ℕ) (s : ℕ → List ℕ) → IsWithoutPipe i pipe j → Solves i s
+    → Solves j s
 Solves-without_pipe i j pipe s w h = subst (λ z. Solves z s) (sym same) (record {
   rotation = h.rotation;
   mirrored = All-filter _ (λ q. IsMirror (second_of q) (s q.a) (s q.b)) i.pipes h.mirrored;

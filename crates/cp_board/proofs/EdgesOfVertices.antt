@@ -28,7 +28,8 @@ filter_agree p q (x ∷ xs) agree =
         or_true false = refl
 
 -- the names of the edges whose ends pass, by their rows
-pub names_passing : (t : ℕ × ℕ → Bool) (es : List EdgeRow) → distinct (map (λ e. e.name) es) ≡ true → filter (λ e. t (ends_in es e)) (map (λ e. e.name) es) ≡ map (λ e. e.name) (filter (λ e. t (e.a, e.b)) es)
+pub names_passing : (t : ℕ × ℕ → Bool) (es : List EdgeRow) → distinct (map (λ e. e.name) es) ≡ true
+    → filter (λ e. t (ends_in es e)) (map (λ e. e.name) es) ≡ map (λ e. e.name) (filter (λ e. t (e.a, e.b)) es)
 names_passing t [] d = refl
 names_passing t (x ∷ xs) d =
     let h = and_parts (not (has (map (λ e. e.name) xs) x.name)) (distinct (map (λ e. e.name) xs)) d in
@@ -48,7 +49,8 @@ names_passing t (x ∷ xs) d =
     apart : (e : ℕ) → has (map (λ e. e.name) xs) x.name ≡ false → has (map (λ e. e.name) xs) e ≡ true → x.name ≢ e
     apart e free member same = both_ways (has (map (λ e. e.name) xs) e) (subst (λ n. has (map (λ e. e.name) xs) n ≡ false) same free) member
 
-    map_cond : (b : Bool) (ys : List EdgeRow) → cond b (x.name ∷ map (λ e. e.name) ys) (map (λ e. e.name) ys) ≡ map (λ e. e.name) (cond b (x ∷ ys) ys)
+    map_cond : (b : Bool) (ys : List EdgeRow)
+        → cond b (x.name ∷ map (λ e. e.name) ys) (map (λ e. e.name) ys) ≡ map (λ e. e.name) (cond b (x ∷ ys) ys)
     map_cond true ys = refl
     map_cond false ys = refl
 
@@ -62,7 +64,8 @@ moved_row to e = record { name = e.name; a = to e.name e.a; b = to e.name e.b }
 abbrev pub touch : ℕ → EdgeRow → Bool
 touch v e = eqb e.a v || eqb e.b v
 
-filter_moved : (to : ℕ → ℕ → ℕ) (v : ℕ) → ((e x : ℕ) → eqb (to e x) v ≡ eqb x v) → (es : List EdgeRow) → filter (touch v) (map (moved_row to) es) ≡ map (moved_row to) (filter (touch v) es)
+filter_moved : (to : ℕ → ℕ → ℕ) (v : ℕ) → ((e x : ℕ) → eqb (to e x) v ≡ eqb x v) → (es : List EdgeRow)
+    → filter (touch v) (map (moved_row to) es) ≡ map (moved_row to) (filter (touch v) es)
 filter_moved to v stays [] = refl
 filter_moved to v stays (e ∷ es) =
     ap (λ b. cond (b || eqb (to e.name e.b) v) (moved_row to e ∷ filter (touch v) (map (moved_row to) es)) (filter (touch v) (map (moved_row to) es))) (stays e.name e.a)
@@ -79,7 +82,10 @@ names_moved to [] = refl
 names_moved to (e ∷ es) = ap (λ zs. e.name ∷ zs) (names_moved to es)
 
 -- a vertex at which no end moves, and at which no new edge ends, keeps its edges
-pub edges_of-kept : (i j : Synchronized) (to : ℕ → ℕ → ℕ) (more : List EdgeRow) (v : ℕ) → rises (edge_names i) ≡ true → distinct (map (λ e. e.name) (moved_edges i to ++ more)) ≡ true → j.edges ≡ edges_by_name (moved_edges i to ++ more) → ((e x : ℕ) → eqb (to e x) v ≡ eqb x v) → filter (touch v) more ≡ [] → edges_of j v ≡ edges_of i v
+pub edges_of-kept : (i j : Synchronized) (to : ℕ → ℕ → ℕ) (more : List EdgeRow) (v : ℕ) → rises (edge_names i) ≡ true
+    → distinct (map (λ e. e.name) (moved_edges i to ++ more)) ≡ true
+    → j.edges ≡ edges_by_name (moved_edges i to ++ more) → ((e x : ℕ) → eqb (to e x) v ≡ eqb x v)
+    → filter (touch v) more ≡ [] → edges_of j v ≡ edges_of i v
 edges_of-kept i j to more v up apart is stays none =
     ap (λ es. filter (λ e. passes (ends_in es e)) (map (λ e. e.name) es)) is
     ∙ names_passing passes (edges_by_name (moved_edges i to ++ more)) (distinct_from_rises (λ e. e.name) (edges_by_name (moved_edges i to ++ more)) (rises-by_name (λ e. e.name) (moved_edges i to ++ more) apart))

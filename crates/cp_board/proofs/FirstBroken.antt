@@ -19,7 +19,8 @@ kind_part : (f : ℕ → Part) (n k : ℕ) (d : Part) → k < n → slice_index_
 kind_part f n k d lt = get_or-map-range_with_len f 0 n k k d lt (omega arith)
 
 -- an item of the second list by its place in both
-second_part : (xs ys : List Part) (n k : ℕ) (d : Part) → length xs ≡ n → slice_index_or (xs ++ ys) (n + k) d ≡ slice_index_or ys k d
+second_part : (xs ys : List Part) (n k : ℕ) (d : Part) → length xs ≡ n
+    → slice_index_or (xs ++ ys) (n + k) d ≡ slice_index_or ys k d
 second_part xs ys n k d e = ap (λ m. slice_index_or (xs ++ ys) (m + k) d) (sym e) ∙ get_or-append-add xs ys k d
 
 module _ (i : Synchronized) where
@@ -58,7 +59,8 @@ module _ (i : Synchronized) where
       ∙ second_part vert_parts edge_parts (length i.verts) k d (length-kind_parts VertAt (length i.verts))
       ∙ kind_part EdgeAt (length i.edges) k d lt
 
-  part_pipe : (k : ℕ) (d : Part) → k < length i.pipes → slice_index_or (parts i) (length i.verts + length i.edges + k) d ≡ PipeAt k
+  part_pipe : (k : ℕ) (d : Part) → k < length i.pipes
+      → slice_index_or (parts i) (length i.verts + length i.edges + k) d ≡ PipeAt k
   part_pipe k d lt =
       second_part (vert_parts ++ edge_parts) pipe_parts (length i.verts + length i.edges) k d before_pipes
       ∙ kind_part PipeAt (length i.pipes) k d lt

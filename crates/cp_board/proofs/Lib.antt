@@ -1,5 +1,6 @@
 pub mod NamedLists
 pub mod NewNames
+pub mod NumberOfNewNames
 pub mod Rules
 pub mod FirstBroken
 pub mod EdgesOfVertices

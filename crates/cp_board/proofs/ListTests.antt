@@ -9,7 +9,8 @@ use Rattle.cp_lists.specs.CyclicLists.{Distinct, Lacks}
 use Rattle.cp_board.specs.Names.{has}
 
 -- what a test tells of each item
-pub All-from_test : {X : Type 0} (P : X → Type 0) (t : X → Bool) → ((x : X) → t x ≡ true → P x) → (xs : List X) → list_all t xs ≡ true → All P xs
+pub All-from_test : {X : Type 0} (P : X → Type 0) (t : X → Bool) → ((x : X) → t x ≡ true → P x) → (xs : List X)
+    → list_all t xs ≡ true → All P xs
 All-from_test P t tells xs e k d lt = tells _ (AllPass-from_list_all t xs e k d lt)
 
 -- each item is less than the next

@@ -6,12 +6,14 @@ use Rattle.cp_board.specs.Plantings.{Planted, Plants, PlantsAll}
 
 -- one vertex and one edge from above for each inner node
 mutual
-  pub planted_sizes : (f : ℕ → ℕ) (b : Branch) (top : ℕ) (vs es : List ℕ) (rows : List Planted) → Plants f b top vs es rows → (length vs ≡ length rows) × (length es ≡ length rows)
+  pub planted_sizes : (f : ℕ → ℕ) (b : Branch) (top : ℕ) (vs es : List ℕ) (rows : List Planted)
+      → Plants f b top vs es rows → (length vs ≡ length rows) × (length es ≡ length rows)
   planted_sizes f _ _ _ _ _ (Plants.leaf x) = (refl, refl)
   planted_sizes f _ _ _ _ _ (Plants.free kids top v tops vs es rows all) = let h = all_sizes f kids tops vs es rows all in (ap suc h.0, ap suc h.1)
   planted_sizes f _ _ _ _ _ (Plants.fixed kids top v tops vs es rows all) = let h = all_sizes f kids tops vs es rows all in (ap suc h.0, ap suc h.1)
 
-  all_sizes : (f : ℕ → ℕ) (ks : List Branch) (tops vs es : List ℕ) (rows : List Planted) → PlantsAll f ks tops vs es rows → (length vs ≡ length rows) × (length es ≡ length rows)
+  all_sizes : (f : ℕ → ℕ) (ks : List Branch) (tops vs es : List ℕ) (rows : List Planted)
+      → PlantsAll f ks tops vs es rows → (length vs ≡ length rows) × (length es ≡ length rows)
   all_sizes f _ _ _ _ _ PlantsAll.none = (refl, refl)
   all_sizes f _ _ _ _ _ (PlantsAll.more k ks top tops us vs ds es rows more_rows one rest) =
       let g = planted_sizes f k top us ds rows one in

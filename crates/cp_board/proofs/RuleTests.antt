@@ -132,7 +132,8 @@ are_parts g u parts =
     ∷ rises (map (λ part. slice_index part 0) parts)
     ∷ list_all (λ e. list_all (λ f. agree (eqb (part_of parts e) (part_of parts f)) (eqb (part_label g u e) (part_label g u f))) (edges_at g u)) (edges_at g u) ∷ []
 
-pub ArePartsAt-from_tests : (g : NamedGraph) (u : ℕ) (parts : List (List ℕ)) → list_all (λ b. b) (are_parts g u parts) ≡ true → ArePartsAt g u parts
+pub ArePartsAt-from_tests : (g : NamedGraph) (u : ℕ) (parts : List (List ℕ))
+    → list_all (λ b. b) (are_parts g u parts) ≡ true → ArePartsAt g u parts
 ArePartsAt-from_tests g u parts t =
     let t1 = and_parts _ _ t in
     let t2 = and_parts _ _ t1.1 in

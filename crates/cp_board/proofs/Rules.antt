@@ -27,7 +27,8 @@ All-second holds xs ys all k d lt =
     subst holds (get_or-append-add xs ys k d) (all (length xs + k) d (omega (arith, lt, length-append xs ys)))
 
 -- what holds of the values at all numbers below n holds of each
-All-at : {A : Type 0} (holds : A → Type 0) (f : ℕ → A) (n : ℕ) → All holds (map f (range_with_len 0 n)) → (k : ℕ) → k < n
+All-at : {A : Type 0} (holds : A → Type 0) (f : ℕ → A) (n : ℕ) → All holds (map f (range_with_len 0 n)) → (k : ℕ)
+    → k < n
     → holds (f k)
 All-at holds f n all k lt =
     subst holds (get_or-map-range_with_len f 0 n k k (f 0) lt (omega arith))
