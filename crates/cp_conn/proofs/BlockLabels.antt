@@ -39,7 +39,7 @@ abbrev pub meeting_pairs : List (ℕ × ℕ) → List (ℕ × ℕ)
 meeting_pairs es = filter (meet es) (number_pairs (length es) (length es))
 
 -- a number for the block of edge e: the least edge that is in one block with it
-pub block_of : List (ℕ × ℕ) → ℕ → ℕ
+unfoldable pub block_of : List (ℕ × ℕ) → ℕ → ℕ
 block_of es e = labels (meeting_pairs es) e
 
 -- each number below n is paired with e
