@@ -1,33 +1,16 @@
--- Lists in the order of names, and what tests on lists tell.
+-- What tests on lists tell: that items pass, that numbers rise or differ, that lists are equal.
 use Rattle.std.proofs.Common.{◌≡◌, ℕ, zero, suc, ◌+◌, ◌<◌, Bool, true, false, not, ◌&&◌, ◌||◌, eqb, ltb, List, [], ◌∷◌, length, sym, refl, ap, ◌∙◌, subst, ⊎_elim, arith}
 use Rattle.std.specs.Prelude.{slice_index}
 use Rattle.std.specs.List.{All, Contains, list_all}
-use Rattle.std.specs.List.Sorted.{IsPermutation, IsStrictlyIncreasing}
-use Rattle.std.proofs.lemmas.Bool.{false≢true, and_parts, or_cases, eqb-true, eqb-false, ltb-true, not-true, cond_both}
+use Rattle.std.specs.List.Sorted.{IsStrictlyIncreasing}
+use Rattle.std.proofs.lemmas.Bool.{false≢true, and_parts, or_cases, eqb-true, eqb-false, ltb-true, not-true}
 use Rattle.std.proofs.lemmas.List.Sums.{AllPass-from_list_all}
-use Rattle.std.proofs.lemmas.List.Sorted.{IsPermutation-refl, IsPermutation-sym, IsPermutation-trans, IsPermutation-cons, IsPermutation-middle}
 use Rattle.cp_lists.specs.CyclicLists.{Distinct, Lacks}
-use Rattle.cp_board.specs.Names.{has, put, by_name, rising}
-
--- an item is put in and nothing is lost
-pub put_keeps : {A : Type 0} (name : A → ℕ) (x : A) (ys : List A) → IsPermutation (x ∷ ys) (put name x ys)
-put_keeps name x [] = IsPermutation-refl (x ∷ [])
-put_keeps name x (y ∷ ys) =
-    cond_both (ltb (name x) (name y)) (x ∷ y ∷ ys) (y ∷ put name x ys) (IsPermutation (x ∷ y ∷ ys))
-    (λ e. IsPermutation-refl (x ∷ y ∷ ys))
-    (λ e. IsPermutation-trans (x ∷ y ∷ ys) (y ∷ x ∷ ys) (y ∷ put name x ys) (IsPermutation-middle (x ∷ []) y ys) (IsPermutation-cons y (x ∷ ys) (put name x ys) (put_keeps name x ys)))
-
--- the order of names keeps the items
-pub by_name_keeps : {A : Type 0} (name : A → ℕ) (xs : List A) → IsPermutation xs (by_name name xs)
-by_name_keeps name [] = IsPermutation-refl []
-by_name_keeps name (x ∷ xs) = IsPermutation-trans (x ∷ xs) (x ∷ by_name name xs) (put name x (by_name name xs)) (IsPermutation-cons x xs (by_name name xs) (by_name_keeps name xs)) (put_keeps name x (by_name name xs))
-
--- a list arranges what it is in rising order
-pub arranged : (xs ys : List ℕ) → rising ys ≡ xs → IsPermutation xs ys
-arranged xs ys e = subst (λ z. IsPermutation z ys) e (IsPermutation-sym ys (rising ys) (by_name_keeps (λ x. x) ys))
+use Rattle.cp_board.specs.Names.{has}
 
 -- what a test tells of each item
-pub All-from_test : {X : Type 0} (P : X → Type 0) (t : X → Bool) → ((x : X) → t x ≡ true → P x) → (xs : List X) → list_all t xs ≡ true → All P xs
+pub All-from_test : {X : Type 0} (P : X → Type 0) (t : X → Bool) → ((x : X) → t x ≡ true → P x) → (xs : List X)
+    → list_all t xs ≡ true → All P xs
 All-from_test P t tells xs e k d lt = tells _ (AllPass-from_list_all t xs e k d lt)
 
 -- each item is less than the next

@@ -12,9 +12,9 @@ use Rattle.cp_board.specs.declared.steps.Step.TheVariants.{Propagate}
 use Rattle.cp_conn.specs.NamedGraphs.{NamedGraph, IsCut, pairs, edges_at, far}
 use Rattle.cp_board.specs.Instances.{graph}
 use Rattle.cp_board.specs.Runs.{IsDriven}
-use Rattle.cp_board.proofs.Named.{All-from_test}
-use Rattle.cp_board.proofs.Tests.{part_label}
-use Rattle.cp_board.proofs.Examples.{is_up_to, is_up_to_tells}
+use Rattle.cp_board.proofs.ListTests.{All-from_test}
+use Rattle.cp_board.proofs.RuleTests.{part_label}
+use Rattle.cp_board.proofs.WorkedRun.{is_up_to, is_up_to_tells}
 use Rattle.cp_board.proofs.Wheel.{wheel, wheel_pipe, row}
 
 -- what is contained behind a first item
@@ -22,7 +22,8 @@ later : {A : Type 0} (y x : A) (ys : List A) → Contains ys x → Contains (y �
 later y x ys h = (suc h.0, omega (arith, h.1), h.2)
 
 -- a value of a list of values is that of an item
-Contains-map_back : {A B : Type 0} (f : A → B) (xs : List A) (y : B) → Contains (map f xs) y → (x : A) × Contains xs x × (f x ≡ y)
+Contains-map_back : {A B : Type 0} (f : A → B) (xs : List A) (y : B) → Contains (map f xs) y
+    → (x : A) × Contains xs x × (f x ≡ y)
 Contains-map_back f [] y c = absurd (omega (arith, c.1))
 Contains-map_back f (x ∷ xs) y c =
     ⊎_elim

@@ -19,8 +19,8 @@ use Rattle.cp_orbits.specs.Orbits.{CycleLength}
 use Rattle.cp_board.specs.Effects.{After}
 use Rattle.cp_board.specs.Reasons.{IsBlamed}
 use Rattle.cp_board.specs.Rows.{vert, edge, pipe}
-use Rattle.cp_board.proofs.Named.{All-from_test, Contains-from_has}
-use Rattle.cp_board.proofs.Examples.{is_up_to, is_up_to_tells}
+use Rattle.cp_board.proofs.ListTests.{All-from_test, Contains-from_has}
+use Rattle.cp_board.proofs.WorkedRun.{is_up_to, is_up_to_tells}
 
 -- with the pipe 0
 abbrev bond : List (ℕ × ℕ) → Synchronized
@@ -60,7 +60,8 @@ has_length_tells m k x t =
     }
 
 -- the pairs turn each edge into an edge of the same end
-turning : (i : Synchronized) (p : Pipe) → all_far (graph i) p.a p.b ≡ true → list_all (λ x. has (edges_of i p.a) (second_of p x)) (edges_of i p.a) ≡ true → IsTurning i p (second_of p)
+turning : (i : Synchronized) (p : Pipe) → all_far (graph i) p.a p.b ≡ true
+    → list_all (λ x. has (edges_of i p.a) (second_of p x)) (edges_of i p.a) ≡ true → IsTurning i p (second_of p)
 turning i p t h x c =
     let in_a = All-contains (λ x. Contains (edges_of i p.a) (second_of p x)) (edges_of i p.a) x (All-from_test (λ x. Contains (edges_of i p.a) (second_of p x)) (λ x. has (edges_of i p.a) (second_of p x)) (λ x e. Contains-from_has (edges_of i p.a) (second_of p x) e) (edges_of i p.a) h) c in
     (in_a, inl (far_is (graph i) p.a p.b t (second_of p x) in_a, refl))

@@ -20,10 +20,12 @@ use Rattle.cp_board.specs.Solutions.{Solves, IsSolution, IsInDirection, IsMirror
 use Rattle.cp_board.specs.Rows.{edge, fixed, last}
 use Rattle.cp_board.specs.declared.parts.Kind.{Kind}
 use Rattle.cp_board.specs.declared.parts.Kind.TheVariants.{P, Q}
-use Rattle.cp_board.proofs.Named.{arranged, All-from_test, Contains-from_has, distinct, Distinct-from_test, same, same_lists}
+use Rattle.cp_board.proofs.NamedLists.{arranged}
+use Rattle.cp_board.proofs.ListTests.{All-from_test, Contains-from_has, distinct, Distinct-from_test, same, same_lists}
 
 -- what a test tells of each number below n
-pub below_from_test : (holds : ℕ → Type 0) (t : ℕ → Bool) → ((x : ℕ) → t x ≡ true → holds x) → (n : ℕ) → list_all t (range_with_len 0 n) ≡ true → (x : ℕ) → x < n → holds x
+pub below_from_test : (holds : ℕ → Type 0) (t : ℕ → Bool) → ((x : ℕ) → t x ≡ true → holds x) → (n : ℕ)
+    → list_all t (range_with_len 0 n) ≡ true → (x : ℕ) → x < n → holds x
 below_from_test holds t tells n e x lt =
     subst holds (let at : get_or (range_with_len 0 n) x 0 ≡ x = omega (arith, get_or-range_with_len 0 n x 0 lt) in at)
     (All-from_test holds t tells (range_with_len 0 n) e x 0 (omega (arith, length-range_with_len 0 n)))
@@ -62,7 +64,8 @@ IsRotation-from_tests r t =
     }
 
 -- the lists arrange the edges of their vertices
-pub arranged_from_test : (g : NamedGraph) (s : ℕ → List ℕ) → list_all (λ v. same (rising (s v)) (edges_at g v)) g.verts ≡ true → All (λ v. ArrangesEdges g v (s v)) g.verts
+pub arranged_from_test : (g : NamedGraph) (s : ℕ → List ℕ)
+    → list_all (λ v. same (rising (s v)) (edges_at g v)) g.verts ≡ true → All (λ v. ArrangesEdges g v (s v)) g.verts
 arranged_from_test g s t = All-from_test (λ v. ArrangesEdges g v (s v)) (λ v. same (rising (s v)) (edges_at g v)) (λ v e. arranged (edges_at g v) (s v) (same_lists (rising (s v)) (edges_at g v) e)) g.verts t
 
 -- two vertices with three edges between them, in one cell, whose lists are reverse to each other
@@ -86,12 +89,16 @@ in_direction back xs (Q cell psi) = same xs (directed (back cell) psi)
 not_turned : (xs ys : List ℕ) → same ys xs ≡ true → IsTurn xs ys
 not_turned xs ys t = (0, omega arith, same_lists ys xs t ∙ sym (append-nil xs))
 
-in_direction_tells : (back : ℕ → Bool) (xs : List ℕ) (k : Kind) → in_direction back xs k ≡ true → IsInDirection back xs k
+in_direction_tells : (back : ℕ → Bool) (xs : List ℕ) (k : Kind) → in_direction back xs k ≡ true
+    → IsInDirection back xs k
 in_direction_tells back xs P t = tt
 in_direction_tells back xs (Q cell psi) t = not_turned (directed (back cell) psi) xs t
 
 -- lists that pass these tests solve an instance without pipes
-pub Solves-from_tests : (i : Synchronized) (s : ℕ → List ℕ) (back : ℕ → Bool) → i.pipes ≡ [] → list_all (λ v. same (rising (s v)) (edges_at (graph i) v)) (vert_names i) ≡ true → list_all (λ b. b) (is_rotation (system (graph i) s)) ≡ true → IsZero (system (graph i) s) → list_all (λ v. in_direction back (s v.name) v.kind) i.verts ≡ true → Solves i s
+pub Solves-from_tests : (i : Synchronized) (s : ℕ → List ℕ) (back : ℕ → Bool) → i.pipes ≡ []
+    → list_all (λ v. same (rising (s v)) (edges_at (graph i) v)) (vert_names i) ≡ true
+    → list_all (λ b. b) (is_rotation (system (graph i) s)) ≡ true → IsZero (system (graph i) s)
+    → list_all (λ v. in_direction back (s v.name) v.kind) i.verts ≡ true → Solves i s
 Solves-from_tests i s back no_pipe arr rot zero dir = record {
   rotation = record { arranged = arranged_from_test (graph i) s arr; flat = HasGenusZero-from (system (graph i) s) (IsRotation-from_tests (system (graph i) s) rot) zero };
   mirrored = subst (All (λ p. IsMirror (second_of p) (s p.a) (s p.b))) (sym no_pipe) (All-nil (λ p. IsMirror (second_of p) (s p.a) (s p.b)));

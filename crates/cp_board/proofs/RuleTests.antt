@@ -17,7 +17,8 @@ use Rattle.cp_board.specs.Names.{has, rising}
 use Rattle.cp_conn.specs.NamedGraphs.{NamedGraph, pairs, far, edges_at}
 use Rattle.cp_board.specs.Instances.{Synchronized, IsSynchronized, AreNames, IsRightKind, HasRightEnds, HasRightPairs, vert_names, edge_names, pipe_names, cells, edges_of, graph, kind_of}
 use Rattle.cp_board.specs.Joins.{ArePartsAt, part_of}
-use Rattle.cp_board.proofs.Named.{arranged, All-from_test, rises, IsStrictlyIncreasing-from_test, Contains-from_has, distinct, Distinct-from_test, same, same_lists}
+use Rattle.cp_board.proofs.NamedLists.{arranged}
+use Rattle.cp_board.proofs.ListTests.{All-from_test, rises, IsStrictlyIncreasing-from_test, Contains-from_has, distinct, Distinct-from_test, same, same_lists}
 
 -- the test of the kind of a vertex
 abbrev pub right_kind : Synchronized → ℕ → Kind → Bool
@@ -131,7 +132,8 @@ are_parts g u parts =
     ∷ rises (map (λ part. slice_index part 0) parts)
     ∷ list_all (λ e. list_all (λ f. agree (eqb (part_of parts e) (part_of parts f)) (eqb (part_label g u e) (part_label g u f))) (edges_at g u)) (edges_at g u) ∷ []
 
-pub ArePartsAt-from_tests : (g : NamedGraph) (u : ℕ) (parts : List (List ℕ)) → list_all (λ b. b) (are_parts g u parts) ≡ true → ArePartsAt g u parts
+pub ArePartsAt-from_tests : (g : NamedGraph) (u : ℕ) (parts : List (List ℕ))
+    → list_all (λ b. b) (are_parts g u parts) ≡ true → ArePartsAt g u parts
 ArePartsAt-from_tests g u parts t =
     let t1 = and_parts _ _ t in
     let t2 = and_parts _ _ t1.1 in

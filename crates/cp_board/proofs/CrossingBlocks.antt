@@ -8,7 +8,7 @@ use Rattle.cp_conn.specs.NamedGraphs.{pairs}
 use Rattle.cp_board.specs.Instances.{Synchronized, graph, IsSynchronized}
 use Rattle.cp_board.specs.Blocks.{HaveCrossing}
 use Rattle.cp_board.specs.Rows.{vert, edge, fixed}
-use Rattle.cp_board.proofs.Tests.{IsSynchronized-from_tests}
+use Rattle.cp_board.proofs.RuleTests.{IsSynchronized-from_tests}
 
 abbrev crossing : Synchronized
 crossing = record { verts = fixed 0 0 (0 ∷ 1 ∷ 2 ∷ 3 ∷ []) ∷ vert 1 ∷ vert 2 ∷ []; edges = edge 0 0 1 ∷ edge 1 0 2 ∷ edge 2 0 1 ∷ edge 3 0 2 ∷ []; pipes = [] }

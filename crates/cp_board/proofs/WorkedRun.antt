@@ -1,26 +1,26 @@
 -- The instances of the rows keep the rules, and the steps lead from each to the next.
 use Rattle.std.proofs.Common.{◌≡◌, ◌⊎◌, ◌<◌, ◌≤◌, Bool, true, ◌&&◌, ◌||◌, eqb, ltb, leb, [], ◌∷◌, refl, inl, inr, ⊎_elim, arith}
 use Rattle.std.specs.List.{list_all}
-use Rattle.std.proofs.lemmas.Bool.{or_cases, and_parts, eqb-true, ltb-true, leb-true}
+use Rattle.std.proofs.lemmas.Bool.{or_cases, and_parts, eqb-true, ltb-true, leb-true, eqb-false}
 use Rattle.cp_board.specs.declared.parts.Pipe.{Pipe}
 use Rattle.cp_board.specs.Runs.{IsDriven, IsLegal, done, more}
 use Rattle.cp_conn.specs.NamedGraphs.{IsCut, pairs}
 use Rattle.cp_board.specs.Instances.{Synchronized, IsSynchronized, graph, pipe_named}
 use Rattle.cp_board.specs.Steps.{Allowed, degree}
 use Rattle.cp_board.specs.Effects.{After}
-use Rattle.cp_board.proofs.Named.{All-from_test}
 use Rattle.std.specs.Prelude.{Some}
-use Rattle.std.proofs.lemmas.Bool.{eqb-false}
 use Rattle.cp_conn.specs.CutVertex.{without_vertex}
 use Rattle.cp_board.specs.declared.steps.Step.TheVariants.{Small, Join}
 use Rattle.cp_board.specs.Rows as rows
-use Rattle.cp_board.proofs.Tests.{IsSynchronized-from_tests, ArePartsAt-from_tests, apart_from_test}
+use Rattle.cp_board.proofs.ListTests.{All-from_test}
+use Rattle.cp_board.proofs.RuleTests.{IsSynchronized-from_tests, ArePartsAt-from_tests, apart_from_test}
 
 -- q does not come before p where the pipe of greatest degree is sought
 abbrev pub is_up_to : Pipe → Pipe → Bool
 is_up_to p q = ltb (degree q) (degree p) || (eqb (degree q) (degree p) && leb p.name q.name)
 
-pub is_up_to_tells : (p q : Pipe) → is_up_to p q ≡ true → (degree q < degree p) ⊎ ((degree q ≡ degree p) × (p.name ≤ q.name))
+pub is_up_to_tells : (p q : Pipe) → is_up_to p q ≡ true
+    → (degree q < degree p) ⊎ ((degree q ≡ degree p) × (p.name ≤ q.name))
 is_up_to_tells p q t =
     ⊎_elim (λ h. inl (ltb-true (degree q) (degree p) h)) (λ h. let k = and_parts (eqb (degree q) (degree p)) (leb p.name q.name) h in inr (eqb-true (degree q) (degree p) k.0, leb-true p.name q.name k.1)) (or_cases (ltb (degree q) (degree p)) (eqb (degree q) (degree p) && leb p.name q.name) t)
 
@@ -104,7 +104,8 @@ third_small = (rows.pipe_2, refl, record { verts = refl; edges = refl; pipes = r
 fourth_small : After rows.fourth (Small 4) rows.last
 fourth_small = (rows.pipe_4, refl, record { verts = refl; edges = refl; pipes = refl })
 
-small_driven : (i : Synchronized) (p : Pipe) → pipe_named i p.name ≡ Some p → degree p ≤ 3 → list_all (is_up_to p) i.pipes ≡ true → IsDriven i (Small p.name)
+small_driven : (i : Synchronized) (p : Pipe) → pipe_named i p.name ≡ Some p → degree p ≤ 3
+    → list_all (is_up_to p) i.pipes ≡ true → IsDriven i (Small p.name)
 small_driven i p live le t = (p, record { live = live; others = All-from_test _ (is_up_to p) (is_up_to_tells p) i.pipes t }, (refl, le))
 
 joined_driven : IsDriven rows.joined (Small 1)

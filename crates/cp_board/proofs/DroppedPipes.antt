@@ -1,8 +1,8 @@
--- Dropping a pipe keeps the five rules.
-use Rattle.std.proofs.Common.{◌≡◌, ℕ, zero, suc, ◌^◌, ◌<◌, Bool, true, not, ltb, List, [], ◌∷◌, ◌++◌, sym, refl, ap, ◌∙◌, subst, arith}
+-- Dropping a pipe keeps the five rules, and each solution.
+use Rattle.std.proofs.Common.{◌≡◌, ℕ, zero, suc, ◌^◌, ◌<◌, Bool, true, not, List, [], ◌∷◌, ◌++◌, sym, refl, ap, ◌∙◌, subst, arith}
 use Rattle.std.specs.Prelude.{filter, map}
-use Rattle.std.specs.List.{All, Contains, list_all, flat_map}
-use Rattle.std.proofs.lemmas.Bool.{cond_both, and_parts, and_from, lt-ltb, ltb-true}
+use Rattle.std.specs.List.{All, Contains, flat_map}
+use Rattle.std.proofs.lemmas.Bool.{cond_both}
 use Rattle.std.proofs.lemmas.List.{append-nil, map-id, length-map, get_or-map}
 use Rattle.std.proofs.lemmas.List.Elements.{All-filter, All-map, All-nil}
 use Rattle.cp_lists.specs.CyclicLists.{Distinct, Lacks}
@@ -11,63 +11,21 @@ use Rattle.cp_board.specs.Names.{has, by_name}
 use Rattle.cp_board.specs.Instances.{Synchronized, IsSynchronized, HasRightEnds, HasRightPairs, graph, vert_names, edge_names, pipe_names}
 use Rattle.cp_board.specs.Changes.{other_pipes, IsWithoutPipe}
 use Rattle.cp_board.specs.Rewrites.{rewritten, dropping, with_kinds, IsRewriteOf}
-use Rattle.cp_board.proofs.Named.{rises, IsStrictlyIncreasing-from_test}
-use Rattle.cp_board.proofs.Laws.{rises_from, by_name_same}
-
-pub filter_true : {A : Type 0} (xs : List A) → filter (λ (x : A). true) xs ≡ xs
-filter_true [] = refl
-filter_true (x ∷ xs) = ap (λ z. x ∷ z) (filter_true xs)
-
--- x is below each item
-abbrev pub under_all : {A : Type 0} → (A → ℕ) → ℕ → List A → Bool
-under_all name n xs = list_all (λ x. ltb n (name x)) xs
-
-pub under_all-lower : {A : Type 0} (name : A → ℕ) (n m : ℕ) → n < m → (xs : List A) → under_all name m xs ≡ true → under_all name n xs ≡ true
-under_all-lower name n m lt [] t = refl
-under_all-lower name n m lt (x ∷ xs) t =
-    let h = and_parts (ltb m (name x)) (under_all name m xs) t in
-    and_from (ltb n (name x)) (under_all name n xs) (lt-ltb n (name x) (omega (arith, ltb-true m (name x) h.0))) (under_all-lower name n m lt xs h.1)
-
-pub under_all-rises : {A : Type 0} (name : A → ℕ) (n : ℕ) (xs : List A) → rises (n ∷ map name xs) ≡ true → under_all name n xs ≡ true
-under_all-rises name n [] t = refl
-under_all-rises name n (x ∷ xs) t =
-    let h = and_parts (ltb n (name x)) (rises (name x ∷ map name xs)) t in
-    and_from (ltb n (name x)) (under_all name n xs) h.0 (under_all-lower name n (name x) (ltb-true n (name x) h.0) xs (under_all-rises name (name x) xs h.1))
-
-pub rises_after : {A : Type 0} (name : A → ℕ) (x : A) (xs : List A) → rises (map name (x ∷ xs)) ≡ true → rises (map name xs) ≡ true
-rises_after name x [] t = refl
-rises_after name x (y ∷ ys) t = (and_parts (ltb (name x) (name y)) (rises (map name (y ∷ ys))) t).1
-
-pub rises-under : {A : Type 0} (name : A → ℕ) (n : ℕ) (xs : List A) → under_all name n xs ≡ true → rises (map name xs) ≡ true → rises (n ∷ map name xs) ≡ true
-rises-under name n [] u t = refl
-rises-under name n (x ∷ xs) u t = and_from (ltb n (name x)) (rises (name x ∷ map name xs)) (and_parts (ltb n (name x)) (under_all name n xs) u).0 t
-
-pub under_all-filter : {A : Type 0} (name : A → ℕ) (n : ℕ) (p : A → Bool) (xs : List A) → under_all name n xs ≡ true → under_all name n (filter p xs) ≡ true
-under_all-filter name n p [] t = refl
-under_all-filter name n p (x ∷ xs) t =
-    let h = and_parts (ltb n (name x)) (under_all name n xs) t in
-    cond_both (p x) (x ∷ filter p xs) (filter p xs) (λ zs. under_all name n zs ≡ true)
-    (λ e. and_from (ltb n (name x)) (under_all name n (filter p xs)) h.0 (under_all-filter name n p xs h.1))
-    (λ e. under_all-filter name n p xs h.1)
-
--- names that rise still rise where some go
-pub rises-filter : {A : Type 0} (name : A → ℕ) (p : A → Bool) (xs : List A) → rises (map name xs) ≡ true → rises (map name (filter p xs)) ≡ true
-rises-filter name p [] t = refl
-rises-filter name p (x ∷ xs) t =
-    let after = rises-filter name p xs (rises_after name x xs t) in
-    cond_both (p x) (x ∷ filter p xs) (filter p xs) (λ zs. rises (map name zs) ≡ true)
-    (λ e. rises-under name (name x) (filter p xs) (under_all-filter name (name x) p xs (under_all-rises name (name x) xs t)) after)
-    (λ e. after)
+use Rattle.cp_board.specs.Solutions.{Solves, IsMirror, second_of}
+use Rattle.cp_board.proofs.ListTests.{IsStrictlyIncreasing-from_test}
+use Rattle.cp_board.proofs.NamedLists.{rises_from, by_name_same, filter_true, rises-filter}
 
 -- what holds of the values holds of the items
-All-unmapped : {A B : Type 0} (holds : B → Type 0) (f : A → B) (xs : List A) → All holds (map f xs) → All (λ x. holds (f x)) xs
+All-unmapped : {A B : Type 0} (holds : B → Type 0) (f : A → B) (xs : List A) → All holds (map f xs)
+    → All (λ x. holds (f x)) xs
 All-unmapped holds f xs all k d lt = subst holds (get_or-map f xs k d (f d) lt) (all k (f d) (omega (arith, length-map xs f)))
 
 -- the ends of all pipes
 abbrev ends_of_all : List Pipe → List ℕ
 ends_of_all ps = flat_map (λ p. p.a ∷ p.b ∷ []) ps
 
-lacks-filter : (d : ℕ) (t : Pipe → Bool) (ps : List Pipe) → Lacks d (ends_of_all ps) → Lacks d (ends_of_all (filter t ps))
+lacks-filter : (d : ℕ) (t : Pipe → Bool) (ps : List Pipe) → Lacks d (ends_of_all ps)
+    → Lacks d (ends_of_all (filter t ps))
 lacks-filter d t [] h = h
 lacks-filter d t (p ∷ ps) h =
     cond_both (t p) (p ∷ filter t ps) (filter t ps) (λ qs. Lacks d (ends_of_all qs))
@@ -119,7 +77,8 @@ rewritten_dropping i pipe is =
     same_pipes = ap (by_name (λ p. p.name)) (append-nil (other_pipes i (pipe ∷ []))) ∙ by_name_same (λ p. p.name) (other_pipes i (pipe ∷ [])) (rises-filter (λ p. p.name) _ i.pipes (rises_from (pipe_names i) is.pipes_named.rise))
 
 -- dropping a live pipe fits an instance
-pub IsRewriteOf-dropping : (i : Synchronized) (pipe : ℕ) → IsSynchronized i → Contains (pipe_names i) pipe → IsRewriteOf i (dropping pipe)
+pub IsRewriteOf-dropping : (i : Synchronized) (pipe : ℕ) → IsSynchronized i → Contains (pipe_names i) pipe
+    → IsRewriteOf i (dropping pipe)
 IsRewriteOf-dropping i pipe is live = record {
   pipes_live = one_live;
   pipes_once = (tt, tt);
@@ -139,7 +98,21 @@ IsRewriteOf-dropping i pipe is live = record {
     one_live zero d lt = live
     one_live (suc k) d lt = absurd (omega arith)
 
-pub IsWithoutPipe-dropping : (i j : Synchronized) (pipe : ℕ) → IsSynchronized i → j ≡ rewritten (dropping pipe) i → IsWithoutPipe i pipe j
+pub IsWithoutPipe-dropping : (i j : Synchronized) (pipe : ℕ) → IsSynchronized i → j ≡ rewritten (dropping pipe) i
+    → IsWithoutPipe i pipe j
 IsWithoutPipe-dropping i j pipe is e =
     let same = e ∙ rewritten_dropping i pipe is in
     record { verts = ap (λ z. z.verts) same; edges = ap (λ z. z.edges) same; pipes = ap (λ z. z.pipes) same }
+
+-- a step that only drops a pipe keeps each solution
+pub Solves-without_pipe : (i j : Synchronized) (pipe : ℕ) (s : ℕ → List ℕ) → IsWithoutPipe i pipe j → Solves i s
+    → Solves j s
+Solves-without_pipe i j pipe s w h = subst (λ z. Solves z s) (sym same) (record {
+  rotation = h.rotation;
+  mirrored = All-filter _ (λ q. IsMirror (second_of q) (s q.a) (s q.b)) i.pipes h.mirrored;
+  back = h.back;
+  in_direction = h.in_direction;
+})
+  where
+    same : j ≡ record { verts = i.verts; edges = i.edges; pipes = other_pipes i (pipe ∷ []) }
+    same = ap (λ z. record { verts = z; edges = j.edges; pipes = j.pipes }) w.verts ∙ ap (λ z. record { verts = i.verts; edges = z; pipes = j.pipes }) w.edges ∙ ap (λ z. record { verts = i.verts; edges = i.edges; pipes = z }) w.pipes
