@@ -9,7 +9,7 @@ use Rattle.graph_parts.specs.declared.end.End.{End}
 -- nothing is told with an end that all commands share
 pub own_told : (a : Asked) (bytes : List ℕ) (end : End) (text : List ℕ) → Told a bytes end text → commands.IsOwn shared_ends end
 own_told a bytes end text (refused kind at is) = record { usage = λ e. cc; too_long = λ e. cc; read = λ e. cc; write = λ e. cc; memory = λ e. cc }
-own_told a bytes end text (unfit g is no) = record { usage = λ e. cc; too_long = λ e. cc; read = λ e. cc; write = λ e. cc; memory = λ e. cc }
+own_told a bytes end text (unfit g is unfitting) = record { usage = λ e. cc; too_long = λ e. cc; read = λ e. cc; write = λ e. cc; memory = λ e. cc }
 own_told a bytes end text (done g is fits numbers are) = record { usage = λ e. cc; too_long = λ e. cc; read = λ e. cc; write = λ e. cc; memory = λ e. cc }
 
 -- the ends that all commands share differ
