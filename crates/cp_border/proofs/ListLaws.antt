@@ -1,20 +1,18 @@
 -- The items of the lists of a layout, and where the darts of the borders begin.
-use Rattle.std.proofs.Common.{◌≡◌, ℕ, suc, ◌+◌, ◌-◌, ◌*◌, ◌/◌, ◌^◌, ◌<◌, ◌≤◌, List, [], ◌∷◌, ◌++◌, take, length, map, set, slice_index, get_or, sym, refl, ap, ap₂, ◌∙◌, subst, ⊎_elim, arith, length-append}
+use Rattle.std.proofs.Common.{◌≡◌, ℕ, suc, ◌+◌, ◌-◌, ◌*◌, ◌^◌, ◌<◌, ◌≤◌, List, [], ◌∷◌, ◌++◌, take, length, slice_index, sym, refl, ap, ◌∙◌, subst, arith}
 use Rattle.std.specs.Prelude.{◌==◌}
-use Rattle.std.specs.List.{flat_map, position_or_len, range_with_len}
-use Rattle.std.proofs.lemmas.Bool.{cases_eq}
-use Rattle.std.proofs.lemmas.List.{get_or-set_same, get_or-set_other, get_or-append-add, ext_get_or, length-map}
+use Rattle.std.specs.List.{position_or_len}
 use Rattle.cp_cgraph.specs.Clustered.{Clustered, IsClustered, nodes, edges, clusters}
 use Rattle.cp_cgraph.specs.Crossings.{crossings}
 use Rattle.cp_cgraph.specs.declared.layout.Layout.{Layout}
-use Rattle.cp_rot.specs.Systems.{System, list_of}
-use Rattle.cp_border.specs.Borders.{borders, before, node_list, cluster_list, crossed, end_dart, first_border, first_border_edge, border_vertex}
+use Rattle.cp_rot.specs.Systems.{list_of}
+use Rattle.cp_border.specs.Borders.{borders, before, node_list, cluster_list, crossed, first_border, first_border_edge}
 use Rattle.cp_border.specs.Good.{IsArranged}
 use Rattle.cp_border.specs.Tables.{list_at, border_at}
-use Rattle.cp_border.proofs.Numbering.{Place, located, before-le}
+use Rattle.cp_border.proofs.Numbering.{before-le}
 use Rattle.cp_border.proofs.Darts.{border_length}
-use Rattle.cp_border.proofs.Rotation.{IsCrossing, crossing_at, crossing_of, item_at, item_of, length-node_lists, length-border_lists, list_of_border, edge_lists}
-use Rattle.cp_border.proofs.RotationLaw.{begin_dart-lt, border_vertex-lt, border_edges-vertices, IsRotation-borders}
+use Rattle.cp_border.proofs.Rotation.{crossing_of, item_at, list_of_border}
+use Rattle.cp_border.proofs.RotationLaw.{begin_dart-lt, border_vertex-lt, border_edges-vertices}
 
 -- the border vertex of an item is one, and the list there is that of the vertex
 pub border_at-lt : (g : Clustered) (l : Layout) → IsClustered g → IsArranged g l → (c k : ℕ) → 0 < c → c < clusters g →

@@ -1,15 +1,12 @@
 -- How large the counts of a border graph are, and what they tell of a layout.
-use Rattle.std.proofs.Common.{◌≡◌, ℕ, List, sym, ◌+◌, ◌*◌, ◌/◌, ◌^◌, ◌<◌, Option, None, Some, MatchOption, subst, Fits as FitsIn, w64, arith}
-use Rattle.cp_cgraph.specs.Clustered.{Clustered, IsClustered}
+use Rattle.std.proofs.Common.{◌≡◌, ℕ, ◌+◌, ◌*◌, ◌/◌, ◌^◌, ◌<◌, Option, None, Some, MatchOption, subst, Fits as FitsIn, w64, arith}
+use Rattle.cp_cgraph.specs.Clustered.{Clustered}
 use Rattle.cp_cgraph.specs.declared.layout.Layout.{Layout}
 use Rattle.cp_rot.specs.Systems.{System, darts}
 use Rattle.cp_rot.specs.Genus.{FaceCount, ComponentCount, HasGenusZero}
 use Rattle.cp_rot.proofs.Euler.{FaceCount-le, ComponentCount-le}
 use Rattle.cp_border.specs.Borders.{borders}
 use Rattle.cp_border.specs.Good.{IsArranged, IsGood}
-use Rattle.cp_border.specs.Tables.{Tables, HasPlaces, HasPlacesFor}
-use Rattle.cp_border.proofs.RotationLaw.{length-borders_at-graph}
-use Rattle.cp_check.specs.Sizes.{Sizes, Fits, dart_number}
 use Rattle.cp_check.specs.Judging.{HasWrongGenus, IsGenusReason, IsLayoutReason}
 use Rattle.cp_check.specs.declared.verdict.Reject.{Reject}
 use Rattle.cp_check.specs.declared.verdict.Reject.TheVariants.{NoLayout, NodeLine, ClusterLine, Genus}
