@@ -1,6 +1,5 @@
 -- what contracts rest on
 pub mod Shapes
 pub mod Owners
-pub mod Faults
 -- what functions inside promise each other
 pub mod Words

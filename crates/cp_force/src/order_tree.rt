@@ -15,8 +15,9 @@ pub trait OrderTree: Sized {
     ghost use Rattle.cp_pq.specs.Nodes.{leaves};
     ghost use Rattle.cp_pq.specs.Orders.{IsConsecutive};
     ghost use Rattle.cp_pq.specs.Trees.{PQTree, IsWellFormed, IsPair, Admits};
-    ghost use Rattle.cp_pq.specs.Promises.{IsLeafSet, IsStar, IsReduced, IsReplaced, IsForced, IsFreshNode};
-    ghost use Rattle.cp_force.specs.Faults.{NeverConsecutive, NeverInRow};
+    ghost use Rattle.cp_pq.specs.Promises.{IsLeafSet, IsStar, IsReduced, IsNeverConsecutive, IsReplaced, IsForced, IsNeverInRow, IsFreshNode};
+    ghost use Rattle.cp_pq.specs.declared.fault.ReduceFault.TheVariants.{NotConsecutive};
+    ghost use Rattle.cp_force.specs.declared.fault.ForceFault.TheVariants.{NotOrderable};
     ghost use Rattle.cp_force.specs.Owners.{IsSoleP};
     ghost use Rattle.cp_force.specs.Shapes.{shape_of_tree};
 
@@ -40,7 +41,7 @@ pub trait OrderTree: Sized {
         requires { IsLeafSet set.now (tree self) }
         ensures reduced { IfOk result (λ new. IsReduced set.now (tree self) (tree new)) }
         ensures well_formed { IfOk result (λ new. IsWellFormed (tree new)) }
-        ensures refused { IfErr result (NeverConsecutive set.now (tree self)) };
+        ensures refused { IfErr result (λ fault. fault ≡ NotConsecutive → IsNeverConsecutive set.now (tree self)) };
 
     /// The tree with the part that holds the set replaced by the node, and this part.
     fn replace(self, alloc: Global, set: &[usize], new: Node) -> Result<(Self, Part), Memory>
@@ -59,7 +60,7 @@ pub trait OrderTree: Sized {
         requires var_within { var < (tree self).vars }
         ensures forced { IfOk result (λ new. IsForced order.now var (tree self) (tree new)) }
         ensures well_formed { IfOk result (λ new. IsWellFormed (tree new)) }
-        ensures refused { IfErr result (NeverInRow order.now (tree self)) };
+        ensures refused { IfErr result (λ fault. fault ≡ NotOrderable → IsNeverInRow order.now (tree self)) };
 
     /// The root, the P-nodes and the Q-nodes, without owners and vars.
     fn shape(&self, alloc: Global) -> Result<Shape, Memory>

@@ -3,8 +3,8 @@ use crate::copying::copy_of_node;
 use crate::reading::push_word;
 use crate::shaping::branch_of_node;
 use crate::{copy_of, order_of, owner_of, shape_of};
-use cp_base::{Branch, Equations, Items, Memory};
-use cp_pq::{Node, Nodes, Tree};
+use cp_base::{Branch, Items, Memory};
+use cp_pq::{Node, Nodes, star};
 use std::alloc::Global;
 use std::test::Fail;
 
@@ -46,15 +46,14 @@ fn a_shape_has_the_nodes(rt: HostRuntime) -> Result<(), Fail> {
 }
 
 #[test]
-fn a_tree_of_one_leaf_has_one_order(rt: HostRuntime) -> Result<(), Fail> {
-    let tree = Tree::from_parts(0, Node::Leaf(1), 2, Equations::new(rt.alloc()));
+fn a_star_has_its_owner_and_an_order(rt: HostRuntime) -> Result<(), Fail> {
+    let tree = star(rt.alloc(), 0, &[1, 2, 3, 4], 7, 1)?;
     let copy = copy_of(rt.alloc(), &tree)?;
-    assert_eq!(rt; copy.vars(), 2);
-    let order = order_of(rt.alloc(), &copy, &[true, false])?;
-    assert_eq!(rt; order.items(), [0usize, 1].as_slice());
+    assert_eq!(rt; owner_of(&copy), Some(7));
+    let order = order_of(rt.alloc(), &tree, &[true])?;
+    assert_eq!(rt; order.items(), [0usize, 1, 2, 3, 4].as_slice());
     let shape = shape_of(rt.alloc(), &tree)?;
     assert_eq!(rt; shape.root, 0);
-    assert!(rt; matches!(shape.body, Branch::Leaf(1)));
-    assert_eq!(rt; owner_of(&tree), None);
+    assert!(rt; matches!(shape.body, Branch::P(_)));
     Ok(())
 }
