@@ -19,12 +19,12 @@ pub lacks_outside : (set : List ℕ) (x : ℕ) → Lacks x set → outside set x
 lacks_outside set x l = ⊎_elim (λ i. absurd (has_lacks x set (inside_of set x i) l)) (λ o. ap (λ b. not b) o) (cases_Bool (inside set x))
 
 -- the items behind the first of a rising list are greater
-rest_rises : (y : ℕ) (ys : List ℕ) → IsStrictlyIncreasing (y ∷ ys) → IsStrictlyIncreasing ys
+pub rest_rises : (y : ℕ) (ys : List ℕ) → IsStrictlyIncreasing (y ∷ ys) → IsStrictlyIncreasing ys
 rest_rises y ys h k lt =
     let e : suc k + 1 ≡ suc (k + 1) = omega arith in
     subst (λ z. slice_index (y ∷ ys) (suc k) < slice_index (y ∷ ys) z) e (h (suc k) (omega (arith, lt)))
 
-greater : (y : ℕ) (ys : List ℕ) → IsStrictlyIncreasing (y ∷ ys) → (x : ℕ) → Has x ys → y < x
+pub greater : (y : ℕ) (ys : List ℕ) → IsStrictlyIncreasing (y ∷ ys) → (x : ℕ) → Has x ys → y < x
 greater y [] h x m = absurd m
 greater y (z ∷ zs) h x m =
     let first : y < z = h 0 (omega arith) in

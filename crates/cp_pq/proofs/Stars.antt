@@ -35,7 +35,7 @@ row_reads : (may : ℕ → Bool → Bool) (xs : List ℕ) → ReadsAll may (map 
 row_reads may [] = none
 row_reads may (x ∷ xs) = more (Leaf x) (map Leaf xs) (x ∷ []) xs (leaf x) (row_reads may xs)
 
-star_leaves : (owner : ℕ) (xs : List ℕ) → leaves (star_body owner xs) ≡ xs
+pub star_leaves : (owner : ℕ) (xs : List ℕ) → leaves (star_body owner xs) ≡ xs
 star_leaves owner [] = leaves_P owner [] ∙ all_leaves_nil
 star_leaves owner (x ∷ []) = leaves_Leaf x
 star_leaves owner (x ∷ y ∷ xs) = leaves_P owner (map Leaf (x ∷ y ∷ xs)) ∙ leaves_row (x ∷ y ∷ xs)
