@@ -11,7 +11,8 @@ use Rattle.cp_pq.specs.Orders.{inside}
 use Rattle.cp_pq.proofs.LeafSets.{inside_of, greater, rest_rises}
 
 -- the items of a rising list do not fall
-pub not_falling : (xs : List ℕ) → IsStrictlyIncreasing xs → (i j : ℕ) → i ≤ j → j < length xs → get_or xs i 0 ≤ get_or xs j 0
+pub not_falling : (xs : List ℕ) → IsStrictlyIncreasing xs → (i j : ℕ) → i ≤ j → j < length xs
+    → get_or xs i 0 ≤ get_or xs j 0
 not_falling [] h i j le lt = absurd (omega (arith, lt))
 not_falling (x ∷ xs) h zero zero le lt = omega arith
 not_falling (x ∷ xs) h zero (suc j) le lt =
