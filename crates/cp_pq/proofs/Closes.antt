@@ -32,7 +32,8 @@ module _ (f g : Node → Bool) where
   abbrev pub mixed_of : Node → Bool
   mixed_of k = not (f k) && not (g k)
 
-  pub sort_kinds : (ks : List Node) → list_all clear_of ks ≡ true → IsPermutation ks (filter f ks ++ (filter mixed_of ks ++ filter g ks))
+  pub sort_kinds : (ks : List Node) → list_all clear_of ks ≡ true
+      → IsPermutation ks (filter f ks ++ (filter mixed_of ks ++ filter g ks))
   sort_kinds [] h = IsPermutation-refl []
   sort_kinds (k ∷ ks) h = go (f k) (g k) (and_parts _ _ h).0 (sort_kinds ks (and_parts _ _ h).1)
     where
@@ -48,7 +49,9 @@ module _ (f g : Node → Bool) where
   all_first [] = λ a b. refl
   all_first (k ∷ ks) = go (f k) (g k) (all_first ks)
     where
-      go : (x y : Bool) → (filter g ks ≡ [] → filter mixed_of ks ≡ [] → list_all f ks ≡ true) → cond y (k ∷ filter g ks) (filter g ks) ≡ [] → cond (not x && not y) (k ∷ filter mixed_of ks) (filter mixed_of ks) ≡ [] → (x && list_all f ks) ≡ true
+      go : (x y : Bool) → (filter g ks ≡ [] → filter mixed_of ks ≡ [] → list_all f ks ≡ true)
+          → cond y (k ∷ filter g ks) (filter g ks) ≡ []
+          → cond (not x && not y) (k ∷ filter mixed_of ks) (filter mixed_of ks) ≡ [] → (x && list_all f ks) ≡ true
       go true true ih a b = absurd cc
       go true false ih a b = ih a b
       go false true ih a b = absurd cc
@@ -58,12 +61,15 @@ module _ (f g : Node → Bool) where
   all_second [] = λ a b. refl
   all_second (k ∷ ks) = go (f k) (g k) (all_second ks)
     where
-      go : (x y : Bool) → (filter f ks ≡ [] → filter mixed_of ks ≡ [] → list_all g ks ≡ true) → cond x (k ∷ filter f ks) (filter f ks) ≡ [] → cond (not x && not y) (k ∷ filter mixed_of ks) (filter mixed_of ks) ≡ [] → (y && list_all g ks) ≡ true
+      go : (x y : Bool) → (filter f ks ≡ [] → filter mixed_of ks ≡ [] → list_all g ks ≡ true)
+          → cond x (k ∷ filter f ks) (filter f ks) ≡ []
+          → cond (not x && not y) (k ∷ filter mixed_of ks) (filter mixed_of ks) ≡ [] → (y && list_all g ks) ≡ true
       go true y ih a b = absurd cc
       go false true ih a b = ih a b
       go false false ih a b = absurd cc
 
-  pub none_second : (ks : List Node) → list_all clear_of ks ≡ true → list_all f ks ≡ true → (filter g ks ≡ []) × (filter mixed_of ks ≡ [])
+  pub none_second : (ks : List Node) → list_all clear_of ks ≡ true → list_all f ks ≡ true
+      → (filter g ks ≡ []) × (filter mixed_of ks ≡ [])
   none_second ks c h = (filter_none g ks (all_weaker clear_of f _ (λ k x y. second _ _ x y) ks c h), filter_none mixed_of ks (all_weaker f f _ (λ k x y. mix _ _ x) ks h h))
     where
       second : (x y : Bool) → not (x && y) ≡ true → x ≡ true → not y ≡ true
@@ -74,7 +80,8 @@ module _ (f g : Node → Bool) where
       mix true y a = refl
       mix false y a = absurd (false≢true a)
 
-  pub none_first : (ks : List Node) → list_all clear_of ks ≡ true → list_all g ks ≡ true → (filter f ks ≡ []) × (filter mixed_of ks ≡ [])
+  pub none_first : (ks : List Node) → list_all clear_of ks ≡ true → list_all g ks ≡ true
+      → (filter f ks ≡ []) × (filter mixed_of ks ≡ [])
   none_first ks c h = (filter_none f ks (all_weaker clear_of g _ (λ k x y. first _ _ x y) ks c h), filter_none mixed_of ks (all_weaker g g _ (λ k x y. mix _ _ x) ks h h))
     where
       first : (x y : Bool) → not (x && y) ≡ true → y ≡ true → not x ≡ true
@@ -102,7 +109,8 @@ zip_nil q p [] z = refl
 zip_nil q p (k ∷ ks) z = absurd z
 
 -- what is said of the one item of a row
-zip_one : (q p : ℕ → Bool) (ks : List Node) (f : Found) → AllZip (IsGiven q p) ks (f ∷ []) → (k : Node) × (ks ≡ k ∷ []) × IsGiven q p k f
+zip_one : (q p : ℕ → Bool) (ks : List Node) (f : Found) → AllZip (IsGiven q p) ks (f ∷ [])
+    → (k : Node) × (ks ≡ k ∷ []) × IsGiven q p k f
 zip_one q p [] f z = absurd z
 zip_one q p (k ∷ ks) f z = (k, ap (λ js. k ∷ js) (zip_nil q p ks z.1), z.0)
 
@@ -130,7 +138,8 @@ module _ (q p : ℕ → Bool) (o : ℕ) (ks outs ins : List Node) (mixed : List 
        has_all_P p o ks ∙ all,
        ap (λ z. P o z) (h.ins_are ∙ kept))
 
-  sorting : (L : (ℕ → Bool → Bool) → Type 0) (line : List Node) → IsMiddle q p L (filter (is_mixed q p) ks) line → Sorting q p L ks (filter (has_all q) ks) (filter (is_mixed q p) ks) (filter (has_all p) ks) line
+  sorting : (L : (ℕ → Bool → Bool) → Type 0) (line : List Node) → IsMiddle q p L (filter (is_mixed q p) ks) line
+      → Sorting q p L ks (filter (has_all q) ks) (filter (is_mixed q p) ks) (filter (has_all p) ks) line
   sorting L line mid = record {
     is = sort_kinds (has_all q) (has_all p) ks h.clear;
     clear = h.clear;
@@ -146,16 +155,20 @@ module _ (q p : ℕ → Bool) (o : ℕ) (ks outs ins : List Node) (mixed : List 
   )
 
   -- the line of a P-node keeps what its middle keeps
-  keeps_line : (line : List Node) → Keeps any_bound (filter (is_mixed q p) ks) line → Keeps any_bound (P o ks ∷ []) (group_of o outs ++ (line ++ group_of o ins))
+  keeps_line : (line : List Node) → Keeps any_bound (filter (is_mixed q p) ks) line
+      → Keeps any_bound (P o ks ∷ []) (group_of o outs ++ (line ++ group_of o ins))
   keeps_line line k = subst₂ (λ a b. Keeps any_bound (P o ks ∷ []) (group_of o a ++ (line ++ group_of o b))) (sym h.outs_are) (sym h.ins_are)
       (Keeps_trans any_bound _ _ _ (Keeps_grouped any_bound o ks (filter (has_all q) ks) (filter (is_mixed q p) ks) (filter (has_all p) ks) (sort_kinds (has_all q) (has_all p) ks h.clear))
         (Keeps_append any_bound _ _ _ _ (Keeps_refl any_bound (group_of o (filter (has_all q) ks))) (Keeps_append any_bound _ _ _ _ k (Keeps_refl any_bound (group_of o (filter (has_all p) ks))))))
 
-  like_line : (L : (ℕ → Bool → Bool) → Type 0) (line : List Node) → Opposite q p → IsMiddle q p L (filter (is_mixed q p) ks) line → IsLike (sorted q p) L (P o ks ∷ []) (group_of o outs ++ (line ++ group_of o ins))
+  like_line : (L : (ℕ → Bool → Bool) → Type 0) (line : List Node) → Opposite q p
+      → IsMiddle q p L (filter (is_mixed q p) ks) line
+      → IsLike (sorted q p) L (P o ks ∷ []) (group_of o outs ++ (line ++ group_of o ins))
   like_line L line opp mid = subst₂ (λ a b. IsLike (sorted q p) L (P o ks ∷ []) (group_of o a ++ (line ++ group_of o b))) (sym h.outs_are) (sym h.ins_are)
       (P_line q p L opp o ks _ _ _ line (sorting L line mid))
 
-  pub close_two : Opposite q p → mixed ≡ [] → (ins ≡ [] → ⊥) → (outs ≡ [] → ⊥) → (front back : List Node) (ties : List (ℕ × Bool)) → ties ≡ []
+  pub close_two : Opposite q p → mixed ≡ [] → (ins ≡ [] → ⊥) → (outs ≡ [] → ⊥)
+      → (front back : List Node) (ties : List (ℕ × Bool)) → ties ≡ []
       → reverse front ++ back ≡ group_of o outs ++ ([] ++ group_of o ins) → IsGiven q p (P o ks) (Found.Line front back ties)
   close_two opp m some_in some_out front back ties none e =
       (has_all_P q o ks ∙ false_unless _ (λ x. some_in (h.ins_are ∙ (none_second (has_all q) (has_all p) ks h.clear x).0)),
@@ -163,7 +176,8 @@ module _ (q p : ℕ → Bool) (o : ℕ) (ks outs ins : List Node) (mixed : List 
        subst₂ (λ z ts. IsLike (sorted q p) (λ may. Licensed false may ts) (P o ks ∷ []) z) (sym e) (sym none) (like_line (λ may. Unit {0}) [] opp (inl (no_mixed m, refl, λ may. tt))),
        subst (Keeps any_bound (P o ks ∷ [])) (sym e) (keeps_line [] (subst (λ z. Keeps any_bound z []) (sym (no_mixed m)) (Keeps_refl any_bound []))))
 
-  pub close_line : Opposite q p → (f b : List Node) (ties : List (ℕ × Bool)) → mixed ≡ Found.Line f b ties ∷ [] → (front back : List Node)
+  pub close_line : Opposite q p → (f b : List Node) (ties : List (ℕ × Bool)) → mixed ≡ Found.Line f b ties ∷ []
+      → (front back : List Node)
       → reverse front ++ back ≡ group_of o outs ++ ((reverse f ++ b) ++ group_of o ins) → IsGiven q p (P o ks) (Found.Line front back ties)
   close_line opp f b ties m front back e =
       let g = zip_one q p (filter (is_mixed q p) ks) (Found.Line f b ties) (subst (AllZip (IsGiven q p) (filter (is_mixed q p) ks)) m h.mixed_are) in
@@ -196,7 +210,9 @@ module _ (q p : ℕ → Bool) (o : ℕ) (ks outs ins : List Node) (mixed : List 
       let torn = torn_by (λ e. let x : length (filter (is_mixed q p) ks) ≡ 0 = ap length e in absurd (omega arith)) in
       (torn.0, torn.1, P_never q p o ks h.clear many)
 
-  pub close_rest : Opposite q p → (f : Found) → mixed ≡ f ∷ [] → ((front back : List Node) (ties : List (ℕ × Bool)) → f ≡ Found.Line front back ties → ⊥) → IsGiven q p (P o ks) Found.Torn
+  pub close_rest : Opposite q p → (f : Found) → mixed ≡ f ∷ []
+      → ((front back : List Node) (ties : List (ℕ × Bool)) → f ≡ Found.Line front back ties → ⊥)
+      → IsGiven q p (P o ks) Found.Torn
   close_rest opp (Found.Out m) e other = absurd (close_not_out m e)
   close_rest opp (Found.In m) e other = absurd (close_not_in m e)
   close_rest opp (Found.Line front back ties) e other = absurd (other front back ties refl)

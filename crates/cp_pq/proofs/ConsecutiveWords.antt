@@ -10,7 +10,8 @@ not_inside : (set : List ℕ) (x : ℕ) → outside set x ≡ true → inside se
 not_inside set x o i = both_ways (not (inside set x)) (ap (λ b. not b) i) o
 
 -- a run and what stands behind it
-run_together : (q p : ℕ → Bool) → Opposite q p → (run after : List ℕ) → list_all p run ≡ true → list_all q after ≡ true → together q p (run ++ after) ≡ true
+run_together : (q p : ℕ → Bool) → Opposite q p → (run after : List ℕ) → list_all p run ≡ true → list_all q after ≡ true
+    → together q p (run ++ after) ≡ true
 run_together q p opp [] after i o = together_all q p after o
 run_together q p opp (x ∷ run) after i o =
     let g = and_parts (p x) (list_all p run) i in
@@ -18,10 +19,12 @@ run_together q p opp (x ∷ run) after i o =
     ap (λ b. cond b (together q p (run ++ after)) (sorted p q (run ++ after))) out ∙ sorted_front p q run after g.1 ∙ sorted_last p q (opposite_sym q p opp) after o
 
 -- an order behind a root that is not in the set has the set together
-pub consecutive_together : (set : List ℕ) (root : ℕ) (word : List ℕ) → outside set root ≡ true → IsConsecutive set (root ∷ word) → together (outside set) (inside set) word ≡ true
+pub consecutive_together : (set : List ℕ) (root : ℕ) (word : List ℕ) → outside set root ≡ true
+    → IsConsecutive set (root ∷ word) → together (outside set) (inside set) word ≡ true
 consecutive_together set root word out c = go c.before c.run c.order_is c.none_before c.all_inside
   where
-    go : (before run : List ℕ) → root ∷ word ≡ before ++ (run ++ c.after) → list_all (outside set) before ≡ true → list_all (inside set) run ≡ true → together (outside set) (inside set) word ≡ true
+    go : (before run : List ℕ) → root ∷ word ≡ before ++ (run ++ c.after) → list_all (outside set) before ≡ true
+        → list_all (inside set) run ≡ true → together (outside set) (inside set) word ≡ true
     go [] [] e b i = together_all (outside set) (inside set) word (and_parts (outside set root) (list_all (outside set) word) (ap (list_all (outside set)) e ∙ c.none_after)).1
     go [] (x ∷ run) e b i =
         let same : root ≡ x = cc in
@@ -41,7 +44,8 @@ record Parted (set word : List ℕ) : Type 0 where
   rest : list_all (outside set) after ≡ true
 
 -- a sorted word, from the inside out
-run_part : (set word : List ℕ) → sorted (inside set) (outside set) word ≡ true → (run after : List ℕ) × (word ≡ run ++ after) × (list_all (inside set) run ≡ true) × (list_all (outside set) after ≡ true)
+run_part : (set word : List ℕ) → sorted (inside set) (outside set) word ≡ true
+    → (run after : List ℕ) × (word ≡ run ++ after) × (list_all (inside set) run ≡ true) × (list_all (outside set) after ≡ true)
 run_part set [] s = ([], [], refl, refl, refl)
 run_part set (x ∷ word) s =
     ⊎_elim
@@ -65,7 +69,8 @@ word_parts set (x ∷ word) t =
     in_of false e = absurd (true≢false e)
 
 -- and back
-pub together_consecutive : (set : List ℕ) (root : ℕ) (word : List ℕ) → outside set root ≡ true → together (outside set) (inside set) word ≡ true → IsConsecutive set (root ∷ word)
+pub together_consecutive : (set : List ℕ) (root : ℕ) (word : List ℕ) → outside set root ≡ true
+    → together (outside set) (inside set) word ≡ true → IsConsecutive set (root ∷ word)
 together_consecutive set root word out t =
     let g = word_parts set word t in
     record { before = root ∷ g.before; run = g.run; after = g.after; order_is = ap (λ z. root ∷ z) g.is; none_before = and_from (outside set root) (list_all (outside set) g.before) out g.out; all_inside = g.full; none_after = g.rest }

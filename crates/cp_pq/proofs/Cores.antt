@@ -26,7 +26,8 @@ use Rattle.cp_pq.proofs.KeepingLaws.{Keeps_refl, Keeps_weaken, Keeps_trans, Keep
 use Rattle.cp_pq.proofs.TopP.{middle_done}
 
 -- the same ties, said in another way
-pub done_again : (q p : ℕ → Bool) (old : Bool) (y : ℕ) (L M : (ℕ → Bool → Bool) → Type 0) (n m : Node) → ((may : ℕ → Bool → Bool) → L may ↔ M may) → IsDone q p old y L n m → IsDone q p old y M n m
+pub done_again : (q p : ℕ → Bool) (old : Bool) (y : ℕ) (L M : (ℕ → Bool → Bool) → Type 0) (n m : Node)
+    → ((may : ℕ → Bool → Bool) → L may ↔ M may) → IsDone q p old y L n m → IsDone q p old y M n m
 done_again q p old y L M n m same d = record {
   to = λ may xs r t. let g = d.to may xs r t in (g.0, g.1, (same (by_bit g.0 may)).0 g.2, g.3);
   fro = λ may xs r tie. d.fro may xs r (λ b e. (same (by_bit b may)).1 (tie b e));
@@ -37,7 +38,8 @@ not_twice : (b : Bool) → not (not b) ≡ b
 not_twice true = refl
 not_twice false = refl
 
-licensed_twice : (d : Bool) (may : ℕ → Bool → Bool) (ts : List (ℕ × Bool)) → Licensed d may ts ↔ Licensed d (turned (turned may)) ts
+licensed_twice : (d : Bool) (may : ℕ → Bool → Bool) (ts : List (ℕ × Bool))
+    → Licensed d may ts ↔ Licensed d (turned (turned may)) ts
 licensed_twice d may [] = (λ x. x, λ x. x)
 licensed_twice d may (t ∷ ts) =
     let g = licensed_twice d may ts in
@@ -87,11 +89,13 @@ parted f (k ∷ ks) = go (f k) (parted f ks)
 
 module _ (q p : ℕ → Bool) (opp : Opposite q p) where
   -- the kids that meet the set are the mixed ones and those inside
-  pub met_parts : (ks : List Node) → list_all (is_clear q p) ks ≡ true → IsPermutation (filter (is_met q) ks) (filter (is_mixed q p) ks ++ filter (has_all p) ks)
+  pub met_parts : (ks : List Node) → list_all (is_clear q p) ks ≡ true
+      → IsPermutation (filter (is_met q) ks) (filter (is_mixed q p) ks ++ filter (has_all p) ks)
   met_parts [] c = IsPermutation-refl []
   met_parts (k ∷ ks) c = go (has_all q k) (has_all p k) (and_parts (is_clear q p k) (list_all (is_clear q p) ks) c).0 (met_parts ks (and_parts (is_clear q p k) (list_all (is_clear q p) ks) c).1)
     where
-      go : (x y : Bool) → not (x && y) ≡ true → IsPermutation (filter (is_met q) ks) (filter (is_mixed q p) ks ++ filter (has_all p) ks)
+      go : (x y : Bool) → not (x && y) ≡ true
+          → IsPermutation (filter (is_met q) ks) (filter (is_mixed q p) ks ++ filter (has_all p) ks)
           → IsPermutation (cond (not x) (k ∷ filter (is_met q) ks) (filter (is_met q) ks)) (cond (not x && not y) (k ∷ filter (is_mixed q p) ks) (filter (is_mixed q p) ks) ++ cond y (k ∷ filter (has_all p) ks) (filter (has_all p) ks))
       go true true e ih = absurd (false≢true e)
       go true false e ih = ih
@@ -99,25 +103,30 @@ module _ (q p : ℕ → Bool) (opp : Opposite q p) where
       go false false e ih = IsPermutation-cons k _ _ ih
 
   -- with no mixed kid they are those inside, in their order
-  pub met_inside : (ks : List Node) → list_all (is_clear q p) ks ≡ true → filter (is_mixed q p) ks ≡ [] → filter (is_met q) ks ≡ filter (has_all p) ks
+  pub met_inside : (ks : List Node) → list_all (is_clear q p) ks ≡ true → filter (is_mixed q p) ks ≡ []
+      → filter (is_met q) ks ≡ filter (has_all p) ks
   met_inside [] c e = refl
   met_inside (k ∷ ks) c e = go (has_all q k) (has_all p k) (and_parts (is_clear q p k) (list_all (is_clear q p) ks) c).0 e (met_inside ks (and_parts (is_clear q p k) (list_all (is_clear q p) ks) c).1)
     where
-      go : (x y : Bool) → not (x && y) ≡ true → cond (not x && not y) (k ∷ filter (is_mixed q p) ks) (filter (is_mixed q p) ks) ≡ [] → (filter (is_mixed q p) ks ≡ [] → filter (is_met q) ks ≡ filter (has_all p) ks)
+      go : (x y : Bool) → not (x && y) ≡ true
+          → cond (not x && not y) (k ∷ filter (is_mixed q p) ks) (filter (is_mixed q p) ks) ≡ []
+          → (filter (is_mixed q p) ks ≡ [] → filter (is_met q) ks ≡ filter (has_all p) ks)
           → cond (not x) (k ∷ filter (is_met q) ks) (filter (is_met q) ks) ≡ cond y (k ∷ filter (has_all p) ks) (filter (has_all p) ks)
       go true true d f ih = absurd (false≢true d)
       go true false d f ih = ih f
       go false true d f ih = ap (λ z. k ∷ z) (ih f)
       go false false d f ih = absurd cc
 
-  middle_of : (k : Node) (f : Found) → is_mixed q p k ≡ true → IsGiven q p k f → IsMiddle q p (λ may. Grant may f) (k ∷ []) (line_of f)
+  middle_of : (k : Node) (f : Found) → is_mixed q p k ≡ true → IsGiven q p k f
+      → IsMiddle q p (λ may. Grant may f) (k ∷ []) (line_of f)
   middle_of k (Found.Out m) e g = absurd (both_ways (not (has_all q k)) (ap (λ z. not z) g.0) (and_parts (not (has_all q k)) (not (has_all p k)) e).0)
   middle_of k (Found.In m) e g = absurd (both_ways (not (has_all p k)) (ap (λ z. not z) g.1) (and_parts (not (has_all q k)) (not (has_all p k)) e).1)
   middle_of k (Found.Line front back ties) e g = inr (k, refl, g.0, g.1, g.2)
   middle_of k Found.Torn e g = inr (k, refl, g.0, g.1, never_like (sorted q p) (k ∷ []) [] g.2)
 
   -- a row with no line torn keeps what its one node keeps, and is not empty
-  one_keeps : (k : Node) (f : Found) → IsGiven q p k f → is_torn f ≡ false → Keeps any_bound (k ∷ []) (line_of f) × (1 ≤ length (line_of f))
+  one_keeps : (k : Node) (f : Found) → IsGiven q p k f → is_torn f ≡ false
+      → Keeps any_bound (k ∷ []) (line_of f) × (1 ≤ length (line_of f))
   one_keeps k f g t =
       let z : AllZip (IsGiven q p) (k ∷ []) (f ∷ []) = (g, tt) in
       let head : list_any is_torn (f ∷ []) ≡ false = ap (λ x. x || false) t in
@@ -128,7 +137,8 @@ or_false : (a b : Bool) → (a || b) ≡ false → (a ≡ false) × (b ≡ false
 or_false true b e = absurd (true≢false e)
 or_false false b e = (refl, e)
 
-torn_ends : (fs gs : List Found) (f g : Found) → list_any is_torn (f ∷ (fs ++ g ∷ [])) ≡ false → (is_torn f ≡ false) × (is_torn g ≡ false)
+torn_ends : (fs gs : List Found) (f g : Found) → list_any is_torn (f ∷ (fs ++ g ∷ [])) ≡ false
+    → (is_torn f ≡ false) × (is_torn g ≡ false)
 torn_ends fs gs f g h = let x = or_false (is_torn f) (list_any is_torn (fs ++ g ∷ [])) h in (x.0, last fs x.1)
   where
     last : (es : List Found) → list_any is_torn (es ++ g ∷ []) ≡ false → is_torn g ≡ false
@@ -139,13 +149,15 @@ module _ (q p : ℕ → Bool) (opp : Opposite q p) (y o : ℕ) (ks outs ins : Li
   opp_back : Opposite p q
   opp_back x = elim (p x) as (λ b. q x ≡ not b → b ≡ not (q x)) [ true ↦ λ e. sym (ap (λ z. not z) e) | false ↦ λ e. sym (ap (λ z. not z) e) ] (opp x)
 
-  two_given : (f g : Found) (ms : List Node) → AllZip (IsGiven q p) ms (f ∷ g ∷ []) → (k j : Node) × (ms ≡ k ∷ j ∷ []) × IsGiven q p k f × IsGiven q p j g
+  two_given : (f g : Found) (ms : List Node) → AllZip (IsGiven q p) ms (f ∷ g ∷ [])
+      → (k j : Node) × (ms ≡ k ∷ j ∷ []) × IsGiven q p k f × IsGiven q p j g
   two_given f g [] z = absurd z
   two_given f g (k ∷ []) z = absurd z.1
   two_given f g (k ∷ j ∷ []) z = (k, j, refl, z.0, z.1.0)
   two_given f g (k ∷ j ∷ i ∷ ms) z = absurd z.1.1
 
-  one_given : (f : Found) (ms : List Node) → AllZip (IsGiven q p) ms (f ∷ []) → (k : Node) × (ms ≡ k ∷ []) × IsGiven q p k f
+  one_given : (f : Found) (ms : List Node) → AllZip (IsGiven q p) ms (f ∷ [])
+      → (k : Node) × (ms ≡ k ∷ []) × IsGiven q p k f
   one_given f [] z = absurd z
   one_given f (k ∷ []) z = (k, refl, z.0)
   one_given f (k ∷ j ∷ ms) z = absurd z.1
@@ -153,7 +165,8 @@ module _ (q p : ℕ → Bool) (opp : Opposite q p) (y o : ℕ) (ks outs ins : Li
   all_met : list_all (is_met q) (filter (is_met q) ks) ≡ true
   all_met = all_filter (is_met q) ks
 
-  pub core_one : (f : Found) (row : List Found) → Sorts q p ks outs ins (f ∷ []) → 2 ≤ length (filter (is_met q) ks) → row ≡ f ∷ map Found.In (group_of o ins) → IsCore q p y o (filter (is_met q) ks) row
+  pub core_one : (f : Found) (row : List Found) → Sorts q p ks outs ins (f ∷ []) → 2 ≤ length (filter (is_met q) ks)
+      → row ≡ f ∷ map Found.In (group_of o ins) → IsCore q p y o (filter (is_met q) ks) row
   core_one f row s two e = subst (IsCore q p y o (filter (is_met q) ks)) (sym e) (record { done = made; keeps = kept })
     where
       h : (k : Node) × (filter (is_mixed q p) ks ≡ k ∷ []) × IsGiven q p k f
@@ -178,7 +191,8 @@ module _ (q p : ℕ → Bool) (opp : Opposite q p) (y o : ℕ) (ks outs ins : Li
             (middle_done q p opp o y (λ may. Grant may f) (λ may. Unit {0}) (filter (is_met q) ks) (h.0 ∷ []) (line_of f) [] [] ins
               (λ may. (λ x. x, λ x. x)) perm all_met full (middle_of q p opp h.0 f mixed h.2) (inl (refl, refl, λ may. tt)) (λ x. absurd cc) two))
 
-      kept : list_any is_torn (f ∷ map Found.In (group_of o ins)) ≡ false → Keeps (λ n. y < n) (P o (filter (is_met q) ks) ∷ []) (Q y (flat_line (f ∷ map Found.In (group_of o ins))) ∷ [])
+      kept : list_any is_torn (f ∷ map Found.In (group_of o ins)) ≡ false
+          → Keeps (λ n. y < n) (P o (filter (is_met q) ks) ∷ []) (Q y (flat_line (f ∷ map Found.In (group_of o ins))) ∷ [])
       kept t =
           let k = one_keeps q p opp h.0 f h.2 (or_false (is_torn f) _ t).0 in
           let l1 = length_permutation _ _ perm in
@@ -192,7 +206,8 @@ module _ (q p : ℕ → Bool) (opp : Opposite q p) (y o : ℕ) (ks outs ins : Li
               (Keeps_append any_bound (h.0 ∷ []) (line_of f) (group_of o ins) (group_of o ins) k.0 (Keeps_refl any_bound (group_of o ins)))))
             (Keeps_into_Q y (line_of f ++ group_of o ins) long))
 
-  pub core_two : (f g : Found) (row : List Found) → Sorts q p ks outs ins (f ∷ g ∷ []) → 2 ≤ length (filter (is_met q) ks)
+  pub core_two : (f g : Found) (row : List Found) → Sorts q p ks outs ins (f ∷ g ∷ [])
+      → 2 ≤ length (filter (is_met q) ks)
       → row ≡ f ∷ (map Found.In (group_of o ins) ++ turn_found g ∷ []) → IsCore q p y o (filter (is_met q) ks) row
   core_two f g row s two e = subst (IsCore q p y o (filter (is_met q) ks)) (sym e) (record { done = made; keeps = kept })
     where
@@ -223,7 +238,8 @@ module _ (q p : ℕ → Bool) (opp : Opposite q p) (y o : ℕ) (ks outs ins : Li
       line : line_of f ++ (group_of o ins ++ reverse (line_of g)) ≡ flat_line (f ∷ (map Found.In (group_of o ins) ++ turn_found g ∷ []))
       line = ap (λ z. line_of f ++ (group_of o ins ++ z)) (turned_line g) ∙ sym flat_row
 
-      grants_row : (may : ℕ → Bool → Bool) (js : List Node) → Grant may (turn_found g) ↔ Grants may (map Found.In js ++ turn_found g ∷ [])
+      grants_row : (may : ℕ → Bool → Bool) (js : List Node)
+          → Grant may (turn_found g) ↔ Grants may (map Found.In js ++ turn_found g ∷ [])
       grants_row may [] = (λ x. (x, tt), λ x. x.0)
       grants_row may (j ∷ js) = let r = grants_row may js in (λ x. (tt, r.0 x), λ x. r.1 x.1)
 
@@ -234,7 +250,8 @@ module _ (q p : ℕ → Bool) (opp : Opposite q p) (y o : ℕ) (ks outs ins : Li
             (middle_done q p opp o y (λ may. Grant may f) (λ may. Grant may g) (filter (is_met q) ks) (h.0 ∷ []) (line_of f) (h.1 ∷ []) (line_of g) ins
               (grant_twice g) perm all_met full (middle_of q p opp h.0 f both.0 h.3) (middle_of q p opp h.1 g second h.4) (λ x. absurd cc) two))
 
-      kept : list_any is_torn (f ∷ (map Found.In (group_of o ins) ++ turn_found g ∷ [])) ≡ false → Keeps (λ n. y < n) (P o (filter (is_met q) ks) ∷ []) (Q y (flat_line (f ∷ (map Found.In (group_of o ins) ++ turn_found g ∷ []))) ∷ [])
+      kept : list_any is_torn (f ∷ (map Found.In (group_of o ins) ++ turn_found g ∷ [])) ≡ false
+          → Keeps (λ n. y < n) (P o (filter (is_met q) ks) ∷ []) (Q y (flat_line (f ∷ (map Found.In (group_of o ins) ++ turn_found g ∷ []))) ∷ [])
       kept t =
           let ends = torn_ends (map Found.In (group_of o ins)) [] f (turn_found g) t in
           let k = one_keeps q p opp h.0 f h.3 ends.0 in

@@ -43,7 +43,8 @@ Fits_part ks e r p d a b = ⊎_elim
     lacks x l = Lacks-IsPermutation x _ _ same l
 
 -- some kids put together into one
-pub Fits_union : (ks e c : List Node) (m : Node) → IsPermutation ks (e ++ c) → IsPermutation (all_leaves c) (leaves m) → Fits ks (e ++ m ∷ [])
+pub Fits_union : (ks e c : List Node) (m : Node) → IsPermutation ks (e ++ c) → IsPermutation (all_leaves c) (leaves m)
+    → Fits ks (e ++ m ∷ [])
 Fits_union ks e c m p q a b = ⊎_elim
     (λ h. ⊎_elim
         (λ k. inl (h.0, kid_append_left h.0 e (m ∷ []) k, h.2, h.3))

@@ -32,7 +32,8 @@ kids_distinct : (o : ℕ) (ks : List Node) → Distinct (all_leaves (P o ks ∷ 
 kids_distinct o ks d = subst Distinct (row_P_leaves o ks) d
 
 -- a P-node of a row of one P-node is this one or stands in its kids
-owner_cases : (o ow : ℕ) (js ls : List Node) → IsInRow (P ow ls) (P o js ∷ []) → ((ow ≡ o) × (ls ≡ js)) ⊎ IsInRow (P ow ls) js
+owner_cases : (o ow : ℕ) (js ls : List Node) → IsInRow (P ow ls) (P o js ∷ [])
+    → ((ow ≡ o) × (ls ≡ js)) ⊎ IsInRow (P ow ls) js
 owner_cases o ow js ls h = ⊎_elim (λ e. inl (P_P ow o ls js e)) inr (in_P (P ow ls) o js (in_row_one (P ow ls) (P o js) h))
 
 -- the P-node itself
@@ -50,17 +51,20 @@ group_branching o [] h = h
 group_branching o (k ∷ []) h = h
 group_branching o (k ∷ j ∷ ks) h = all_one is_branching (P o (k ∷ j ∷ ks)) ∙ branching_P_from o (k ∷ j ∷ ks) (omega arith) h
 
-group_below : (o m : ℕ) (e : List Node) → list_all (has_vars_below m) e ≡ true → list_all (has_vars_below m) (group_of o e) ≡ true
+group_below : (o m : ℕ) (e : List Node) → list_all (has_vars_below m) e ≡ true
+    → list_all (has_vars_below m) (group_of o e) ≡ true
 group_below o m [] h = h
 group_below o m (k ∷ []) h = h
 group_below o m (k ∷ j ∷ ks) h = all_one (has_vars_below m) (P o (k ∷ j ∷ ks)) ∙ below_P m o (k ∷ j ∷ ks) ∙ h
 
-group_owner : (o ow : ℕ) (e ls : List Node) → IsInRow (P ow ls) (group_of o e) → ((ow ≡ o) × (ls ≡ e)) ⊎ IsInRow (P ow ls) e
+group_owner : (o ow : ℕ) (e ls : List Node) → IsInRow (P ow ls) (group_of o e)
+    → ((ow ≡ o) × (ls ≡ e)) ⊎ IsInRow (P ow ls) e
 group_owner o ow [] ls h = inr h
 group_owner o ow (k ∷ []) ls h = inr h
 group_owner o ow (k ∷ j ∷ ks) ls h = owner_cases o ow (k ∷ j ∷ ks) ls h
 
-all_split : (f : Node → Bool) (a b : List Node) → list_all f (a ++ b) ≡ true → (list_all f a ≡ true) × (list_all f b ≡ true)
+all_split : (f : Node → Bool) (a b : List Node) → list_all f (a ++ b) ≡ true
+    → (list_all f a ≡ true) × (list_all f b ≡ true)
 all_split f a b h = and_parts (list_all f a) (list_all f b) (sym (list_all-append f a b) ∙ h)
 
 all_join : (f : Node → Bool) (a b : List Node) → list_all f a ≡ true → list_all f b ≡ true → list_all f (a ++ b) ≡ true
@@ -106,7 +110,8 @@ module _ (V : ℕ → Type 0) where
   }
 
   -- new kids of a P-node
-  pub Keeps_P : (o : ℕ) (ks js : List Node) → Keeps V ks js → (Distinct (all_leaves ks) → Fits ks js) → (2 ≤ length ks → 2 ≤ length js) → Keeps V (P o ks ∷ []) (P o js ∷ [])
+  pub Keeps_P : (o : ℕ) (ks js : List Node) → Keeps V ks js → (Distinct (all_leaves ks) → Fits ks js)
+      → (2 ≤ length ks → 2 ≤ length js) → Keeps V (P o ks ∷ []) (P o js ∷ [])
   Keeps_P o ks js k fits two = record {
     leaves_kept = subst₂ IsPermutation (sym (row_P_leaves o ks)) (sym (row_P_leaves o js)) k.leaves_kept;
     branching = λ h. let g = branching_P_parts o ks (sym (all_one is_branching (P o ks)) ∙ h) in all_one is_branching (P o js) ∙ branching_P_from o js (two g.0) (k.branching g.1);
@@ -120,7 +125,8 @@ module _ (V : ℕ → Type 0) where
   }
 
   -- new kids of a Q-node
-  pub Keeps_Q : (w : ℕ) (ks js : List Node) → Keeps V ks js → (2 ≤ length ks → 2 ≤ length js) → Keeps V (Q w ks ∷ []) (Q w js ∷ [])
+  pub Keeps_Q : (w : ℕ) (ks js : List Node) → Keeps V ks js → (2 ≤ length ks → 2 ≤ length js)
+      → Keeps V (Q w ks ∷ []) (Q w js ∷ [])
   Keeps_Q w ks js k two = record {
     leaves_kept = subst₂ IsPermutation (sym (row_Q_leaves w ks)) (sym (row_Q_leaves w js)) k.leaves_kept;
     branching = λ h. let g = branching_Q_parts w ks (sym (all_one is_branching (Q w ks)) ∙ h) in all_one is_branching (Q w js) ∙ branching_Q_from w js (two g.0) (k.branching g.1);
@@ -144,7 +150,8 @@ module _ (V : ℕ → Type 0) where
   }
 
   -- a P-node whose kids are in three parts, of which the first and the last are grouped
-  pub Keeps_grouped : (o : ℕ) (ks e m f : List Node) → IsPermutation ks (e ++ (m ++ f)) → Keeps V (P o ks ∷ []) (group_of o e ++ (m ++ group_of o f))
+  pub Keeps_grouped : (o : ℕ) (ks e m f : List Node) → IsPermutation ks (e ++ (m ++ f))
+      → Keeps V (P o ks ∷ []) (group_of o e ++ (m ++ group_of o f))
   Keeps_grouped o ks e m f perm = record {
     leaves_kept = IsPermutation-trans _ _ _ (IsPermutation-same _ _ (row_P_leaves o ks)) (IsPermutation-trans _ _ _ (IsPermutation-all_leaves ks _ perm) (IsPermutation-same _ _ same));
     branching = λ h.
@@ -179,14 +186,16 @@ module _ (V : ℕ → Type 0) where
       last : IsPermutation ks (f ++ (e ++ m))
       last = IsPermutation-trans _ _ _ perm (IsPermutation-trans _ _ _ (IsPermutation-same _ _ (sym (append_assoc e m f))) (IsPermutation-append_comm (e ++ m) f))
 
-      parts : (t : Node → Bool) → list_all t ks ≡ true → (list_all t e ≡ true) × (list_all t m ≡ true) × (list_all t f ≡ true)
+      parts : (t : Node → Bool) → list_all t ks ≡ true
+          → (list_all t e ≡ true) × (list_all t m ≡ true) × (list_all t f ≡ true)
       parts t h =
           let a = all_split t e (m ++ f) (sym (list_all-IsPermutation t ks _ perm) ∙ h) in
           let b = all_split t m f a.1 in
           (a.0, b.0, b.1)
 
   -- the kids of a P-node in two parts, of which the second is put under a P-node of its own
-  pub Keeps_parted : (o : ℕ) (ks e c : List Node) → IsPermutation ks (e ++ c) → 1 ≤ length e → 2 ≤ length c → Keeps V (P o ks ∷ []) (P o (e ++ P o c ∷ []) ∷ [])
+  pub Keeps_parted : (o : ℕ) (ks e c : List Node) → IsPermutation ks (e ++ c) → 1 ≤ length e → 2 ≤ length c
+      → Keeps V (P o ks ∷ []) (P o (e ++ P o c ∷ []) ∷ [])
   Keeps_parted o ks e c perm one two = record {
     leaves_kept = subst₂ IsPermutation (sym (row_P_leaves o ks)) (sym (row_P_leaves o (e ++ P o c ∷ []))) (IsPermutation-trans _ _ _ (IsPermutation-all_leaves ks _ perm) (IsPermutation-same _ _ same));
     branching = λ h.

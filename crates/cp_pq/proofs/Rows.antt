@@ -13,7 +13,8 @@ use Rattle.cp_pq.proofs.NodeLayers.{all_leaves_cons, all_leaves_nil}
 use Rattle.cp_pq.proofs.WordLaws.{sorted_front, sorted_cut, sorted_all, together_front, together_start, together_whole}
 use Rattle.cp_pq.proofs.ReadingLaws.{ReadsAll_nil, ReadsAll_cons, ReadsAll_one, one_ReadsAll, ReadsAll_join, ReadsAll_cut, read_leaves, read_all_leaves}
 
-pub class_read : (p : ℕ → Bool) (may : ℕ → Bool → Bool) (k : Node) (u : List ℕ) → Reads may k u → list_all p u ≡ has_all p k
+pub class_read : (p : ℕ → Bool) (may : ℕ → Bool → Bool) (k : Node) (u : List ℕ) → Reads may k u
+    → list_all p u ≡ has_all p k
 unfolding has_all
 class_read p may k u r = sym (list_all-IsPermutation p (leaves k) u (read_leaves may k u r))
 
@@ -22,7 +23,8 @@ unfolding has_all
 row_all p [] = ap (list_all p) all_leaves_nil
 row_all p (k ∷ ks) = ap (list_all p) (all_leaves_cons k ks) ∙ list_all-append p (leaves k) (all_leaves ks) ∙ ap (λ b. list_all p (leaves k) && b) (row_all p ks)
 
-pub class_row : (p : ℕ → Bool) (may : ℕ → Bool → Bool) (ks : List Node) (u : List ℕ) → ReadsAll may ks u → list_all p u ≡ list_all (has_all p) ks
+pub class_row : (p : ℕ → Bool) (may : ℕ → Bool → Bool) (ks : List Node) (u : List ℕ) → ReadsAll may ks u
+    → list_all p u ≡ list_all (has_all p) ks
 class_row p may ks u r = sym (list_all-IsPermutation p (all_leaves ks) u (read_all_leaves may ks u r)) ∙ row_all p ks
 
 pub like_nil : (test : List ℕ → Bool) → test [] ≡ true → IsLike test (λ may. Unit {0}) [] []
@@ -74,7 +76,8 @@ run_here q p L M k row line rest out left like next may xs = (
 )
 
 -- a row with a sorted reading has kids outside, then one, then kids inside
-pub row_sorted_of : (q p : ℕ → Bool) (may : ℕ → Bool → Bool) (ks : List Node) (xs : List ℕ) → ReadsAll may ks xs → sorted q p xs ≡ true → row_sorted q p ks ≡ true
+pub row_sorted_of : (q p : ℕ → Bool) (may : ℕ → Bool → Bool) (ks : List Node) (xs : List ℕ) → ReadsAll may ks xs
+    → sorted q p xs ≡ true → row_sorted q p ks ≡ true
 row_sorted_of q p may [] xs r s = refl
 row_sorted_of q p may (k ∷ ks) xs r s =
     ⊎_elim

@@ -46,7 +46,8 @@ module _ (q p : ℕ → Bool) (opp : Opposite q p) where
       opp_sym : Opposite p q
       opp_sym x = elim (p x) as (λ b. q x ≡ not b → b ≡ not (q x)) [ true ↦ λ e. sym (ap (λ z. not z) e) | false ↦ λ e. sym (ap (λ z. not z) e) ] (opp x)
 
-  pub zip_turn : (ks : List Node) (fs : List Found) → AllZip (IsGiven q p) ks fs → AllZip (IsGiven p q) ks (map turn_found fs)
+  pub zip_turn : (ks : List Node) (fs : List Found) → AllZip (IsGiven q p) ks fs
+      → AllZip (IsGiven p q) ks (map turn_found fs)
   zip_turn [] [] z = z
   zip_turn [] (f ∷ fs) z = absurd z
   zip_turn (k ∷ ks) [] z = absurd z
@@ -59,7 +60,8 @@ module _ (q p : ℕ → Bool) (opp : Opposite q p) where
   opp_turn : Opposite p q
   opp_turn x = elim (p x) as (λ b. q x ≡ not b → b ≡ not (q x)) [ true ↦ λ e. sym (ap (λ z. not z) e) | false ↦ λ e. sym (ap (λ z. not z) e) ] (opp x)
 
-  met_rest : (k : Node) (ks : List Node) → has_all q k ≡ false → 2 ≤ length (filter (is_met q) (k ∷ ks)) → list_all (has_all q) ks ≡ false
+  met_rest : (k : Node) (ks : List Node) → has_all q k ≡ false → 2 ≤ length (filter (is_met q) (k ∷ ks))
+      → list_all (has_all q) ks ≡ false
   met_rest k ks out two = go ks (subst (λ x. 2 ≤ length (cond (not x) (k ∷ filter (is_met q) ks) (filter (is_met q) ks))) out two)
     where
       go : (js : List Node) → 2 ≤ length (k ∷ filter (is_met q) js) → list_all (has_all q) js ≡ false
@@ -68,7 +70,8 @@ module _ (q p : ℕ → Bool) (opp : Opposite q p) where
               let l = ap length none in absurd (omega (arith, l, le)))
           (λ e. e) (cases_Bool (list_all (has_all q) js))
 
-  met_later : (k : Node) (ks : List Node) → has_all q k ≡ true → 2 ≤ length (filter (is_met q) (k ∷ ks)) → 2 ≤ length (filter (is_met q) ks)
+  met_later : (k : Node) (ks : List Node) → has_all q k ≡ true → 2 ≤ length (filter (is_met q) (k ∷ ks))
+      → 2 ≤ length (filter (is_met q) ks)
   met_later k ks out two = subst (λ x. 2 ≤ length (cond (not x) (k ∷ filter (is_met q) ks) (filter (is_met q) ks))) out two
 
   out_turned : (fs : List Found) → list_all is_in (map turn_found fs) ≡ list_all is_out fs
@@ -93,14 +96,16 @@ module _ (q p : ℕ → Bool) (opp : Opposite q p) where
   zip_found_run (k ∷ ks) (f ∷ fs) z =
       rw (given_out q p k f z.0, zip_found_run ks fs z.1, zip_sorted p q ks (map turn_found fs) (zip_turn ks fs z.1), leaving_turned fs) refl
 
-  turn_rest : (k : Node) (ks : List Node) (f : Found) (fs : List Found) → IsGiven q p k f → has_all q k ≡ false → list_all (has_all q) ks ≡ false → AllZip (IsGiven q p) ks fs → found_leaving fs ≡ true
+  turn_rest : (k : Node) (ks : List Node) (f : Found) (fs : List Found) → IsGiven q p k f → has_all q k ≡ false
+      → list_all (has_all q) ks ≡ false → AllZip (IsGiven q p) ks fs → found_leaving fs ≡ true
       → IsLike (sorted q p) (λ may. Grant may f) (k ∷ []) (line_of f) → IsLike (together q p) (λ may. Grants may (f ∷ map turn_found fs)) (k ∷ ks) (flat_line (f ∷ map turn_found fs))
   turn_rest k ks f fs g out rest z h like =
       run_here q p (λ may. Grant may f) (λ may. Grants may (map turn_found fs)) k ks (line_of f) (flat_line (map turn_found fs)) out rest like
       (zip_like p q opp_turn ks (map turn_found fs) (zip_turn ks fs z) (leaving_turned fs ∙ h))
 
   -- a row that the set runs through, by what its nodes are
-  pub zip_run : (ks : List Node) (fs : List Found) → AllZip (IsGiven q p) ks fs → 2 ≤ length (filter (is_met q) ks) → found_run fs ≡ true
+  pub zip_run : (ks : List Node) (fs : List Found) → AllZip (IsGiven q p) ks fs → 2 ≤ length (filter (is_met q) ks)
+      → found_run fs ≡ true
       → IsLike (together q p) (λ may. Grants may (turn_behind fs)) ks (flat_line (turn_behind fs))
   zip_run [] [] z two h = absurd (omega arith)
   zip_run [] (f ∷ fs) z two h = absurd z
@@ -115,7 +120,8 @@ module _ (q p : ℕ → Bool) (opp : Opposite q p) where
   zip_run (k ∷ ks) (Found.Line front back ties ∷ fs) z two h = turn_rest k ks (Found.Line front back ties) fs z.0 z.0.0 (met_rest k ks z.0.0 two) z.1 h z.0.2
   zip_run (k ∷ ks) (Found.Torn ∷ fs) z two h = turn_rest k ks Found.Torn fs z.0 z.0.0 (met_rest k ks z.0.0 two) z.1 h (never_like (sorted q p) (k ∷ []) [] z.0.2)
 
-  keeps_rest : (k : Node) (ks : List Node) (f : Found) (fs : List Found) → IsGiven q p k f → AllZip (IsGiven q p) ks fs → list_any is_torn (f ∷ map turn_found fs) ≡ false
+  keeps_rest : (k : Node) (ks : List Node) (f : Found) (fs : List Found) → IsGiven q p k f → AllZip (IsGiven q p) ks fs
+      → list_any is_torn (f ∷ map turn_found fs) ≡ false
       → Keeps any_bound (k ∷ ks) (flat_line (f ∷ map turn_found fs)) × (length (k ∷ ks) ≤ length (flat_line (f ∷ map turn_found fs)))
   keeps_rest k ks f fs g z t =
       let both = or_parts (is_torn f) (list_any is_torn (map turn_found fs)) t in
@@ -135,7 +141,8 @@ module _ (q p : ℕ → Bool) (opp : Opposite q p) where
       or_parts false b e = (refl, e)
 
   -- the row that comes of it keeps what the nodes keep
-  pub keeps_run : (ks : List Node) (fs : List Found) → AllZip (IsGiven q p) ks fs → list_any is_torn (turn_behind fs) ≡ false
+  pub keeps_run : (ks : List Node) (fs : List Found) → AllZip (IsGiven q p) ks fs
+      → list_any is_torn (turn_behind fs) ≡ false
       → Keeps any_bound ks (flat_line (turn_behind fs)) × (length ks ≤ length (flat_line (turn_behind fs)))
   keeps_run [] [] z t = (Keeps_refl any_bound [], omega arith)
   keeps_run [] (f ∷ fs) z t = absurd z
@@ -154,7 +161,8 @@ module _ (q p : ℕ → Bool) (opp : Opposite q p) where
   outs_sorted (k ∷ ks) h = let g = and_parts (has_all q k) (list_all (has_all q) ks) h in
       elim (has_all p k) as (λ b. cond b (row_sorted p q ks) (list_all (has_all q) ks) ≡ true) [ true ↦ outs_sorted ks g.1 | false ↦ g.1 ]
 
-  pub row_run_of : (may : ℕ → Bool → Bool) (ks : List Node) (xs : List ℕ) → ReadsAll may ks xs → together q p xs ≡ true → row_run q p ks ≡ true
+  pub row_run_of : (may : ℕ → Bool → Bool) (ks : List Node) (xs : List ℕ) → ReadsAll may ks xs → together q p xs ≡ true
+      → row_run q p ks ≡ true
   row_run_of may [] xs r t = refl
   row_run_of may (k ∷ ks) xs r t =
       let h = ReadsAll_cons may k ks xs r in
@@ -206,7 +214,8 @@ module _ (q p : ℕ → Bool) (opp : Opposite q p) where
           elim (is_mixed q p k) as (λ b. length (cond b (k ∷ filter (is_mixed q p) ks) (filter (is_mixed q p) ks)) ≤ 2) [ true ↦ omega arith | false ↦ omega arith ])
       (cases_Bool (has_all q k))
 
-  pub P_refused : (o : ℕ) (ks : List Node) → 3 ≤ length (filter (is_mixed q p) ks) → IsNever (together q p) (P o ks ∷ [])
+  pub P_refused : (o : ℕ) (ks : List Node) → 3 ≤ length (filter (is_mixed q p) ks)
+      → IsNever (together q p) (P o ks ∷ [])
   P_refused o ks three may xs r t =
       let s = Reads_P may o ks xs (ReadsAll_one may (P o ks) xs r) in
       let le = run_mixed s.0 (row_run_of may s.0 xs s.2 t) in

@@ -35,12 +35,13 @@ row_reads : (may : ℕ → Bool → Bool) (xs : List ℕ) → ReadsAll may (map 
 row_reads may [] = none
 row_reads may (x ∷ xs) = more (Leaf x) (map Leaf xs) (x ∷ []) xs (leaf x) (row_reads may xs)
 
-star_leaves : (owner : ℕ) (xs : List ℕ) → leaves (star_body owner xs) ≡ xs
+pub star_leaves : (owner : ℕ) (xs : List ℕ) → leaves (star_body owner xs) ≡ xs
 star_leaves owner [] = leaves_P owner [] ∙ all_leaves_nil
 star_leaves owner (x ∷ []) = leaves_Leaf x
 star_leaves owner (x ∷ y ∷ xs) = leaves_P owner (map Leaf (x ∷ y ∷ xs)) ∙ leaves_row (x ∷ y ∷ xs)
 
-star_reads : (may : ℕ → Bool → Bool) (owner : ℕ) (xs word : List ℕ) → IsPermutation xs word → Reads may (star_body owner xs) word
+star_reads : (may : ℕ → Bool → Bool) (owner : ℕ) (xs word : List ℕ) → IsPermutation xs word
+    → Reads may (star_body owner xs) word
 star_reads may owner [] word h = any_order owner [] (map Leaf word) word (IsPermutation-map Leaf [] word h) (row_reads may word)
 star_reads may owner (x ∷ []) word h = subst (Reads may (Leaf x)) (sym (short_permutation (x ∷ []) word h (omega arith))) (leaf x)
 star_reads may owner (x ∷ y ∷ xs) word h = any_order owner (map Leaf (x ∷ y ∷ xs)) (map Leaf word) word (IsPermutation-map Leaf (x ∷ y ∷ xs) word h) (row_reads may word)
@@ -55,7 +56,8 @@ star_below m owner [] = below_P m owner []
 star_below m owner (x ∷ []) = below_Leaf m x
 star_below m owner (x ∷ y ∷ xs) = below_P m owner (map Leaf (x ∷ y ∷ xs)) ∙ row_below m (x ∷ y ∷ xs)
 
-pub star_formed : (root owner vars : ℕ) (xs : List ℕ) → xs ≢ [] → Distinct (root ∷ xs) → IsWellFormed (make_tree root (star_body owner xs) vars [])
+pub star_formed : (root owner vars : ℕ) (xs : List ℕ) → xs ≢ [] → Distinct (root ∷ xs)
+    → IsWellFormed (make_tree root (star_body owner xs) vars [])
 star_formed root owner vars xs some d = record {
   branching = star_branching owner xs some;
   distinct = subst (λ z. Distinct (root ∷ z)) (sym (star_leaves owner xs)) d;
@@ -63,7 +65,8 @@ star_formed root owner vars xs some d = record {
   equations_below = tt;
 }
 
-pub star_is : (root owner vars : ℕ) (xs : List ℕ) (tree : PQTree) → tree ≡ make_tree root (star_body owner xs) vars [] → IsStar root xs owner vars tree
+pub star_is : (root owner vars : ℕ) (xs : List ℕ) (tree : PQTree) → tree ≡ make_tree root (star_body owner xs) vars []
+    → IsStar root xs owner vars tree
 star_is root owner vars xs tree e = subst (IsStar root xs owner vars) (sym e) (record {
   tree_is = refl;
   pairs = λ order bits. (

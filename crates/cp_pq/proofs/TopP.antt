@@ -34,7 +34,8 @@ pub record Run (q : ℕ → Bool) (ks : List Node) : Type 0 where
   pub after : list_all (has_all q) b ≡ true
 
 module _ (q p : ℕ → Bool) (opp : Opposite q p) where
-  met_full : (ks : List Node) → list_all (is_clear q p) ks ≡ true → list_all (has_all p) ks ≡ true → list_all (is_met q) ks ≡ true
+  met_full : (ks : List Node) → list_all (is_clear q p) ks ≡ true → list_all (has_all p) ks ≡ true
+      → list_all (is_met q) ks ≡ true
   met_full ks c h = all_weaker (is_clear q p) (has_all p) (is_met q) (λ k x y. ap (λ z. not z) (clear_other q p k x y)) ks c h
 
   clear_turn : (ks : List Node) → list_all (is_clear q p) ks ≡ true → list_all (is_clear p q) ks ≡ true
@@ -47,7 +48,8 @@ module _ (q p : ℕ → Bool) (opp : Opposite q p) where
       go false false h = refl
 
   -- the kids that meet the set stand side by side
-  pub run_of : (may : ℕ → Bool → Bool) (ks : List Node) (xs : List ℕ) → list_all (is_clear q p) ks ≡ true → ReadsAll may ks xs → together q p xs ≡ true → Run q ks
+  pub run_of : (may : ℕ → Bool → Bool) (ks : List Node) (xs : List ℕ) → list_all (is_clear q p) ks ≡ true
+      → ReadsAll may ks xs → together q p xs ≡ true → Run q ks
   run_of may [] xs c r t = record { a = []; c = []; b = []; is = refl; before = refl; met = refl; after = refl }
   run_of may (k ∷ ks) xs c r t =
       let h = ReadsAll_cons may k ks xs r in
@@ -70,7 +72,8 @@ module _ (q p : ℕ → Bool) (opp : Opposite q p) where
       mixed_met m h = all_weaker (is_mixed p q) (is_mixed p q) (is_met q) (λ k x y. (and_parts (not (has_all p k)) (not (has_all q k)) x).1) m h h
 
   -- the kids outside, and the others under one P-node of their own
-  pub P_grouped : (o : ℕ) (ks e c : List Node) → IsPermutation ks (e ++ c) → list_all (is_clear q p) ks ≡ true → list_all (has_all q) e ≡ true → list_all (is_met q) c ≡ true → (may : ℕ → Bool → Bool) (xs : List ℕ)
+  pub P_grouped : (o : ℕ) (ks e c : List Node) → IsPermutation ks (e ++ c) → list_all (is_clear q p) ks ≡ true
+      → list_all (has_all q) e ≡ true → list_all (is_met q) c ≡ true → (may : ℕ → Bool → Bool) (xs : List ℕ)
       → (Reads may (P o ks) xs × (together q p xs ≡ true)) ↔ (Reads may (P o (e ++ P o c ∷ [])) xs × (together q p xs ≡ true))
   P_grouped o ks e c perm clear out met may xs = (
     λ r. let t = Reads_P may o ks xs r.0 in
@@ -104,19 +107,24 @@ module _ (q p : ℕ → Bool) (opp : Opposite q p) where
       none_met : (ks : List Node) → list_all (has_all q) ks ≡ true → filter (is_met q) ks ≡ []
       none_met ks h = filter_none (is_met q) ks (all_weaker (has_all q) (has_all q) _ (λ k x y. not_met (has_all q k) x) ks h h)
 
-      keep2 : (e c : List Node) → list_all (has_all q) e ≡ true → list_all (is_met q) c ≡ true → filter (has_all q) (e ++ c) ≡ e
+      keep2 : (e c : List Node) → list_all (has_all q) e ≡ true → list_all (is_met q) c ≡ true
+          → filter (has_all q) (e ++ c) ≡ e
       keep2 e c h g = filter-append (has_all q) e c ∙ ap₂ (λ x y. x ++ y) (filter_all (has_all q) e h) (filter_none (has_all q) c g) ∙ append-nil e
 
-      met2 : (e c : List Node) → list_all (has_all q) e ≡ true → list_all (is_met q) c ≡ true → filter (is_met q) (e ++ c) ≡ c
+      met2 : (e c : List Node) → list_all (has_all q) e ≡ true → list_all (is_met q) c ≡ true
+          → filter (is_met q) (e ++ c) ≡ c
       met2 e c h g = filter-append (is_met q) e c ∙ ap₂ (λ x y. x ++ y) (none_met e h) (filter_all (is_met q) c g)
 
-      keep3 : (a c b : List Node) → list_all (has_all q) a ≡ true → list_all (is_met q) c ≡ true → list_all (has_all q) b ≡ true → filter (has_all q) (a ++ (c ++ b)) ≡ a ++ b
+      keep3 : (a c b : List Node) → list_all (has_all q) a ≡ true → list_all (is_met q) c ≡ true
+          → list_all (has_all q) b ≡ true → filter (has_all q) (a ++ (c ++ b)) ≡ a ++ b
       keep3 a c b h g i = filter-append (has_all q) a (c ++ b) ∙ ap₂ (λ x y. x ++ y) (filter_all (has_all q) a h) (filter-append (has_all q) c b ∙ ap₂ (λ x y. x ++ y) (filter_none (has_all q) c g) (filter_all (has_all q) b i))
 
-      met3 : (a c b : List Node) → list_all (has_all q) a ≡ true → list_all (is_met q) c ≡ true → list_all (has_all q) b ≡ true → filter (is_met q) (a ++ (c ++ b)) ≡ c
+      met3 : (a c b : List Node) → list_all (has_all q) a ≡ true → list_all (is_met q) c ≡ true
+          → list_all (has_all q) b ≡ true → filter (is_met q) (a ++ (c ++ b)) ≡ c
       met3 a c b h g i = filter-append (is_met q) a (c ++ b) ∙ ap₂ (λ x y. x ++ y) (none_met a h) (filter-append (is_met q) c b ∙ ap₂ (λ x y. x ++ y) (filter_all (is_met q) c g) (none_met b i)) ∙ append-nil c
 
-short_sides : (m1 m2 n1 n2 : List Node) → length m1 ≤ 1 → length m2 ≤ 1 → length n1 ≤ 1 → length n2 ≤ 1 → (m1 ≡ [] → m2 ≡ []) → IsPermutation (m1 ++ m2) (n1 ++ n2) → ((n1 ≡ m1) × (n2 ≡ m2)) ⊎ ((n1 ≡ m2) × (n2 ≡ m1))
+short_sides : (m1 m2 n1 n2 : List Node) → length m1 ≤ 1 → length m2 ≤ 1 → length n1 ≤ 1 → length n2 ≤ 1
+    → (m1 ≡ [] → m2 ≡ []) → IsPermutation (m1 ++ m2) (n1 ++ n2) → ((n1 ≡ m1) × (n2 ≡ m2)) ⊎ ((n1 ≡ m2) × (n2 ≡ m1))
 short_sides [] m2 n1 n2 a b c d nomid perm =
     let e : m2 ≡ [] = nomid refl in
     let f : n1 ++ n2 ≡ [] = short_permutation m2 (n1 ++ n2) perm b ∙ e in
@@ -144,7 +152,8 @@ short_sides (x ∷ []) (y ∷ []) (z ∷ []) (w ∷ []) a b c d nomid perm =
     flat [] after e = ap (λ v. x ∷ v) e
     flat (v ∷ before) after e = absurd cc
 
-    two : (before after : List Node) → z ∷ w ∷ [] ≡ before ++ x ∷ after → before ++ after ≡ y ∷ [] → ((z ∷ [] ≡ x ∷ []) × (w ∷ [] ≡ y ∷ [])) ⊎ ((z ∷ [] ≡ y ∷ []) × (w ∷ [] ≡ x ∷ []))
+    two : (before after : List Node) → z ∷ w ∷ [] ≡ before ++ x ∷ after → before ++ after ≡ y ∷ []
+        → ((z ∷ [] ≡ x ∷ []) × (w ∷ [] ≡ y ∷ [])) ⊎ ((z ∷ [] ≡ y ∷ []) × (w ∷ [] ≡ x ∷ []))
     two [] after e g = let h : z ≡ x = cc in let t : w ∷ [] ≡ after = cc in inl (ap (λ v. v ∷ []) h, t ∙ g)
     two (v ∷ before) after e g =
         let h : z ≡ v = cc in let k : v ≡ y = cc in let r : before ++ after ≡ [] = cc in
@@ -155,18 +164,21 @@ short_sides (x ∷ []) (y ∷ []) (z ∷ w ∷ n1) n2 a b c d nomid perm = absur
 short_sides (x ∷ []) (y ∷ z ∷ m2) n1 n2 a b c d nomid perm = absurd (omega arith)
 short_sides (x ∷ y ∷ m1) m2 n1 n2 a b c d nomid perm = absurd (omega arith)
 
-pub row_back : (o : ℕ) (l1 f l2 : List Node) → reverse (l1 ++ (group_of o f ++ reverse l2)) ≡ l2 ++ (group_of o f ++ reverse l1)
+pub row_back : (o : ℕ) (l1 f l2 : List Node)
+    → reverse (l1 ++ (group_of o f ++ reverse l2)) ≡ l2 ++ (group_of o f ++ reverse l1)
 row_back o l1 f l2 = reverse-append l1 (group_of o f ++ reverse l2) ∙ ap (λ z. z ++ reverse l1) (reverse-append (group_of o f) (reverse l2) ∙ ap₂ (λ a b. a ++ b) (reverse-reverse l2) (group_back o f)) ∙ append_assoc l2 (group_of o f) (reverse l1)
 
 module _ (q p : ℕ → Bool) (opp : Opposite q p) where
-  flip_middle : (L : (ℕ → Bool → Bool) → Type 0) (m line : List Node) → IsMiddle q p L m line → IsMiddle p q (λ may. L (turned may)) m (reverse line)
+  flip_middle : (L : (ℕ → Bool → Bool) → Type 0) (m line : List Node) → IsMiddle q p L m line
+      → IsMiddle p q (λ may. L (turned may)) m (reverse line)
   flip_middle L m line mid =
       ⊎_elim
       (λ h. inl (h.0, ap reverse h.1, λ may. h.2 (turned may)))
       (λ h. inr (h.0, h.1, h.3, h.2, like_reverse (sorted q p) (sorted p q) L (h.0 ∷ []) line (sorted_reverse q p opp) h.4))
       mid
 
-  end_row : (L : (ℕ → Bool → Bool) → Type 0) (f m line : List Node) → IsMiddle q p L m line → list_all (has_all p) f ≡ true → IsLike (sorted p q) (λ may. L (turned may)) (f ++ m) (f ++ reverse line)
+  end_row : (L : (ℕ → Bool → Bool) → Type 0) (f m line : List Node) → IsMiddle q p L m line
+      → list_all (has_all p) f ≡ true → IsLike (sorted p q) (λ may. L (turned may)) (f ++ m) (f ++ reverse line)
   end_row L f m line mid full =
       subst₂ (λ a b. IsLike (sorted p q) (λ may. L (turned may)) (f ++ a) (f ++ b)) (append-nil m) (append-nil (reverse line))
       (sorted_row p q (λ may. L (turned may)) (opposite_sym q p opp) f m [] (reverse line) (flip_middle L m line mid) full refl)
@@ -180,7 +192,9 @@ module _ (q p : ℕ → Bool) (opp : Opposite q p) where
       go false e = refl
 
   -- at most one mixed kid, kids inside, at most one mixed kid
-  pub run_row : (L M : (ℕ → Bool → Bool) → Type 0) (n1 l1 f n2 l2 : List Node) → IsMiddle q p L n1 l1 → IsMiddle q p M n2 l2 → list_all (has_all p) f ≡ true → list_all (is_met q) (n1 ++ (f ++ n2)) ≡ true → 2 ≤ length (n1 ++ (f ++ n2))
+  pub run_row : (L M : (ℕ → Bool → Bool) → Type 0) (n1 l1 f n2 l2 : List Node) → IsMiddle q p L n1 l1
+      → IsMiddle q p M n2 l2 → list_all (has_all p) f ≡ true → list_all (is_met q) (n1 ++ (f ++ n2)) ≡ true
+      → 2 ≤ length (n1 ++ (f ++ n2))
       → IsLike (together q p) (λ may. L may × M (turned may)) (n1 ++ (f ++ n2)) (l1 ++ (f ++ reverse l2))
   run_row L M n1 l1 f n2 l2 mid1 mid2 full met two =
       ⊎_elim
@@ -192,7 +206,9 @@ module _ (q p : ℕ → Bool) (opp : Opposite q p) where
            run_here q p L (λ may. M (turned may)) h.0 (f ++ n2) l1 (f ++ reverse l2) h.2 (not_all_out (f ++ n2) (and_parts _ _ met1).1 (omega arith)) h.4 (end_row M f n2 l2 mid2 full)))
       mid1
     where
-      no_first : (f : List Node) → list_all (has_all p) f ≡ true → list_all (is_met q) (f ++ n2) ≡ true → 2 ≤ length (f ++ n2) → ((may : ℕ → Bool → Bool) → L may) → IsLike (together q p) (λ may. L may × M (turned may)) (f ++ n2) (f ++ reverse l2)
+      no_first : (f : List Node) → list_all (has_all p) f ≡ true → list_all (is_met q) (f ++ n2) ≡ true
+          → 2 ≤ length (f ++ n2) → ((may : ℕ → Bool → Bool) → L may)
+          → IsLike (together q p) (λ may. L may × M (turned may)) (f ++ n2) (f ++ reverse l2)
       no_first [] full met two lic = let le = (middle_mixed q p M n2 l2 mid2).0 in absurd (omega arith)
       no_first (k ∷ f) full met two lic =
           let m = and_parts _ _ met in
@@ -227,7 +243,8 @@ module _ (q p : ℕ → Bool) (opp : Opposite q p) where
   turn_mixed false true h = h
   turn_mixed false false h = h
 
-  pub core_split : (may : ℕ → Bool → Bool) (ks : List Node) (xs : List ℕ) → list_all (is_met q) ks ≡ true → 2 ≤ length ks → ReadsAll may ks xs → together q p xs ≡ true → Core q p ks
+  pub core_split : (may : ℕ → Bool → Bool) (ks : List Node) (xs : List ℕ) → list_all (is_met q) ks ≡ true
+      → 2 ≤ length ks → ReadsAll may ks xs → together q p xs ≡ true → Core q p ks
   core_split may [] xs met two r t = absurd (omega arith)
   core_split may (k ∷ ks) xs met two r t =
       let h = ReadsAll_cons may k ks xs r in
@@ -258,25 +275,32 @@ module _ (q p : ℕ → Bool) (opp : Opposite q p) where
   mixed_fulls : (m : List Node) → list_all (is_mixed q p) m ≡ true → filter (has_all p) m ≡ []
   mixed_fulls m h = filter_none (has_all p) m (all_weaker (is_mixed q p) (is_mixed q p) _ (λ k x y. (and_parts (not (has_all q k)) (not (has_all p k)) x).1) m h h)
 
-  parts_mixed : (a b f : List Node) → list_all (is_mixed q p) a ≡ true → list_all (is_mixed q p) b ≡ true → list_all (has_all p) f ≡ true → (filter (is_mixed q p) (a ++ (b ++ f)) ≡ a ++ b) × (filter (has_all p) (a ++ (b ++ f)) ≡ f)
+  parts_mixed : (a b f : List Node) → list_all (is_mixed q p) a ≡ true → list_all (is_mixed q p) b ≡ true
+      → list_all (has_all p) f ≡ true
+      → (filter (is_mixed q p) (a ++ (b ++ f)) ≡ a ++ b) × (filter (has_all p) (a ++ (b ++ f)) ≡ f)
   parts_mixed a b f ha hb hf = (
     filter-append (is_mixed q p) a (b ++ f) ∙ ap₂ (λ x y. x ++ y) (filter_all (is_mixed q p) a ha) (filter-append (is_mixed q p) b f ∙ ap₂ (λ x y. x ++ y) (filter_all (is_mixed q p) b hb) (fulls_mixed f hf) ∙ append-nil b),
     filter-append (has_all p) a (b ++ f) ∙ ap₂ (λ x y. x ++ y) (mixed_fulls a ha) (filter-append (has_all p) b f ∙ ap₂ (λ x y. x ++ y) (mixed_fulls b hb) (filter_all (has_all p) f hf)),
   )
 
-  core_mixed : (a f b : List Node) → list_all (is_mixed q p) a ≡ true → list_all (has_all p) f ≡ true → list_all (is_mixed q p) b ≡ true → (filter (is_mixed q p) (a ++ (f ++ b)) ≡ a ++ b) × (filter (has_all p) (a ++ (f ++ b)) ≡ f)
+  core_mixed : (a f b : List Node) → list_all (is_mixed q p) a ≡ true → list_all (has_all p) f ≡ true
+      → list_all (is_mixed q p) b ≡ true
+      → (filter (is_mixed q p) (a ++ (f ++ b)) ≡ a ++ b) × (filter (has_all p) (a ++ (f ++ b)) ≡ f)
   core_mixed a f b ha hf hb = (
     filter-append (is_mixed q p) a (f ++ b) ∙ ap₂ (λ x y. x ++ y) (filter_all (is_mixed q p) a ha) (filter-append (is_mixed q p) f b ∙ ap₂ (λ x y. x ++ y) (fulls_mixed f hf) (filter_all (is_mixed q p) b hb)),
     filter-append (has_all p) a (f ++ b) ∙ ap₂ (λ x y. x ++ y) (mixed_fulls a ha) (filter-append (has_all p) f b ∙ ap₂ (λ x y. x ++ y) (filter_all (has_all p) f hf) (mixed_fulls b hb) ∙ append-nil f),
   )
 
-  regroup : (may : ℕ → Bool → Bool) (o : ℕ) (l f g r : List Node) (xs : List ℕ) → IsPermutation f g → ReadsAll may (l ++ (g ++ r)) xs → ReadsAll may (l ++ (group_of o f ++ r)) xs
+  regroup : (may : ℕ → Bool → Bool) (o : ℕ) (l f g r : List Node) (xs : List ℕ) → IsPermutation f g
+      → ReadsAll may (l ++ (g ++ r)) xs → ReadsAll may (l ++ (group_of o f ++ r)) xs
   regroup may o l f g r xs perm h =
       let x = ReadsAll_cut may l (g ++ r) xs h in
       let y = ReadsAll_cut may g r x.1 x.4 in
       subst (ReadsAll may (l ++ (group_of o f ++ r))) (ap (λ z. x.0 ++ z) (sym y.2) ∙ sym x.2) (ReadsAll_join may l (group_of o f ++ r) x.0 (y.0 ++ y.1) x.3 (ReadsAll_join may (group_of o f) r y.0 y.1 (group_reads may o f g y.0 perm y.3) y.4))
 
-  ungroup : (may : ℕ → Bool → Bool) (o : ℕ) (l f r : List Node) (xs : List ℕ) → ReadsAll may (l ++ (group_of o f ++ r)) xs → (g : List Node) × IsPermutation f g × ReadsAll may (l ++ (g ++ r)) xs
+  ungroup : (may : ℕ → Bool → Bool) (o : ℕ) (l f r : List Node) (xs : List ℕ)
+      → ReadsAll may (l ++ (group_of o f ++ r)) xs
+      → (g : List Node) × IsPermutation f g × ReadsAll may (l ++ (g ++ r)) xs
   ungroup may o l f r xs h =
       let x = ReadsAll_cut may l (group_of o f ++ r) xs h in
       let y = ReadsAll_cut may (group_of o f) r x.1 x.4 in
@@ -299,10 +323,12 @@ module _ (q p : ℕ → Bool) (opp : Opposite q p) where
     side_b : (g : List Node) → IsPermutation f g → IsPermutation c (m2 ++ (g ++ m1))
     side_b g h = IsPermutation-trans _ _ _ perm (IsPermutation-trans _ _ _ (IsPermutation-append_comm m1 (m2 ++ f)) (IsPermutation-trans _ _ _ (IsPermutation-same _ _ (append_assoc m2 f m1)) (IsPermutation-append_right m2 _ _ (IsPermutation-append_left m1 _ _ h))))
 
-    like_a : (g : List Node) → IsPermutation f g → IsLike (together q p) (λ may. L may × M (turned may)) (m1 ++ (g ++ m2)) (l1 ++ (g ++ reverse l2))
+    like_a : (g : List Node) → IsPermutation f g
+        → IsLike (together q p) (λ may. L may × M (turned may)) (m1 ++ (g ++ m2)) (l1 ++ (g ++ reverse l2))
     like_a g h = let t = met_turn _ (side_a g h) in run_row q p opp L M m1 l1 g m2 l2 mid1 mid2 (sym (list_all-IsPermutation (has_all p) f g h) ∙ full) t.0 t.1
 
-    like_b : (g : List Node) → IsPermutation f g → IsLike (together q p) (λ may. M may × L (turned may)) (m2 ++ (g ++ m1)) (l2 ++ (g ++ reverse l1))
+    like_b : (g : List Node) → IsPermutation f g
+        → IsLike (together q p) (λ may. M may × L (turned may)) (m2 ++ (g ++ m1)) (l2 ++ (g ++ reverse l1))
     like_b g h = let t = met_turn _ (side_b g h) in run_row q p opp M L m2 l2 g m1 l1 mid2 mid1 (sym (list_all-IsPermutation (has_all p) f g h) ∙ full) t.0 t.1
 
     abbrev line : List Node

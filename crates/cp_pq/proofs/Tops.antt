@@ -19,7 +19,8 @@ use Rattle.cp_pq.proofs.Mirrors.{like_reverse, mirror_row, mirror_back}
 use Rattle.cp_pq.proofs.Rows.{class_read, class_row, like_front}
 
 -- a Q-node whose row of kids is a run
-pub Q_done : (q p : ℕ → Bool) → Opposite q p → (L : (ℕ → Bool → Bool) → Type 0) (y : ℕ) (ks line : List Node) → IsLike (together q p) L ks line → IsDone q p true y L (Q y ks) (Q y line)
+pub Q_done : (q p : ℕ → Bool) → Opposite q p → (L : (ℕ → Bool → Bool) → Type 0) (y : ℕ) (ks line : List Node)
+    → IsLike (together q p) L ks line → IsDone q p true y L (Q y ks) (Q y line)
 Q_done q p opp L y ks line like = record {
   to = λ may xs r t.
       ⊎_elim
@@ -48,7 +49,8 @@ pub record Found {A : Type 0} (x : A) (ls bs ys : List A) : Type 0 where
 abbrev Finds : {A : Type 0} → List A → List A → Type 0
 Finds {A} xs ys = IsPermutation xs ys × ((x : A) (ls bs : List A) → xs ≡ ls ++ x ∷ bs → Found x ls bs ys)
 
-head_at : {A : Type 0} (x y : A) (xs ls bs : List A) → y ∷ xs ≡ ls ++ x ∷ bs → ((ls ≡ []) × (y ≡ x) × (xs ≡ bs)) ⊎ ((rest : List A) × (ls ≡ y ∷ rest) × (xs ≡ rest ++ x ∷ bs))
+head_at : {A : Type 0} (x y : A) (xs ls bs : List A) → y ∷ xs ≡ ls ++ x ∷ bs
+    → ((ls ≡ []) × (y ≡ x) × (xs ≡ bs)) ⊎ ((rest : List A) × (ls ≡ y ∷ rest) × (xs ≡ rest ++ x ∷ bs))
 head_at x y xs [] bs e = let a : y ≡ x = cc in let b : xs ≡ bs = cc in inl (refl, a, b)
 head_at x y xs (l ∷ ls) bs e = let a : l ≡ y = cc in let b : xs ≡ ls ++ x ∷ bs = cc in inr (ls, ap (λ z. z ∷ ls) a, b)
 
@@ -88,7 +90,8 @@ module _ {A : Type 0} where
   find_in xs ys h = (finds xs ys h).1
 
 -- kids outside round one kid: the set is together in the row where it is in the kid's reading
-row_to : (q p : ℕ → Bool) → Opposite q p → (old : Bool) (y : ℕ) (L : (ℕ → Bool → Bool) → Type 0) (k m : Node) → IsDone q p old y L k m
+row_to : (q p : ℕ → Bool) → Opposite q p → (old : Bool) (y : ℕ) (L : (ℕ → Bool → Bool) → Type 0) (k m : Node)
+    → IsDone q p old y L k m
     → (a b : List Node) → list_all (has_all q) a ≡ true → list_all (has_all q) b ≡ true → (may : ℕ → Bool → Bool) (xs : List ℕ) → ReadsAll may (a ++ k ∷ b) xs → together q p xs ≡ true
     → (bit : Bool) × (old ≡ true → may y bit ≡ true) × L (by_bit bit may) × ((wide : ℕ → Bool → Bool) → Wider may wide → wide y bit ≡ true → ReadsAll wide (a ++ m ∷ b) xs)
 row_to q p opp old y L k m d a b ea eb may xs r t =
@@ -100,7 +103,8 @@ row_to q p opp old y L k m d a b ea eb may xs r t =
     (g.0, g.1, g.2, λ wide w h. subst (ReadsAll wide (a ++ m ∷ b)) (ap (λ z. c.0 ++ z) (sym e.2) ∙ sym c.2)
       (ReadsAll_join wide a (m ∷ b) c.0 (e.0 ++ e.1) (read_all_wider may wide w a c.0 c.3) (more m b e.0 e.1 (g.3 wide w h) (read_all_wider may wide w b e.1 e.4))))
 
-row_fro : (q p : ℕ → Bool) → Opposite q p → (old : Bool) (y : ℕ) (L : (ℕ → Bool → Bool) → Type 0) (k m : Node) → IsDone q p old y L k m
+row_fro : (q p : ℕ → Bool) → Opposite q p → (old : Bool) (y : ℕ) (L : (ℕ → Bool → Bool) → Type 0) (k m : Node)
+    → IsDone q p old y L k m
     → (a b : List Node) → list_all (has_all q) a ≡ true → list_all (has_all q) b ≡ true → (may : ℕ → Bool → Bool) (xs : List ℕ) → ReadsAll may (a ++ m ∷ b) xs → ((bit : Bool) → may y bit ≡ true → L (by_bit bit may))
     → ReadsAll may (a ++ k ∷ b) xs × (together q p xs ≡ true)
 row_fro q p opp old y L k m d a b ea eb may xs r tie =
@@ -111,7 +115,10 @@ row_fro q p opp old y L k m d a b ea eb may xs r tie =
      ap (together q p) c.2 ∙ ap (λ z. together q p (c.0 ++ z)) e.2 ∙ together_front q p c.0 (e.0 ++ e.1) (class_row q may a c.0 c.3 ∙ ea) ∙ end_together q p opp e.0 e.1 (class_row q may b e.1 e.4 ∙ eb) g.1)
 
 -- the frame of a Q-node
-pub Q_frame : (q p : ℕ → Bool) → Opposite q p → (old : Bool) (y : ℕ) (L : (ℕ → Bool → Bool) → Type 0) (v : ℕ) (a b : List Node) (k m : Node) → list_all (has_all q) a ≡ true → list_all (has_all q) b ≡ true → IsDone q p old y L k m → IsDone q p old y L (Q v (a ++ k ∷ b)) (Q v (a ++ m ∷ b))
+pub Q_frame : (q p : ℕ → Bool) → Opposite q p
+    → (old : Bool) (y : ℕ) (L : (ℕ → Bool → Bool) → Type 0) (v : ℕ) (a b : List Node) (k m : Node)
+    → list_all (has_all q) a ≡ true → list_all (has_all q) b ≡ true → IsDone q p old y L k m
+    → IsDone q p old y L (Q v (a ++ k ∷ b)) (Q v (a ++ m ∷ b))
 Q_frame q p opp old y L v a b k m ea eb d = record {
   to = λ may xs r t.
       ⊎_elim
@@ -137,7 +144,10 @@ Q_frame q p opp old y L v a b k m ea eb d = record {
     rb = sym (list_all-IsPermutation (has_all q) b (reverse b) (IsPermutation-reverse b)) ∙ eb
 
 -- the frame of a P-node
-pub P_frame : (q p : ℕ → Bool) → Opposite q p → (old : Bool) (y : ℕ) (L : (ℕ → Bool → Bool) → Type 0) (o : ℕ) (ks es : List Node) (k m : Node) → IsPermutation ks (es ++ k ∷ []) → list_all (has_all q) es ≡ true → IsDone q p old y L k m → IsDone q p old y L (P o ks) (P o (es ++ m ∷ []))
+pub P_frame : (q p : ℕ → Bool) → Opposite q p
+    → (old : Bool) (y : ℕ) (L : (ℕ → Bool → Bool) → Type 0) (o : ℕ) (ks es : List Node) (k m : Node)
+    → IsPermutation ks (es ++ k ∷ []) → list_all (has_all q) es ≡ true → IsDone q p old y L k m
+    → IsDone q p old y L (P o ks) (P o (es ++ m ∷ []))
 P_frame q p opp old y L o ks es k m perm e d = record {
   to = λ may xs r t.
       let s = Reads_P may o ks xs r in
@@ -153,8 +163,10 @@ P_frame q p opp old y L o ks es k m perm e d = record {
       (any_order o ks (f.before ++ k ∷ f.after) xs (IsPermutation-trans _ _ _ perm (put k f.before f.after f.rest)) g.0, g.1);
 }
   where
-    sides : {n : Node} {ys : List Node} (f : Found n es [] ys) → (list_all (has_all q) f.before ≡ true) × (list_all (has_all q) f.after ≡ true)
+    sides : {n : Node} {ys : List Node} (f : Found n es [] ys)
+        → (list_all (has_all q) f.before ≡ true) × (list_all (has_all q) f.after ≡ true)
     sides f = and_parts _ _ (sym (list_all-append (has_all q) f.before f.after) ∙ sym (list_all-IsPermutation (has_all q) (es ++ []) (f.before ++ f.after) f.rest) ∙ ap (list_all (has_all q)) (append-nil es) ∙ e)
 
-    put : (n : Node) (before after : List Node) → IsPermutation (es ++ []) (before ++ after) → IsPermutation (es ++ n ∷ []) (before ++ n ∷ after)
+    put : (n : Node) (before after : List Node) → IsPermutation (es ++ []) (before ++ after)
+        → IsPermutation (es ++ n ∷ []) (before ++ n ∷ after)
     put n before after h = IsPermutation-trans _ _ _ (IsPermutation-middle es n []) (IsPermutation-trans _ _ _ (IsPermutation-cons n _ _ h) (IsPermutation-sym _ _ (IsPermutation-middle before n after)))

@@ -26,5 +26,6 @@ any_bound n = Unit {0}
 pub record Keeps (on_bound : ℕ → Type 0) (old new : List Node) : Type 0 where
   pub leaves_kept : IsPermutation (all_leaves old) (all_leaves new)
   pub branching : list_all is_branching old ≡ true → list_all is_branching new ≡ true
-  pub vars_below : (vars : ℕ) → on_bound vars → list_all (has_vars_below vars) old ≡ true → list_all (has_vars_below vars) new ≡ true
+  pub vars_below : (vars : ℕ) → on_bound vars → list_all (has_vars_below vars) old ≡ true
+      → list_all (has_vars_below vars) new ≡ true
   pub owners : Distinct (all_leaves old) → RowKeepsOwners old new

@@ -54,7 +54,8 @@ in_direction true row = reverse row
 -- the new tree has the pairs of the old one that have the row in the direction of the bit of var, with some further
 -- bits, and its shape admits the orders of the old one that have the row in either direction, at least one
 pub record IsForced (row : List ℕ) (var : ℕ) (old new : PQTree) : Type 0 where
-  pub keeps : (order : List ℕ) (bits : List Bool) → IsPair old order bits → HasRow (in_direction (bit_of bits var) row) order
+  pub keeps : (order : List ℕ) (bits : List Bool) → IsPair old order bits
+      → HasRow (in_direction (bit_of bits var) row) order
       → (more : List Bool) × IsPair new order (bits ++ more)
   pub only : (order : List ℕ) (bits : List Bool) → IsPair new order bits
       → IsPair old order (take old.vars bits) × HasRow (in_direction (bit_of bits var) row) order

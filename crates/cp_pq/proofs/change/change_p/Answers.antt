@@ -9,10 +9,12 @@ use Rattle.cp_pq.proofs.Results.{IfOk-map}
 use Rattle.cp_pq.proofs.RootLaws.{refused_P}
 use Rattle.cp_pq.proofs.change.change_p.Goals as goal
 
-three : (mixed left more : List Found) (f g : Found) (n : ℕ) → mixed ≡ left ++ f ∷ [] → left ≡ more ++ g ∷ [] → n ≡ length more → 0 < n → 3 ≤ length mixed
+three : (mixed left more : List Found) (f g : Found) (n : ℕ) → mixed ≡ left ++ f ∷ [] → left ≡ more ++ g ∷ []
+    → n ≡ length more → 0 < n → 3 ≤ length mixed
 three mixed left more f g n e h l lt = let a = length-append left (f ∷ []) in let b = ap length e in let d = length-append more (g ∷ []) in let k = ap length h in omega arith
 
-two_items : (mixed left more : List Found) (f g : Found) (n : ℕ) → mixed ≡ left ++ f ∷ [] → left ≡ more ++ g ∷ [] → n ≡ length more → n ≤ 0 → mixed ≡ g ∷ f ∷ []
+two_items : (mixed left more : List Found) (f g : Found) (n : ℕ) → mixed ≡ left ++ f ∷ [] → left ≡ more ++ g ∷ []
+    → n ≡ length more → n ≤ 0 → mixed ≡ g ∷ f ∷ []
 two_items mixed left [] f g n e h l le = e ∙ ap (λ z. z ++ f ∷ []) h
 two_items mixed left (x ∷ more) f g n e h l le = absurd (omega arith)
 

@@ -3,7 +3,8 @@ use Rattle.cp_pq.specs.declared.found.Found.{Found}
 use Rattle.cp_pq.proofs.Closes.{close_many}
 use Rattle.cp_pq.proofs.close.close_p.Goals as goal
 
-many : (mixed left : List Found) (f : Found) (n : ℕ) → mixed ≡ left ++ f ∷ [] → n ≡ length left → 0 < n → 2 ≤ length mixed
+many : (mixed left : List Found) (f : Found) (n : ℕ) → mixed ≡ left ++ f ∷ [] → n ≡ length left → 0 < n
+    → 2 ≤ length mixed
 many mixed left f n e l lt = let a = length-append left (f ∷ []) in let b = ap length e in omega arith
 
 pub returns-then-len-gt0 : goal.returns-then-len-gt0

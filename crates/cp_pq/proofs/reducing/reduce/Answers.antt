@@ -15,7 +15,8 @@ use Rattle.cp_pq.proofs.SetInTrees.{root_apart, whole_count, some_items, not_ope
 use Rattle.cp_pq.proofs.reducing.reduce.Goals as goal
 
 -- what the step on the body says
-step_is : (set : List ℕ) (tree : PQTree) (total : ℕ) (step : Step) → IsWellFormed tree → IsLeafSet set tree → total ≡ length set
+step_is : (set : List ℕ) (tree : PQTree) (total : ℕ) (step : Step) → IsWellFormed tree → IsLeafSet set tree
+    → total ≡ length set
     → (IsStrictlyIncreasing set → is_branching tree.body ≡ true → 0 < total → count_in (inside set) tree.body ≤ total → IsStep (outside set) (inside set) total tree.body step)
     → IsStep (outside set) (inside set) total tree.body step × (count_in (inside set) tree.body ≡ total)
 step_is set tree total step wf s e f =
@@ -68,6 +69,7 @@ returns-clause-refused c =
     subst (λ t. IfErr c.reduced_at.result (λ x. x ≡ NotConsecutive → IsNeverConsecutive c.args.set.now t)) (sym e)
     (of_err c.reduced_at.result c.reduced_at.ensures.refused (λ x h z. h z tree.body c.args.set.now wf (root_apart c.args.set.now tree wf s) at))
   where
-    of_err : {S T : ReduceFault → Type 0} (r : Result PQTree ReduceFault) → IfErr r S → ((x : ReduceFault) → S x → T x) → IfErr r T
+    of_err : {S T : ReduceFault → Type 0} (r : Result PQTree ReduceFault) → IfErr r S → ((x : ReduceFault) → S x → T x)
+        → IfErr r T
     of_err (Ok t) h f = tt
     of_err (Err x) h f = f x h
