@@ -1,5 +1,5 @@
 -- What a Q-node is, from what its kids are.
-use Rattle.std.proofs.Common.{◌≡◌, ℕ, ◌≤◌, Bool, true, false, cond, not, ◌&&◌, ◌↔◌, List, [], ◌∷◌, ◌++◌, length, reverse, refl, sym, ap, ap₂, ◌∙◌, subst, subst₂, arith, IsPermutation}
+use Rattle.std.proofs.Common.{◌≡◌, ℕ, ◌≤◌, Bool, true, false, cond, List, [], ◌∷◌, ◌++◌, length, reverse, sym, ap, ◌∙◌, subst, subst₂, arith, IsPermutation}
 use Rattle.std.specs.List.{list_all, list_any, AllZip}
 use Rattle.std.proofs.lemmas.Bool.{both_ways, and_parts}
 use Rattle.std.proofs.lemmas.List.Sorted.{IsPermutation-refl, IsPermutation-reverse}
@@ -56,11 +56,14 @@ module _ (q p : ℕ → Bool) (v : ℕ) (ks : List Node) (fs : List Found) (z : 
       → reverse front ++ back ≡ flat_line gs → ts ≡ flat_ties (reverse gs) ++ (v, b) ∷ [] → t ≡ list_any is_torn gs
       → IsGiven q p (Q v ks) (cond t Found.Torn (Found.Line front back ts))
   line_or_torn b js gs front back ts true zz perm like nout nin e1 e2 e = (nout, nin, λ may xs r s. grants_torn may gs (sym e) ((like may xs).0 (r, s)).0.1)
-  line_or_torn b js gs front back ts false zz perm like nout nin e1 e2 e = (nout, nin,
-      subst₂ (λ line us. IsLike (sorted q p) (λ may. Licensed false may us) (Q v ks ∷ []) line) (sym e1) (sym e2)
+  line_or_torn b js gs front back ts false zz perm like nout nin e1 e2 e = (
+    nout,
+    nin,
+    subst₂ (λ line us. IsLike (sorted q p) (λ may. Licensed false may us) (Q v ks ∷ []) line) (sym e1) (sym e2)
         (like_again (sorted q p) (λ may. (may v b ≡ true) × Grants may gs) (λ may. Licensed false may (flat_ties (reverse gs) ++ (v, b) ∷ [])) (Q v ks ∷ []) (flat_line gs)
-          (λ may. let g = grants_licensed may gs ((v, b) ∷ []) (sym e) in (λ x. g.0 ((x.0, tt), x.1), λ x. let h = g.1 x in (h.0.0, h.1))) like),
-      subst (Keeps any_bound (Q v ks ∷ [])) (sym e1) (Keeps_trans any_bound _ _ _ (Keeps_kids_of_Q any_bound v ks) (Keeps_trans any_bound _ _ _ (Keeps_permuted any_bound ks js perm) (zip_keeps q p js gs zz (sym e)))))
+        (λ may. let g = grants_licensed may gs ((v, b) ∷ []) (sym e) in (λ x. g.0 ((x.0, tt), x.1), λ x. let h = g.1 x in (h.0.0, h.1))) like),
+    subst (Keeps any_bound (Q v ks ∷ [])) (sym e1) (Keeps_trans any_bound _ _ _ (Keeps_kids_of_Q any_bound v ks) (Keeps_trans any_bound _ _ _ (Keeps_permuted any_bound ks js perm) (zip_keeps q p js gs zz (sym e)))),
+  )
 
   pub row_forward : Opposite q p → list_all is_out fs ≡ false → list_all is_in fs ≡ false → found_sorted fs ≡ true
       → (front back : List Node) (ts : List (ℕ × Bool)) (t : Bool)

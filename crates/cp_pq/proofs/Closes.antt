@@ -1,17 +1,16 @@
 -- What a P-node is, by the kinds of its kids.
-use Rattle.std.proofs.Common.{◌≡◌, ℕ, ◌<◌, ◌≤◌, Bool, true, false, cond, not, ◌&&◌, ◌↔◌, ◌⊎◌, List, [], ◌∷◌, ◌++◌, length, filter, reverse, refl, sym, ap, ap₂, ◌∙◌, subst, subst₂, inl, inr, ⊎_elim, append_assoc, append-nil, arith, IsPermutation}
+use Rattle.std.proofs.Common.{◌≡◌, ℕ, ◌<◌, ◌≤◌, Bool, true, false, cond, not, ◌&&◌, List, [], ◌∷◌, ◌++◌, length, filter, reverse, refl, sym, ap, ◌∙◌, subst, subst₂, inl, inr, arith, IsPermutation}
 use Rattle.std.specs.List.{list_all}
-use Rattle.std.proofs.lemmas.Bool.{both_ways, true≢false, false≢true, cases_Bool, and_parts, and_from}
+use Rattle.std.proofs.lemmas.Bool.{both_ways, false≢true, and_parts}
 use Rattle.std.proofs.lemmas.List.Sorted.{IsPermutation-refl, IsPermutation-sym, IsPermutation-trans, IsPermutation-cons, IsPermutation-middle, IsPermutation-append_right}
 use Rattle.cp_pq.specs.declared.node.Node.{Node}
-use Rattle.cp_pq.specs.declared.node.Node.TheVariants.{Leaf, P, Q}
+use Rattle.cp_pq.specs.declared.node.Node.TheVariants.{P, Q}
 use Rattle.cp_pq.specs.declared.found.Found.{Found}
-use Rattle.cp_pq.specs.Nodes.{leaves, all_leaves}
-use Rattle.cp_pq.specs.Words.{Opposite, sorted, has_all, Licensed, IsLike, group_of, is_clear, IsNever, is_mixed}
+use Rattle.cp_pq.specs.Words.{Opposite, sorted, has_all, Licensed, IsLike, group_of, IsNever, is_mixed}
 use Rattle.cp_pq.specs.Founds.{IsGiven, Sorts}
 use Rattle.cp_pq.specs.Keeping.{any_bound, Keeps}
 use Rattle.cp_pq.proofs.NodeLayers.{leaves_P, leaves_Q}
-use Rattle.cp_pq.proofs.Permutations.{IsPermutation-same, filter_all, filter_none, all_filter}
+use Rattle.cp_pq.proofs.Permutations.{filter_all, filter_none, all_filter}
 use Rattle.cp_pq.proofs.Rows.{row_all}
 use Rattle.cp_pq.proofs.Lines.{IsMiddle, Sorting, P_line, P_never, all_weaker}
 use Rattle.cp_pq.proofs.KeepingLaws.{Keeps_refl, Keeps_trans, Keeps_append, Keeps_grouped}
@@ -29,6 +28,7 @@ has_all_Q p o ks = ap (list_all p) (leaves_Q o ks) ∙ row_all p ks
 module _ (f g : Node → Bool) where
   abbrev pub clear_of : Node → Bool
   clear_of k = not (f k && g k)
+
   abbrev pub mixed_of : Node → Bool
   mixed_of k = not (f k) && not (g k)
 
@@ -76,6 +76,7 @@ module _ (f g : Node → Bool) where
       second true true a b = absurd (false≢true a)
       second true false a b = refl
       second false y a b = absurd (false≢true b)
+
       mix : (x y : Bool) → x ≡ true → not (not x && not y) ≡ true
       mix true y a = refl
       mix false y a = absurd (false≢true a)
@@ -88,6 +89,7 @@ module _ (f g : Node → Bool) where
       first true true a b = absurd (false≢true a)
       first false y a b = refl
       first true false a b = absurd (false≢true b)
+
       mix : (x y : Bool) → y ≡ true → not (not x && not y) ≡ true
       mix true y a = refl
       mix false true a = refl
@@ -125,18 +127,20 @@ module _ (q p : ℕ → Bool) (o : ℕ) (ks outs ins : List Node) (mixed : List 
   pub close_out : 2 ≤ length ks → mixed ≡ [] → ins ≡ [] → IsGiven q p (P o ks) (Found.Out (P o outs))
   close_out two m none =
       let all = all_first (has_all q) (has_all p) ks (sym h.ins_are ∙ none) (no_mixed m) in
-      let kept : filter (has_all q) ks ≡ ks = filter_all (has_all q) ks all in
-      (has_all_P q o ks ∙ all,
-       has_all_P p o ks ∙ false_unless _ (λ x. some_one (has_all q) ks kept (omega arith) (none_first (has_all q) (has_all p) ks h.clear x).0),
-       ap (λ z. P o z) (h.outs_are ∙ kept))
+      let kept : filter (has_all q) ks ≡ ks = filter_all (has_all q) ks all in (
+        has_all_P q o ks ∙ all,
+        has_all_P p o ks ∙ false_unless _ (λ x. some_one (has_all q) ks kept (omega arith) (none_first (has_all q) (has_all p) ks h.clear x).0),
+        ap (λ z. P o z) (h.outs_are ∙ kept),
+      )
 
   pub close_in : 2 ≤ length ks → mixed ≡ [] → outs ≡ [] → IsGiven q p (P o ks) (Found.In (P o ins))
   close_in two m none =
       let all = all_second (has_all q) (has_all p) ks (sym h.outs_are ∙ none) (no_mixed m) in
-      let kept : filter (has_all p) ks ≡ ks = filter_all (has_all p) ks all in
-      (has_all_P q o ks ∙ false_unless _ (λ x. some_one (has_all p) ks kept (omega arith) (none_second (has_all q) (has_all p) ks h.clear x).0),
-       has_all_P p o ks ∙ all,
-       ap (λ z. P o z) (h.ins_are ∙ kept))
+      let kept : filter (has_all p) ks ≡ ks = filter_all (has_all p) ks all in (
+        has_all_P q o ks ∙ false_unless _ (λ x. some_one (has_all p) ks kept (omega arith) (none_second (has_all q) (has_all p) ks h.clear x).0),
+        has_all_P p o ks ∙ all,
+        ap (λ z. P o z) (h.ins_are ∙ kept),
+      )
 
   sorting : (L : (ℕ → Bool → Bool) → Type 0) (line : List Node) → IsMiddle q p L (filter (is_mixed q p) ks) line
       → Sorting q p L ks (filter (has_all q) ks) (filter (is_mixed q p) ks) (filter (has_all p) ks) line
@@ -159,7 +163,7 @@ module _ (q p : ℕ → Bool) (o : ℕ) (ks outs ins : List Node) (mixed : List 
       → Keeps any_bound (P o ks ∷ []) (group_of o outs ++ (line ++ group_of o ins))
   keeps_line line k = subst₂ (λ a b. Keeps any_bound (P o ks ∷ []) (group_of o a ++ (line ++ group_of o b))) (sym h.outs_are) (sym h.ins_are)
       (Keeps_trans any_bound _ _ _ (Keeps_grouped any_bound o ks (filter (has_all q) ks) (filter (is_mixed q p) ks) (filter (has_all p) ks) (sort_kinds (has_all q) (has_all p) ks h.clear))
-        (Keeps_append any_bound _ _ _ _ (Keeps_refl any_bound (group_of o (filter (has_all q) ks))) (Keeps_append any_bound _ _ _ _ k (Keeps_refl any_bound (group_of o (filter (has_all p) ks))))))
+      (Keeps_append any_bound _ _ _ _ (Keeps_refl any_bound (group_of o (filter (has_all q) ks))) (Keeps_append any_bound _ _ _ _ k (Keeps_refl any_bound (group_of o (filter (has_all p) ks))))))
 
   like_line : (L : (ℕ → Bool → Bool) → Type 0) (line : List Node) → Opposite q p
       → IsMiddle q p L (filter (is_mixed q p) ks) line
@@ -170,21 +174,24 @@ module _ (q p : ℕ → Bool) (o : ℕ) (ks outs ins : List Node) (mixed : List 
   pub close_two : Opposite q p → mixed ≡ [] → (ins ≡ [] → ⊥) → (outs ≡ [] → ⊥)
       → (front back : List Node) (ties : List (ℕ × Bool)) → ties ≡ []
       → reverse front ++ back ≡ group_of o outs ++ ([] ++ group_of o ins) → IsGiven q p (P o ks) (Found.Line front back ties)
-  close_two opp m some_in some_out front back ties none e =
-      (has_all_P q o ks ∙ false_unless _ (λ x. some_in (h.ins_are ∙ (none_second (has_all q) (has_all p) ks h.clear x).0)),
-       has_all_P p o ks ∙ false_unless _ (λ x. some_out (h.outs_are ∙ (none_first (has_all q) (has_all p) ks h.clear x).0)),
-       subst₂ (λ z ts. IsLike (sorted q p) (λ may. Licensed false may ts) (P o ks ∷ []) z) (sym e) (sym none) (like_line (λ may. Unit {0}) [] opp (inl (no_mixed m, refl, λ may. tt))),
-       subst (Keeps any_bound (P o ks ∷ [])) (sym e) (keeps_line [] (subst (λ z. Keeps any_bound z []) (sym (no_mixed m)) (Keeps_refl any_bound []))))
+  close_two opp m some_in some_out front back ties none e = (
+    has_all_P q o ks ∙ false_unless _ (λ x. some_in (h.ins_are ∙ (none_second (has_all q) (has_all p) ks h.clear x).0)),
+    has_all_P p o ks ∙ false_unless _ (λ x. some_out (h.outs_are ∙ (none_first (has_all q) (has_all p) ks h.clear x).0)),
+    subst₂ (λ z ts. IsLike (sorted q p) (λ may. Licensed false may ts) (P o ks ∷ []) z) (sym e) (sym none) (like_line (λ may. Unit {0}) [] opp (inl (no_mixed m, refl, λ may. tt))),
+    subst (Keeps any_bound (P o ks ∷ [])) (sym e) (keeps_line [] (subst (λ z. Keeps any_bound z []) (sym (no_mixed m)) (Keeps_refl any_bound []))),
+  )
 
   pub close_line : Opposite q p → (f b : List Node) (ties : List (ℕ × Bool)) → mixed ≡ Found.Line f b ties ∷ []
       → (front back : List Node)
       → reverse front ++ back ≡ group_of o outs ++ ((reverse f ++ b) ++ group_of o ins) → IsGiven q p (P o ks) (Found.Line front back ties)
   close_line opp f b ties m front back e =
       let g = zip_one q p (filter (is_mixed q p) ks) (Found.Line f b ties) (subst (AllZip (IsGiven q p) (filter (is_mixed q p) ks)) m h.mixed_are) in
-      let torn = torn_by (λ z. let x : g.0 ∷ [] ≡ [] = sym g.1 ∙ z in absurd cc) in
-      (torn.0, torn.1,
-       subst (IsLike (sorted q p) (λ may. Licensed false may ties) (P o ks ∷ [])) (sym e) (like_line (λ may. Licensed false may ties) (reverse f ++ b) opp (inr (g.0, g.1, g.2.0, g.2.1, g.2.2))),
-       subst (Keeps any_bound (P o ks ∷ [])) (sym e) (keeps_line (reverse f ++ b) (subst (λ z. Keeps any_bound z (reverse f ++ b)) (sym g.1) g.2.3)))
+      let torn = torn_by (λ z. let x : g.0 ∷ [] ≡ [] = sym g.1 ∙ z in absurd cc) in (
+        torn.0,
+        torn.1,
+        subst (IsLike (sorted q p) (λ may. Licensed false may ties) (P o ks ∷ [])) (sym e) (like_line (λ may. Licensed false may ties) (reverse f ++ b) opp (inr (g.0, g.1, g.2.0, g.2.1, g.2.2))),
+        subst (Keeps any_bound (P o ks ∷ [])) (sym e) (keeps_line (reverse f ++ b) (subst (λ z. Keeps any_bound z (reverse f ++ b)) (sym g.1) g.2.3)),
+      )
 
   pub close_torn : Opposite q p → mixed ≡ Found.Torn ∷ [] → IsGiven q p (P o ks) Found.Torn
   close_torn opp m =

@@ -1,7 +1,7 @@
 -- Sets that are consecutive in an order, and words with the set together.
-use Rattle.std.proofs.Common.{◌≡◌, ℕ, Bool, true, false, cond, not, ◌&&◌, List, [], ◌∷◌, ◌++◌, refl, sym, ap, ◌∙◌, subst, ⊎_elim, inl, inr}
+use Rattle.std.proofs.Common.{◌≡◌, ℕ, Bool, true, false, cond, not, List, [], ◌∷◌, ◌++◌, refl, sym, ap, ◌∙◌, ⊎_elim}
 use Rattle.std.specs.List.{list_all}
-use Rattle.std.proofs.lemmas.Bool.{both_ways, true≢false, false≢true, cases_Bool, and_parts, and_from}
+use Rattle.std.proofs.lemmas.Bool.{both_ways, true≢false, cases_Bool, and_parts, and_from}
 use Rattle.cp_pq.specs.Orders.{inside, outside, IsConsecutive}
 use Rattle.cp_pq.specs.Words.{Opposite, sorted, together}
 use Rattle.cp_pq.proofs.WordLaws.{sorted_front, sorted_last, together_front, together_all, opposite_sym}
@@ -50,7 +50,7 @@ run_part set [] s = ([], [], refl, refl, refl)
 run_part set (x ∷ word) s =
     ⊎_elim
     (λ i. let g = run_part set word (sym (ap (λ b. cond b (sorted (inside set) (outside set) word) (list_all (outside set) word)) i) ∙ s) in
-        (x ∷ g.0, g.1, ap (λ z. x ∷ z) g.2, and_from (inside set x) (list_all (inside set) g.0) i g.3, g.4))
+    (x ∷ g.0, g.1, ap (λ z. x ∷ z) g.2, and_from (inside set x) (list_all (inside set) g.0) i g.3, g.4))
     (λ i. ([], x ∷ word, refl, refl, and_from (outside set x) (list_all (outside set) word) (ap (λ b. not b) i) (sym (ap (λ b. cond b (sorted (inside set) (outside set) word) (list_all (outside set) word)) i) ∙ s)))
     (cases_Bool (inside set x))
 
@@ -59,9 +59,9 @@ word_parts set [] t = record { before = []; run = []; after = []; is = refl; out
 word_parts set (x ∷ word) t =
     ⊎_elim
     (λ o. let g = word_parts set word (sym (ap (λ b. cond b (together (outside set) (inside set) word) (sorted (inside set) (outside set) word)) o) ∙ t) in
-        record { before = x ∷ g.before; run = g.run; after = g.after; is = ap (λ z. x ∷ z) g.is; out = and_from (outside set x) (list_all (outside set) g.before) o g.out; full = g.full; rest = g.rest })
+    record { before = x ∷ g.before; run = g.run; after = g.after; is = ap (λ z. x ∷ z) g.is; out = and_from (outside set x) (list_all (outside set) g.before) o g.out; full = g.full; rest = g.rest })
     (λ o. let g = run_part set word (sym (ap (λ b. cond b (together (outside set) (inside set) word) (sorted (inside set) (outside set) word)) o) ∙ t) in
-        record { before = []; run = x ∷ g.0; after = g.1; is = ap (λ z. x ∷ z) g.2; out = refl; full = and_from (inside set x) (list_all (inside set) g.0) (in_of (inside set x) o) g.3; rest = g.4 })
+    record { before = []; run = x ∷ g.0; after = g.1; is = ap (λ z. x ∷ z) g.2; out = refl; full = and_from (inside set x) (list_all (inside set) g.0) (in_of (inside set x) o) g.3; rest = g.4 })
     (cases_Bool (outside set x))
   where
     in_of : (b : Bool) → not b ≡ false → b ≡ true

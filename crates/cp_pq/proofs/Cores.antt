@@ -1,26 +1,25 @@
 -- The kids of a P-node that meet the set, put under a Q-node with a new var.
-use Rattle.std.proofs.Common.{◌≡◌, ℕ, ◌+◌, ◌<◌, ◌≤◌, Bool, true, false, cond, not, ◌&&◌, ◌||◌, ◌↔◌, ◌⊎◌, List, [], ◌∷◌, ◌++◌, length, length-append, map, filter, reverse, refl, sym, ap, ap₂, ◌∙◌, subst, subst₂, inl, inr, ⊎_elim, append_assoc, append-nil, arith, IsPermutation}
+use Rattle.std.proofs.Common.{◌≡◌, ℕ, ◌<◌, ◌≤◌, Bool, true, false, cond, not, ◌&&◌, ◌||◌, ◌↔◌, List, [], ◌∷◌, ◌++◌, length, length-append, map, filter, reverse, refl, sym, ap, ap₂, ◌∙◌, subst, subst₂, inl, inr, append-nil, arith, IsPermutation}
 use Rattle.std.specs.List.{list_all, list_any, AllZip}
-use Rattle.std.proofs.lemmas.Bool.{both_ways, true≢false, false≢true, cases_Bool, and_parts, and_from}
+use Rattle.std.proofs.lemmas.Bool.{both_ways, true≢false, false≢true, and_parts}
 use Rattle.std.proofs.lemmas.List.{reverse-append, reverse-reverse}
 use Rattle.std.proofs.lemmas.List.Concat.{flat_map-append}
-use Rattle.std.proofs.lemmas.List.Elements.{filter-append}
-use Rattle.std.proofs.lemmas.List.Sorted.{IsPermutation-refl, IsPermutation-sym, IsPermutation-trans, IsPermutation-cons, IsPermutation-middle, IsPermutation-append_right, IsPermutation-append_comm, length_permutation}
+use Rattle.std.proofs.lemmas.List.Sorted.{IsPermutation-refl, IsPermutation-sym, IsPermutation-trans, IsPermutation-cons, IsPermutation-middle, IsPermutation-append_comm, length_permutation}
 use Rattle.cp_pq.specs.declared.node.Node.{Node}
 use Rattle.cp_pq.specs.declared.node.Node.TheVariants.{P, Q}
 use Rattle.cp_pq.specs.declared.found.Found.{Found}
-use Rattle.cp_pq.specs.Words.{Opposite, sorted, together, has_all, Licensed, IsLike, turned, IsNever, is_mixed, is_met, is_clear, group_of}
+use Rattle.cp_pq.specs.Words.{Opposite, sorted, has_all, Licensed, turned, is_mixed, is_met, is_clear, group_of}
 use Rattle.cp_pq.specs.Bits.{flip}
 use Rattle.cp_pq.specs.Changes.{by_bit, IsDone}
-use Rattle.cp_pq.specs.Founds.{IsGiven, Sorts, is_torn, line_of, flat_line, turn_ties, turn_found}
+use Rattle.cp_pq.specs.Founds.{IsGiven, Sorts, is_torn, line_of, flat_line, turn_found}
 use Rattle.cp_pq.specs.Keeping.{any_bound, Keeps}
 use Rattle.cp_pq.specs.Grants.{Grant, Grants}
 use Rattle.cp_pq.specs.Roots.{IsCore}
-use Rattle.cp_pq.proofs.Permutations.{IsPermutation-same, IsPermutation-filter, filter_all, filter_none, all_filter, list_all-IsPermutation}
+use Rattle.cp_pq.proofs.Permutations.{all_filter}
 use Rattle.cp_pq.proofs.Mirrors.{turned_licence, licence_turned, ties_turned, turned_ties}
-use Rattle.cp_pq.proofs.Lines.{IsMiddle, all_weaker}
-use Rattle.cp_pq.proofs.Closes.{never_like, sort_kinds}
-use Rattle.cp_pq.proofs.Zips.{zip_keeps, zip_long, clear_other}
+use Rattle.cp_pq.proofs.Lines.{IsMiddle}
+use Rattle.cp_pq.proofs.Closes.{never_like}
+use Rattle.cp_pq.proofs.Zips.{zip_keeps, zip_long}
 use Rattle.cp_pq.proofs.Runs.{given_turn}
 use Rattle.cp_pq.proofs.KeepingLaws.{Keeps_refl, Keeps_weaken, Keeps_trans, Keeps_append, Keeps_permuted, Keeps_grouped, Keeps_into_Q}
 use Rattle.cp_pq.proofs.TopP.{middle_done}
@@ -187,9 +186,9 @@ module _ (q p : ℕ → Bool) (opp : Opposite q p) (y o : ℕ) (ks outs ins : Li
       made : IsDone q p false y (λ may. Grants may (f ∷ map Found.In (group_of o ins))) (P o (filter (is_met q) ks)) (Q y (flat_line (f ∷ map Found.In (group_of o ins))))
       made = subst (λ z. IsDone q p false y (λ may. Grants may (f ∷ map Found.In (group_of o ins))) (P o (filter (is_met q) ks)) (Q y z)) line
           (done_again q p false y (λ may. Grant may f × Unit {0}) (λ may. Grants may (f ∷ map Found.In (group_of o ins))) (P o (filter (is_met q) ks)) _
-            (λ may. (λ x. (x.0, grants_ins may (group_of o ins)), λ x. (x.0, tt)))
-            (middle_done q p opp o y (λ may. Grant may f) (λ may. Unit {0}) (filter (is_met q) ks) (h.0 ∷ []) (line_of f) [] [] ins
-              (λ may. (λ x. x, λ x. x)) perm all_met full (middle_of q p opp h.0 f mixed h.2) (inl (refl, refl, λ may. tt)) (λ x. absurd cc) two))
+          (λ may. (λ x. (x.0, grants_ins may (group_of o ins)), λ x. (x.0, tt)))
+          (middle_done q p opp o y (λ may. Grant may f) (λ may. Unit {0}) (filter (is_met q) ks) (h.0 ∷ []) (line_of f) [] [] ins
+          (λ may. (λ x. x, λ x. x)) perm all_met full (middle_of q p opp h.0 f mixed h.2) (inl (refl, refl, λ may. tt)) (λ x. absurd cc) two))
 
       kept : list_any is_torn (f ∷ map Found.In (group_of o ins)) ≡ false
           → Keeps (λ n. y < n) (P o (filter (is_met q) ks) ∷ []) (Q y (flat_line (f ∷ map Found.In (group_of o ins))) ∷ [])
@@ -202,9 +201,9 @@ module _ (q p : ℕ → Bool) (opp : Opposite q p) (y o : ℕ) (ks outs ins : Li
           let long : 2 ≤ length (line_of f ++ group_of o ins) = omega (arith, l2, l3, l4) in
           subst (λ z. Keeps (λ n. y < n) (P o (filter (is_met q) ks) ∷ []) (Q y z ∷ [])) (ap (λ z. line_of f ++ z) (sym (flat_ins (group_of o ins))))
           (Keeps_trans (λ n. y < n) _ _ _
-            (Keeps_weaken (λ n. y < n) _ _ (Keeps_trans any_bound _ _ _ (Keeps_grouped any_bound o (filter (is_met q) ks) [] (h.0 ∷ []) ins perm)
-              (Keeps_append any_bound (h.0 ∷ []) (line_of f) (group_of o ins) (group_of o ins) k.0 (Keeps_refl any_bound (group_of o ins)))))
-            (Keeps_into_Q y (line_of f ++ group_of o ins) long))
+          (Keeps_weaken (λ n. y < n) _ _ (Keeps_trans any_bound _ _ _ (Keeps_grouped any_bound o (filter (is_met q) ks) [] (h.0 ∷ []) ins perm)
+          (Keeps_append any_bound (h.0 ∷ []) (line_of f) (group_of o ins) (group_of o ins) k.0 (Keeps_refl any_bound (group_of o ins)))))
+          (Keeps_into_Q y (line_of f ++ group_of o ins) long))
 
   pub core_two : (f g : Found) (row : List Found) → Sorts q p ks outs ins (f ∷ g ∷ [])
       → 2 ≤ length (filter (is_met q) ks)
@@ -246,9 +245,9 @@ module _ (q p : ℕ → Bool) (opp : Opposite q p) (y o : ℕ) (ks outs ins : Li
       made : IsDone q p false y (λ may. Grants may (f ∷ (map Found.In (group_of o ins) ++ turn_found g ∷ []))) (P o (filter (is_met q) ks)) (Q y (flat_line (f ∷ (map Found.In (group_of o ins) ++ turn_found g ∷ []))))
       made = subst (λ z. IsDone q p false y (λ may. Grants may (f ∷ (map Found.In (group_of o ins) ++ turn_found g ∷ []))) (P o (filter (is_met q) ks)) (Q y z)) line
           (done_again q p false y (λ may. Grant may f × Grant (turned may) g) (λ may. Grants may (f ∷ (map Found.In (group_of o ins) ++ turn_found g ∷ []))) (P o (filter (is_met q) ks)) _
-            (λ may. let t = grant_turn g may in let r = grants_row may (group_of o ins) in (λ x. (x.0, r.0 (t.0 x.1)), λ x. (x.0, t.1 (r.1 x.1))))
-            (middle_done q p opp o y (λ may. Grant may f) (λ may. Grant may g) (filter (is_met q) ks) (h.0 ∷ []) (line_of f) (h.1 ∷ []) (line_of g) ins
-              (grant_twice g) perm all_met full (middle_of q p opp h.0 f both.0 h.3) (middle_of q p opp h.1 g second h.4) (λ x. absurd cc) two))
+          (λ may. let t = grant_turn g may in let r = grants_row may (group_of o ins) in (λ x. (x.0, r.0 (t.0 x.1)), λ x. (x.0, t.1 (r.1 x.1))))
+          (middle_done q p opp o y (λ may. Grant may f) (λ may. Grant may g) (filter (is_met q) ks) (h.0 ∷ []) (line_of f) (h.1 ∷ []) (line_of g) ins
+          (grant_twice g) perm all_met full (middle_of q p opp h.0 f both.0 h.3) (middle_of q p opp h.1 g second h.4) (λ x. absurd cc) two))
 
       kept : list_any is_torn (f ∷ (map Found.In (group_of o ins) ++ turn_found g ∷ [])) ≡ false
           → Keeps (λ n. y < n) (P o (filter (is_met q) ks) ∷ []) (Q y (flat_line (f ∷ (map Found.In (group_of o ins) ++ turn_found g ∷ []))) ∷ [])
@@ -263,8 +262,8 @@ module _ (q p : ℕ → Bool) (opp : Opposite q p) (y o : ℕ) (ks outs ins : Li
           let turn : IsPermutation (h.0 ∷ h.1 ∷ group_of o ins) (h.0 ∷ (group_of o ins ++ h.1 ∷ [])) = IsPermutation-cons h.0 _ _ (IsPermutation-append_comm (h.1 ∷ []) (group_of o ins)) in
           subst (λ z. Keeps (λ n. y < n) (P o (filter (is_met q) ks) ∷ []) (Q y z ∷ [])) (sym flat_row)
           (Keeps_trans (λ n. y < n) _ _ _
-            (Keeps_weaken (λ n. y < n) _ _ (Keeps_trans any_bound _ _ _ (Keeps_grouped any_bound o (filter (is_met q) ks) [] (h.0 ∷ h.1 ∷ []) ins perm)
-              (Keeps_trans any_bound _ _ _ (Keeps_permuted any_bound (h.0 ∷ h.1 ∷ group_of o ins) (h.0 ∷ (group_of o ins ++ h.1 ∷ [])) turn)
-              (Keeps_append any_bound (h.0 ∷ []) (line_of f) (group_of o ins ++ h.1 ∷ []) (group_of o ins ++ line_of (turn_found g)) k.0
-                (Keeps_append any_bound (group_of o ins) (group_of o ins) (h.1 ∷ []) (line_of (turn_found g)) (Keeps_refl any_bound (group_of o ins)) j.0)))))
-            (Keeps_into_Q y (line_of f ++ (group_of o ins ++ line_of (turn_found g))) long))
+          (Keeps_weaken (λ n. y < n) _ _ (Keeps_trans any_bound _ _ _ (Keeps_grouped any_bound o (filter (is_met q) ks) [] (h.0 ∷ h.1 ∷ []) ins perm)
+          (Keeps_trans any_bound _ _ _ (Keeps_permuted any_bound (h.0 ∷ h.1 ∷ group_of o ins) (h.0 ∷ (group_of o ins ++ h.1 ∷ [])) turn)
+          (Keeps_append any_bound (h.0 ∷ []) (line_of f) (group_of o ins ++ h.1 ∷ []) (group_of o ins ++ line_of (turn_found g)) k.0
+          (Keeps_append any_bound (group_of o ins) (group_of o ins) (h.1 ∷ []) (line_of (turn_found g)) (Keeps_refl any_bound (group_of o ins)) j.0)))))
+          (Keeps_into_Q y (line_of f ++ (group_of o ins ++ line_of (turn_found g))) long))

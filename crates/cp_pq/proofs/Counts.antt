@@ -11,9 +11,8 @@ use Rattle.std.specs.Prelude.{nat_lt}
 use Rattle.std.proofs.lemmas.Bool.{false≢true, true≢false, cases_Bool, and_parts, ltb-true}
 use Rattle.cp_pq.specs.Words.{Opposite, has_all, is_met}
 use Rattle.cp_pq.specs.Frames.{node_of}
-use Rattle.cp_pq.proofs.NodeLayers.{leaves_Leaf, leaves_P, leaves_Q, all_leaves_cons, all_leaves_append, all_leaves_nil, all_leaves_one}
+use Rattle.cp_pq.proofs.NodeLayers.{leaves_Leaf, leaves_P, leaves_Q, all_leaves_cons, all_leaves_append, all_leaves_nil}
 use Rattle.cp_pq.proofs.Rows.{row_all}
-use Rattle.cp_pq.proofs.Permutations.{filter_none}
 use Rattle.cp_pq.proofs.Closes.{has_all_P, has_all_Q}
 
 pub count_Leaf : (p : ℕ → Bool) (x : ℕ) (b : Bool) → p x ≡ b → count_in p (Leaf x) ≡ cond b 1 0
@@ -69,7 +68,6 @@ others_out q p opp a b k total e le =
     let x = count_append p a (k ∷ b) in let y = count_cons p k b in
     (none_outs q p opp a (omega arith), none_outs q p opp b (omega arith))
 
-
 -- the count of an inner node is that of its kids, and its leaves pass a test where those of its kids do
 pub count_node : (p : ℕ → Bool) (label : Label) (ks : List Node) → count_in p (node_of label ks) ≡ count_all p ks
 count_node p (Label.P o) ks = count_P_at p (P o ks) o ks refl
@@ -109,7 +107,7 @@ module _ (q p : ℕ → Bool) (opp : Opposite q p) (total : ℕ) (pos : 0 < tota
   met_none (k ∷ ks) e =
       ⊎_elim
       (λ out. let a = count_cons p k ks in let b = out_count q p opp k out in
-          let c = met_none ks (sym (ap (λ x. length (cond (not x) (k ∷ filter (is_met q) ks) (filter (is_met q) ks))) out) ∙ e) in omega arith)
+      let c = met_none ks (sym (ap (λ x. length (cond (not x) (k ∷ filter (is_met q) ks) (filter (is_met q) ks))) out) ∙ e) in omega arith)
       (λ out. let z : length (k ∷ filter (is_met q) ks) ≡ 0 = sym (ap (λ x. length (cond (not x) (k ∷ filter (is_met q) ks) (filter (is_met q) ks))) out) ∙ e in absurd (omega arith))
       (cases_Bool (has_all q k))
 
@@ -121,9 +119,9 @@ module _ (q p : ℕ → Bool) (opp : Opposite q p) (total : ℕ) (pos : 0 < tota
       let g = and_parts (nat_lt (count_in p k) total) (list_all (λ k. nat_lt (count_in p k) total) ks) below in
       ⊎_elim
       (λ out. let b = out_count q p opp k out in
-          let c = met_one ks g.1 (subst (λ z. z ≤ 1) (ap (λ x. length (cond (not x) (k ∷ filter (is_met q) ks) (filter (is_met q) ks))) out) le) in omega arith)
+      let c = met_one ks g.1 (subst (λ z. z ≤ 1) (ap (λ x. length (cond (not x) (k ∷ filter (is_met q) ks) (filter (is_met q) ks))) out) le) in omega arith)
       (λ out. let z : length (k ∷ filter (is_met q) ks) ≤ 1 = subst (λ z. z ≤ 1) (ap (λ x. length (cond (not x) (k ∷ filter (is_met q) ks) (filter (is_met q) ks))) out) le in
-          let b = met_none ks (omega arith) in let lt = ltb-true (count_in p k) total g.0 in omega arith)
+      let b = met_none ks (omega arith) in let lt = ltb-true (count_in p k) total g.0 in omega arith)
       (cases_Bool (has_all q k))
 
   pub two_met : (ks : List Node) → list_all (λ k. nat_lt (count_in p k) total) ks ≡ true → total ≤ count_all p ks

@@ -1,22 +1,22 @@
 -- A change at a place is a change of the whole.
-use Rattle.std.proofs.Common.{◌≡◌, ℕ, ◌+◌, ◌≤◌, Bool, true, false, List, [], ◌∷◌, ◌++◌, length, length-append, reverse, refl, sym, ap, ap₂, ◌∙◌, subst, subst₂, ⊎_elim, append-nil, append_assoc, arith, IsPermutation}
+use Rattle.std.proofs.Common.{◌≡◌, ℕ, ◌≤◌, Bool, true, List, [], ◌∷◌, ◌++◌, length, length-append, reverse, refl, sym, ap, ◌∙◌, subst, subst₂, ⊎_elim, append_assoc, arith, IsPermutation}
 use Rattle.std.specs.List.{list_all}
 use Rattle.std.proofs.lemmas.Bool.{and_parts, and_from}
 use Rattle.std.proofs.lemmas.List.{reverse-append}
 use Rattle.std.proofs.lemmas.List.Folds.{list_all-append}
-use Rattle.std.proofs.lemmas.List.Sorted.{IsPermutation-refl, IsPermutation-sym, IsPermutation-trans, IsPermutation-middle, IsPermutation-append_right, IsPermutation-append_comm, IsPermutation-reverse}
+use Rattle.std.proofs.lemmas.List.Sorted.{IsPermutation-sym, IsPermutation-trans, IsPermutation-middle, IsPermutation-append_comm, IsPermutation-reverse}
 use Rattle.cp_pq.specs.declared.node.Node.{Node}
 use Rattle.cp_pq.specs.declared.node.Node.TheVariants.{P, Q}
 use Rattle.cp_pq.specs.declared.frame.Label.{Label}
 use Rattle.cp_pq.specs.declared.frame.Frame.{Frame}
-use Rattle.cp_pq.specs.Readings.{Reads, ReadsAll, any_order}
-use Rattle.cp_pq.specs.Nodes.{leaves, all_leaves}
+use Rattle.cp_pq.specs.Readings.{ReadsAll, any_order}
+use Rattle.cp_pq.specs.Nodes.{leaves}
 use Rattle.cp_pq.specs.Words.{Opposite, together, has_all, IsNever}
 use Rattle.cp_pq.specs.Changes.{IsDone}
 use Rattle.cp_pq.specs.Keeping.{Keeps}
-use Rattle.cp_pq.specs.Frames.{node_of, kids_round, fill, AreOutside}
+use Rattle.cp_pq.specs.Frames.{node_of, fill, AreOutside}
 use Rattle.cp_pq.proofs.NodeLayers.{all_leaves_one}
-use Rattle.cp_pq.proofs.Permutations.{IsPermutation-same, list_all-IsPermutation}
+use Rattle.cp_pq.proofs.Permutations.{list_all-IsPermutation}
 use Rattle.cp_pq.proofs.WordLaws.{together_front, together_end}
 use Rattle.cp_pq.proofs.ReadingLaws.{ReadsAll_one, one_ReadsAll, ReadsAll_cut, ReadsAll_cons, Reads_P, Reads_Q}
 use Rattle.cp_pq.proofs.Rows.{class_row}

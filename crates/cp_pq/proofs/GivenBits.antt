@@ -1,14 +1,14 @@
 -- Licences of bits, and equations over bits with more bits behind them.
-use Rattle.std.proofs.Common.{◌≡◌, ℕ, zero, suc, ◌+◌, ◌<◌, ◌≤◌, Bool, true, false, not, ◌&&◌, List, [], ◌∷◌, ◌++◌, length, length-append, map, take, refl, sym, ap, ap₂, ◌∙◌, subst, subst₂, arith}
-use Rattle.std.specs.Prelude.{nat_lt, slice_index_or}
+use Rattle.std.proofs.Common.{◌≡◌, ℕ, zero, suc, ◌<◌, Bool, true, false, List, [], ◌∷◌, ◌++◌, length, length-append, refl, sym, ap, ◌∙◌, subst, arith}
+use Rattle.std.specs.Prelude.{nat_lt}
 use Rattle.std.specs.Bool.{beq}
 use Rattle.std.specs.List.{AllByRecursion}
-use Rattle.std.proofs.lemmas.Bool.{and_parts, and_from, ltb-true, lt-ltb, false≢true, true≢false}
+use Rattle.std.proofs.lemmas.Bool.{and_parts, and_from, ltb-true, lt-ltb, false≢true}
 use Rattle.cp_base.specs.declared.equation.Equation.{Equation}
 use Rattle.cp_pq.specs.Bits.{flip, bit_of, IsMet, IsOverVars}
 use Rattle.cp_pq.specs.Readings.{given}
 use Rattle.cp_pq.specs.Words.{Licensed}
-use Rattle.cp_pq.specs.Ties.{tie_equation, tie_equations}
+use Rattle.cp_pq.specs.Ties.{tie_equations}
 use Rattle.cp_pq.specs.Changes.{Wider, by_bit}
 
 beq_refl : (c : Bool) → beq c c ≡ true

@@ -1,6 +1,5 @@
 -- Sets of leaves: a rising list of distinct leaves has as many items as the leaves that are in it.
-use Rattle.std.proofs.Common.{◌≡◌, ◌≢◌, ℕ, zero, suc, ◌+◌, ◌<◌, ◌≤◌, ◌⊎◌, Bool, true, false, cond, not, ◌&&◌, ◌||◌, eqb, List, [], ◌∷◌, ◌++◌, length, filter, slice_index, refl, sym, ap, ap₂, ◌∙◌, subst, inl, inr, ⊎_elim, arith}
-use Rattle.std.specs.List.{list_any}
+use Rattle.std.proofs.Common.{◌≡◌, ℕ, suc, ◌+◌, ◌<◌, Bool, true, false, cond, not, ◌&&◌, ◌||◌, eqb, List, [], ◌∷◌, length, filter, slice_index, refl, sym, ap, ap₂, ◌∙◌, subst, inl, inr, ⊎_elim, arith}
 use Rattle.std.specs.List.Sorted.{IsStrictlyIncreasing}
 use Rattle.std.proofs.lemmas.Bool.{cases_eq, eq-eqb, ne_eqb, cases_Bool, true≢false, false≢true}
 use Rattle.cp_lists.specs.CyclicLists.{Has, Lacks, Distinct}
@@ -51,12 +50,12 @@ one_more : (y : ℕ) (ys xs : List ℕ) → Lacks y ys
 one_more y ys [] l = refl
 one_more y ys (x ∷ xs) l = ⊎_elim
     (λ e. let a = eq-eqb y x e in
-        let b : inside ys x ≡ false = ⊎_elim (λ i. absurd (has_lacks y ys (subst (λ w. Has w ys) (sym e) (inside_of ys x i)) l)) (λ o. o) (cases_Bool (inside ys x)) in
-        count (eqb y x) (inside ys x) true false a b refl (one_more y ys xs l))
+    let b : inside ys x ≡ false = ⊎_elim (λ i. absurd (has_lacks y ys (subst (λ w. Has w ys) (sym e) (inside_of ys x i)) l)) (λ o. o) (cases_Bool (inside ys x)) in
+    count (eqb y x) (inside ys x) true false a b refl (one_more y ys xs l))
     (λ ne. ⊎_elim
-        (λ i. count (eqb y x) (inside ys x) false true (ne_eqb y x ne) i refl (one_more y ys xs l))
-        (λ o. count (eqb y x) (inside ys x) false false (ne_eqb y x ne) o refl (one_more y ys xs l))
-        (cases_Bool (inside ys x)))
+    (λ i. count (eqb y x) (inside ys x) false true (ne_eqb y x ne) i refl (one_more y ys xs l))
+    (λ o. count (eqb y x) (inside ys x) false false (ne_eqb y x ne) o refl (one_more y ys xs l))
+    (cases_Bool (inside ys x)))
     (cases_eq y x)
   where
     count : (a b c d : Bool) → a ≡ c → b ≡ d → (c && d) ≡ false

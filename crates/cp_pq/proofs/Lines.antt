@@ -1,19 +1,18 @@
 -- What P-nodes and Q-nodes become in a line.
-use Rattle.std.proofs.Common.{◌≡◌, ℕ, ◌≤◌, Bool, true, false, cond, not, ◌&&◌, ◌↔◌, ◌⊎◌, List, [], ◌∷◌, ◌++◌, length, map, filter, reverse, refl, sym, ap, ap₂, ◌∙◌, subst, subst₂, inl, inr, ⊎_elim, append_assoc, append-nil, arith, IsPermutation}
+use Rattle.std.proofs.Common.{◌≡◌, ℕ, ◌≤◌, Bool, true, false, cond, not, ◌&&◌, ◌⊎◌, List, [], ◌∷◌, ◌++◌, length, filter, reverse, refl, sym, ap, ap₂, ◌∙◌, subst, subst₂, ⊎_elim, append-nil, arith, IsPermutation}
 use Rattle.std.specs.List.{list_all}
-use Rattle.std.proofs.lemmas.Bool.{both_ways, true≢false, false≢true, cases_Bool, and_parts, and_from}
+use Rattle.std.proofs.lemmas.Bool.{both_ways, false≢true, cases_Bool, and_parts, and_from}
 use Rattle.std.proofs.lemmas.List.Folds.{list_all-append}
 use Rattle.std.proofs.lemmas.List.Elements.{filter-append}
 use Rattle.std.proofs.lemmas.List.Sorted.{IsPermutation-refl, IsPermutation-sym, IsPermutation-trans, IsPermutation-append, length_permutation}
 use Rattle.cp_pq.specs.declared.node.Node.{Node}
-use Rattle.cp_pq.specs.declared.node.Node.TheVariants.{Leaf, P, Q}
-use Rattle.cp_pq.specs.Readings.{Reads, ReadsAll, leaf, any_order, forward, backward, none, more}
-use Rattle.cp_pq.specs.Words.{Opposite, sorted, together, has_all, row_sorted, Licensed, IsLike, group_of, is_clear, IsNever, is_mixed}
-use Rattle.cp_pq.specs.Bits.{flip}
+use Rattle.cp_pq.specs.declared.node.Node.TheVariants.{P, Q}
+use Rattle.cp_pq.specs.Readings.{ReadsAll, any_order, forward, backward}
+use Rattle.cp_pq.specs.Words.{Opposite, sorted, has_all, row_sorted, IsLike, group_of, is_clear, IsNever, is_mixed}
 use Rattle.cp_pq.proofs.Permutations.{list_all-IsPermutation, IsPermutation-same, IsPermutation-filter, short_permutation, filter_all, filter_none}
-use Rattle.cp_pq.proofs.WordLaws.{sorted_front, sorted_cut, sorted_all, sorted_last}
-use Rattle.cp_pq.proofs.ReadingLaws.{ReadsAll_nil, ReadsAll_cons, ReadsAll_one, one_ReadsAll, ReadsAll_join, ReadsAll_cut, Reads_P, Reads_Q}
-use Rattle.cp_pq.proofs.Rows.{class_read, class_row, like_nil, like_front, sorted_here, row_sorted_of}
+use Rattle.cp_pq.proofs.WordLaws.{sorted_front, sorted_last}
+use Rattle.cp_pq.proofs.ReadingLaws.{ReadsAll_one, one_ReadsAll, ReadsAll_join, ReadsAll_cut, Reads_P, Reads_Q}
+use Rattle.cp_pq.proofs.Rows.{class_row, like_front, sorted_here, row_sorted_of}
 
 pub group_reads : (may : ℕ → Bool → Bool) (o : ℕ) (e a : List Node) (u : List ℕ) → IsPermutation e a → ReadsAll may a u
     → ReadsAll may (group_of o e) u
@@ -74,12 +73,12 @@ split_sorted q p [] h = record { a = []; m = []; b = []; is = refl; out = refl; 
 split_sorted q p (k ∷ ks) h =
     ⊎_elim
     (λ e. let s = split_sorted q p ks (sym (ap (λ b. cond b (row_sorted q p ks) (list_all (has_all p) ks)) e) ∙ h) in
-        record { a = k ∷ s.a; m = s.m; b = s.b; is = ap (λ l. k ∷ l) s.is; out = and_from _ _ e s.out; mixed = s.mixed; full = s.full })
+    record { a = k ∷ s.a; m = s.m; b = s.b; is = ap (λ l. k ∷ l) s.is; out = and_from _ _ e s.out; mixed = s.mixed; full = s.full })
     (λ e. let rest : list_all (has_all p) ks ≡ true = sym (ap (λ b. cond b (row_sorted q p ks) (list_all (has_all p) ks)) e) ∙ h in
-        ⊎_elim
-        (λ f. record { a = []; m = []; b = k ∷ ks; is = refl; out = refl; mixed = (omega arith, refl); full = and_from _ _ f rest })
-        (λ f. record { a = []; m = k ∷ []; b = ks; is = refl; out = refl; mixed = (omega arith, mixed_one _ _ e f); full = rest })
-        (cases_Bool (has_all p k)))
+    ⊎_elim
+    (λ f. record { a = []; m = []; b = k ∷ ks; is = refl; out = refl; mixed = (omega arith, refl); full = and_from _ _ f rest })
+    (λ f. record { a = []; m = k ∷ []; b = ks; is = refl; out = refl; mixed = (omega arith, mixed_one _ _ e f); full = rest })
+    (cases_Bool (has_all p k)))
     (cases_Bool (has_all q k))
 
 -- the kids of each kind
@@ -167,9 +166,11 @@ P_line q p L opp o ks e m f line s may xs = (to, fro)
         let row : ReadsAll may (c.a ++ (m ++ c.b)) xs = subst (λ z. ReadsAll may (c.a ++ (z ++ c.b)) xs) same (subst (λ z. ReadsAll may z xs) c.is t.2) in
         let g = (sorted_row q p L opp c.a m c.b line s.middle c.out c.full may xs).0 (row, r.1) in
         let x = ReadsAll_cut may c.a (line ++ c.b) xs g.1 in
-        let y = ReadsAll_cut may line c.b x.1 x.4 in
-        (g.0, subst (ReadsAll may (group_of o e ++ (line ++ group_of o f))) (ap (λ z. x.0 ++ z) (sym y.2) ∙ sym x.2)
-          (ReadsAll_join may (group_of o e) (line ++ group_of o f) x.0 (y.0 ++ y.1) (group_reads may o e c.a x.0 ea x.3) (ReadsAll_join may line (group_of o f) y.0 y.1 y.3 (group_reads may o f c.b y.1 fb y.4))))
+        let y = ReadsAll_cut may line c.b x.1 x.4 in (
+          g.0,
+          subst (ReadsAll may (group_of o e ++ (line ++ group_of o f))) (ap (λ z. x.0 ++ z) (sym y.2) ∙ sym x.2)
+              (ReadsAll_join may (group_of o e) (line ++ group_of o f) x.0 (y.0 ++ y.1) (group_reads may o e c.a x.0 ea x.3) (ReadsAll_join may line (group_of o f) y.0 y.1 y.3 (group_reads may o f c.b y.1 fb y.4))),
+        )
 
     fro : L may × ReadsAll may (group_of o e ++ (line ++ group_of o f)) xs
         → ReadsAll may (P o ks ∷ []) xs × (sorted q p xs ≡ true)

@@ -1,5 +1,5 @@
 -- Readings from right to left.
-use Rattle.std.proofs.Common.{◌≡◌, ℕ, Bool, true, false, cond, not, ◌↔◌, List, [], ◌∷◌, ◌++◌, map, reverse, refl, sym, ap, ap₂, ◌∙◌, subst, subst₂, IsPermutation}
+use Rattle.std.proofs.Common.{◌≡◌, ℕ, Bool, true, false, not, ◌↔◌, List, [], ◌∷◌, reverse, refl, sym, ap, ◌∙◌, subst, subst₂}
 use Rattle.std.proofs.lemmas.List.{reverse-append, reverse-reverse}
 use Rattle.std.proofs.lemmas.List.Sorted.{IsPermutation-trans, IsPermutation-reverse}
 use Rattle.cp_pq.specs.declared.node.Node.{Node}
@@ -8,7 +8,7 @@ use Rattle.cp_pq.specs.Bits.{flip}
 use Rattle.cp_pq.specs.Founds.{turn_ties}
 use Rattle.cp_pq.specs.Words.{Licensed, IsLike, turned}
 use Rattle.cp_pq.specs.Changes.{Wider}
-use Rattle.cp_pq.proofs.ReadingLaws.{read_wider, read_all_wider, ReadsAll_join, one_ReadsAll}
+use Rattle.cp_pq.proofs.ReadingLaws.{read_all_wider, ReadsAll_join, one_ReadsAll}
 
 not_not : (b : Bool) → not (not b) ≡ b
 not_not true = refl
@@ -23,6 +23,7 @@ mutual
   mirror may _ _ (any_order o ks turn xs p all) = any_order o ks (reverse turn) (reverse xs) (IsPermutation-trans _ _ _ p (IsPermutation-reverse turn)) (mirror_all may turn xs all)
   mirror may _ _ (forward v ks xs m all) = backward v ks (reverse xs) m (mirror_all may ks xs all)
   mirror may _ _ (backward v ks xs m all) = forward v ks (reverse xs) m (subst (λ z. ReadsAll (turned may) z (reverse xs)) (reverse-reverse ks) (mirror_all may (reverse ks) xs all))
+
   pub mirror_all : (may : ℕ → Bool → Bool) (ks : List Node) (xs : List ℕ) → ReadsAll may ks xs
       → ReadsAll (turned may) (reverse ks) (reverse xs)
   mirror_all may _ _ none = none

@@ -1,5 +1,5 @@
 -- Each node has a reading where each var may have the bit false, and readings depend on the vars of the node alone.
-use Rattle.std.proofs.Common.{◌≡◌, ℕ, ◌<◌, ◌≤◌, Bool, true, false, ◌&&◌, List, [], ◌∷◌, ◌++◌, map, reverse, refl, sym, ap, ◌∙◌, subst, subst₂, arith, IsPermutation}
+use Rattle.std.proofs.Common.{◌≡◌, ℕ, ◌<◌, ◌≤◌, Bool, true, false, List, [], ◌∷◌, map, reverse, refl, sym, ◌∙◌, subst, arith}
 use Rattle.std.specs.Prelude.{nat_lt}
 use Rattle.std.specs.List.{list_all}
 use Rattle.std.proofs.lemmas.Bool.{and_parts, and_from, ltb-true, lt-ltb}
@@ -54,6 +54,7 @@ mutual
   read_below m may wide w _ _ (backward v ks xs e all) h =
       let g = and_parts (nat_lt v m) (list_all (has_vars_below m) ks) (sym (below_Q m v ks) ∙ h) in
       backward v ks xs (w v true (ltb-true v m g.0) e) (read_all_below m may wide w (reverse ks) xs all (sym (list_all-IsPermutation (has_vars_below m) ks (reverse ks) (IsPermutation-reverse ks)) ∙ g.1))
+
   pub read_all_below : (m : ℕ) (may wide : ℕ → Bool → Bool) → WiderBelow m may wide → (ks : List Node) (xs : List ℕ)
       → ReadsAll may ks xs → list_all (has_vars_below m) ks ≡ true → ReadsAll wide ks xs
   read_all_below m may wide w _ _ none h = none
@@ -80,6 +81,6 @@ below_more m n le = ind-Node (Rises m n) step
     step x (Node-F.Q v es) e =
         let ks = map (λ d. d.0) es in
         subst (λ z. Rises m n (roll-Node z)) e (subst (Rises m n) (sym (rolls-Q v ks))
-          (λ h. let g = and_parts (nat_lt v m) (list_all (has_vars_below m) ks) (sym (below_Q m v ks) ∙ h) in
-              let lt = ltb-true v m g.0 in
-              below_Q n v ks ∙ and_from (nat_lt v n) (list_all (has_vars_below n) ks) (lt-ltb v n (omega (arith, lt, le))) (row_rises m n es g.1)))
+        (λ h. let g = and_parts (nat_lt v m) (list_all (has_vars_below m) ks) (sym (below_Q m v ks) ∙ h) in
+        let lt = ltb-true v m g.0 in
+        below_Q n v ks ∙ and_from (nat_lt v n) (list_all (has_vars_below n) ks) (lt-ltb v n (omega (arith, lt, le))) (row_rises m n es g.1)))

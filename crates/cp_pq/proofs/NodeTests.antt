@@ -1,13 +1,13 @@
 -- Tests of nodes, layer by layer: at least two kids, and vars below a number.
-use Rattle.std.proofs.Common.{◌≡◌, ℕ, zero, suc, ◌+◌, ◌<◌, ◌≤◌, Bool, true, false, not, ◌&&◌, List, [], ◌∷◌, ◌++◌, length, map, get_or, refl, sym, ap, ap₂, ◌∙◌, subst, arith, IsPermutation}
+use Rattle.std.proofs.Common.{◌≡◌, ℕ, zero, suc, ◌<◌, ◌≤◌, Bool, true, false, ◌&&◌, List, [], ◌∷◌, length, map, get_or, refl, sym, ap, ap₂, ◌∙◌, arith}
 use Rattle.std.specs.Prelude.{nat_lt}
 use Rattle.std.specs.List.{list_all}
 use Rattle.std.proofs.lemmas.Bool.{ltb-true, lt-ltb, and_parts, and_from}
 use Rattle.cp_pq.specs.declared.node.Node.{Node}
 use Rattle.cp_pq.specs.declared.node.Node.TheOpen.{Node-F}
-use Rattle.cp_pq.specs.declared.node.Node.TheFolds.{fold-Node, fold-roll-Node}
+use Rattle.cp_pq.specs.declared.node.Node.TheFolds.{fold-roll-Node}
 use Rattle.cp_pq.specs.declared.node.Node.TheVariants.{Leaf, P, Q, rolls-Leaf, rolls-P, rolls-Q}
-use Rattle.cp_pq.specs.Nodes.{leaves, is_branching, branching_step, has_vars_below, below_step}
+use Rattle.cp_pq.specs.Nodes.{is_branching, branching_step, has_vars_below, below_step}
 use Rattle.cp_pq.specs.Words.{has_all}
 use Rattle.cp_pq.proofs.NodeLayers.{leaves_Leaf}
 

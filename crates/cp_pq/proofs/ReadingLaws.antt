@@ -1,14 +1,12 @@
 -- Readings cut and joined, their leaves, and wider licences.
-use Rattle.std.proofs.Common.{◌≡◌, ℕ, Bool, true, false, cond, not, ◌&&◌, ◌⊎◌, List, [], ◌∷◌, ◌++◌, reverse, refl, sym, ap, ◌∙◌, subst, inl, inr, ⊎_elim, append_assoc, append-nil, IsPermutation}
-use Rattle.std.specs.List.{list_all}
-use Rattle.std.proofs.lemmas.List.Sorted.{IsPermutation-refl, IsPermutation-trans, IsPermutation-append, IsPermutation-reverse}
-use Rattle.std.proofs.lemmas.List.Folds.{list_all-append}
+use Rattle.std.proofs.Common.{◌≡◌, ℕ, Bool, true, false, ◌⊎◌, List, [], ◌∷◌, ◌++◌, reverse, refl, sym, ap, ◌∙◌, subst, inl, inr, append_assoc, append-nil, IsPermutation}
+use Rattle.std.proofs.lemmas.List.Sorted.{IsPermutation-trans, IsPermutation-append, IsPermutation-reverse}
 use Rattle.cp_pq.specs.declared.node.Node.{Node}
-use Rattle.cp_pq.specs.declared.node.Node.TheVariants.{Leaf, P, Q}
+use Rattle.cp_pq.specs.declared.node.Node.TheVariants.{P, Q}
 use Rattle.cp_pq.specs.Nodes.{leaves, all_leaves}
 use Rattle.cp_pq.specs.Readings.{Reads, ReadsAll, leaf, any_order, forward, backward, none, more}
 use Rattle.cp_pq.specs.Changes.{Wider}
-use Rattle.cp_pq.proofs.NodeLayers.{P_P, Q_Q, P_Q, Leaf_P, Leaf_Q, leaves_Leaf, leaves_P, leaves_Q, all_leaves_nil, all_leaves_cons, all_leaves_append}
+use Rattle.cp_pq.proofs.NodeLayers.{P_P, Q_Q, P_Q, Leaf_P, Leaf_Q, leaves_Leaf, leaves_P, leaves_Q, all_leaves_nil, all_leaves_cons}
 use Rattle.cp_pq.proofs.Permutations.{IsPermutation-same, IsPermutation-flat_map}
 
 module _ (may : ℕ → Bool → Bool) where
@@ -86,6 +84,7 @@ mutual
   read_leaves may _ _ (any_order o ks turn xs p all) = IsPermutation-trans _ _ _ (IsPermutation-same _ _ (leaves_P o ks)) (IsPermutation-trans _ _ _ (IsPermutation-all_leaves ks turn p) (read_all_leaves may turn xs all))
   read_leaves may _ _ (forward v ks xs m all) = IsPermutation-trans _ _ _ (IsPermutation-same _ _ (leaves_Q v ks)) (read_all_leaves may ks xs all)
   read_leaves may _ _ (backward v ks xs m all) = IsPermutation-trans _ _ _ (IsPermutation-same _ _ (leaves_Q v ks)) (IsPermutation-trans _ _ _ (IsPermutation-all_leaves ks (reverse ks) (IsPermutation-reverse ks)) (read_all_leaves may (reverse ks) xs all))
+
   pub read_all_leaves : (may : ℕ → Bool → Bool) (ks : List Node) (xs : List ℕ) → ReadsAll may ks xs
       → IsPermutation (all_leaves ks) xs
   read_all_leaves may _ _ none = IsPermutation-same _ _ all_leaves_nil
@@ -98,6 +97,7 @@ mutual
   read_wider may wide w _ _ (any_order o ks turn xs p all) = any_order o ks turn xs p (read_all_wider may wide w turn xs all)
   read_wider may wide w _ _ (forward v ks xs m all) = forward v ks xs (w v false m) (read_all_wider may wide w ks xs all)
   read_wider may wide w _ _ (backward v ks xs m all) = backward v ks xs (w v true m) (read_all_wider may wide w (reverse ks) xs all)
+
   pub read_all_wider : (may wide : ℕ → Bool → Bool) → Wider may wide → (ks : List Node) (xs : List ℕ)
       → ReadsAll may ks xs → ReadsAll wide ks xs
   read_all_wider may wide w _ _ none = none

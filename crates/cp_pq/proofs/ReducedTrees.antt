@@ -1,7 +1,7 @@
 -- A tree with a change at the place of a set is reduced by the set.
-use Rattle.std.proofs.Common.{◌≡◌, ℕ, ◌+◌, ◌<◌, ◌≤◌, Bool, true, false, ◌&&◌, List, [], ◌∷◌, ◌++◌, refl, sym, ap, ◌∙◌, subst, subst₂, arith}
+use Rattle.std.proofs.Common.{◌≡◌, ℕ, ◌+◌, ◌<◌, Bool, true, false, List, [], ◌∷◌, ◌++◌, refl, sym, ◌∙◌, subst, subst₂, arith}
 use Rattle.std.specs.Prelude.{nat_lt}
-use Rattle.std.specs.List.{list_all, AllByRecursion}
+use Rattle.std.specs.List.{list_all}
 use Rattle.std.proofs.lemmas.Bool.{and_parts}
 use Rattle.std.proofs.lemmas.List.Folds.{list_all-append}
 use Rattle.cp_base.specs.declared.equation.Equation.{Equation}
@@ -45,6 +45,7 @@ module _ (set : List ℕ) (root vars : ℕ) (body : Node) (eqs : List Equation) 
     (place : Place) (at : IsPlace (outside set) (inside set) body place) where
   abbrev q : ℕ → Bool
   q = outside set
+
   abbrev p : ℕ → Bool
   p = inside set
 
@@ -58,9 +59,10 @@ module _ (set : List ℕ) (root vars : ℕ) (body : Node) (eqs : List Equation) 
   pub kept_at : (m new : Node) → new ∷ [] ≡ fill place.frames (m ∷ []) → IsChange q p vars at.0 (Change.Kept m)
       → IsWellFormed (make_tree root new vars eqs) × IsReduced set (make_tree root body vars eqs) (make_tree root new vars eqs)
   kept_at m new e c =
-      let k = keeps_whole any_bound m new e c.1 in
-      (still_formed set root vars body eqs wf apart new any_bound vars eqs k tt wf.vars_below wf.equations_below,
-       reduced_kept set root vars body eqs wf apart new (λ y. done_filled q p (λ x. refl) false y (λ may. Unit {0}) place.frames at.0 m body new at.2 at.1 e (c.0 y)) k)
+      let k = keeps_whole any_bound m new e c.1 in (
+        still_formed set root vars body eqs wf apart new any_bound vars eqs k tt wf.vars_below wf.equations_below,
+        reduced_kept set root vars body eqs wf apart new (λ y. done_filled q p (λ x. refl) false y (λ may. Unit {0}) place.frames at.0 m body new at.2 at.1 e (c.0 y)) k,
+      )
 
   pub old_at : (m new : Node) (y : ℕ) (ties : List (ℕ × Bool)) (all : List Equation)
       → new ∷ [] ≡ fill place.frames (m ∷ []) → all ≡ eqs ++ tie_equations y ties
@@ -70,9 +72,10 @@ module _ (set : List ℕ) (root vars : ℕ) (body : Node) (eqs : List Equation) 
       let k = keeps_whole any_bound m new e c.1 in
       let lt = c.2 vars (below_filled vars place.frames at.0 body at.1 wf.vars_below) in
       let d = done_filled q p (λ x. refl) true y (λ may. Licensed false may ties) place.frames at.0 m body new at.2 at.1 e c.0 in
-      subst (λ z. IsWellFormed (make_tree root new vars z) × IsReduced set (make_tree root body vars eqs) (make_tree root new vars z)) (sym es)
-      (still_formed set root vars body eqs wf apart new any_bound vars (eqs ++ tie_equations y ties) k tt wf.vars_below (over_old set root vars body eqs wf apart new ties y d lt),
-       reduced_old set root vars body eqs wf apart new ties y d k lt)
+      subst (λ z. IsWellFormed (make_tree root new vars z) × IsReduced set (make_tree root body vars eqs) (make_tree root new vars z)) (sym es) (
+        still_formed set root vars body eqs wf apart new any_bound vars (eqs ++ tie_equations y ties) k tt wf.vars_below (over_old set root vars body eqs wf apart new ties y d lt),
+        reduced_old set root vars body eqs wf apart new ties y d k lt,
+      )
 
   pub new_at : (m new : Node) (ties : List (ℕ × Bool)) (all : List Equation) → new ∷ [] ≡ fill place.frames (m ∷ [])
       → all ≡ eqs ++ tie_equations vars ties → IsChange q p vars at.0 (Change.New m ties)
@@ -80,6 +83,7 @@ module _ (set : List ℕ) (root vars : ℕ) (body : Node) (eqs : List Equation) 
   new_at m new ties all e es c =
       let k = keeps_whole (λ n. vars < n) m new e c.1 in
       let d = done_filled q p (λ x. refl) false vars (λ may. Licensed false may ties) place.frames at.0 m body new at.2 at.1 e c.0 in
-      subst (λ z. IsWellFormed (make_tree root new (vars + 1) z) × IsReduced set (make_tree root body vars eqs) (make_tree root new (vars + 1) z)) (sym es)
-      (still_formed set root vars body eqs wf apart new (λ n. vars < n) (vars + 1) (eqs ++ tie_equations vars ties) k (omega arith) (below_more vars (vars + 1) (omega arith) body wf.vars_below) (over_new set root vars body eqs wf apart new ties d),
-       reduced_new set root vars body eqs wf apart new ties d k)
+      subst (λ z. IsWellFormed (make_tree root new (vars + 1) z) × IsReduced set (make_tree root body vars eqs) (make_tree root new (vars + 1) z)) (sym es) (
+        still_formed set root vars body eqs wf apart new (λ n. vars < n) (vars + 1) (eqs ++ tie_equations vars ties) k (omega arith) (below_more vars (vars + 1) (omega arith) body wf.vars_below) (over_new set root vars body eqs wf apart new ties d),
+        reduced_new set root vars body eqs wf apart new ties d k,
+      )

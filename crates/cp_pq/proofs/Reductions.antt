@@ -1,24 +1,24 @@
 -- A tree whose body was changed so that a set is consecutive: pairs, shape, owners and what makes it a tree.
-use Rattle.std.proofs.Common.{◌≡◌, ◌≢◌, ℕ, zero, suc, ◌+◌, ◌<◌, ◌≤◌, ◌⊎◌, ◌↔◌, Bool, true, false, cond, not, ◌&&◌, List, [], ◌∷◌, ◌++◌, length, length-append, map, take, refl, sym, ap, ap₂, ◌∙◌, subst, subst₂, inl, inr, ⊎_elim, append-nil, arith, IsPermutation}
+use Rattle.std.proofs.Common.{◌≡◌, ℕ, zero, suc, ◌+◌, ◌<◌, ◌≤◌, ◌↔◌, Bool, true, false, List, [], ◌∷◌, ◌++◌, length, length-append, take, refl, sym, ap, ◌∙◌, subst, subst₂, append-nil, arith, IsPermutation}
 use Rattle.std.specs.Prelude.{nat_lt}
-use Rattle.std.specs.List.{list_all, list_any, AllByRecursion}
-use Rattle.std.proofs.lemmas.Bool.{false≢true, true≢false, both_ways, cases_Bool, ltb-true, lt-ltb, and_parts}
+use Rattle.std.specs.List.{AllByRecursion}
+use Rattle.std.proofs.lemmas.Bool.{ltb-true, lt-ltb}
 use Rattle.std.proofs.lemmas.List.Sorted.{IsPermutation-cons}
-use Rattle.cp_lists.specs.CyclicLists.{Has, Lacks, Distinct}
+use Rattle.cp_lists.specs.CyclicLists.{Distinct}
 use Rattle.cp_base.specs.declared.equation.Equation.{Equation}
 use Rattle.cp_pq.specs.declared.node.Node.{Node}
 use Rattle.cp_pq.specs.declared.node.Node.TheVariants.{P}
-use Rattle.cp_pq.specs.Nodes.{leaves, all_leaves, is_branching, has_vars_below, IsIn}
+use Rattle.cp_pq.specs.Nodes.{leaves, is_branching, has_vars_below}
 use Rattle.cp_pq.specs.Bits.{flip, bit_of, IsMet, IsOverVars}
 use Rattle.cp_pq.specs.Readings.{Reads, given, any_bit}
 use Rattle.cp_pq.specs.Trees.{PQTree, make_tree, IsWellFormed, IsPair, Admits}
 use Rattle.cp_pq.specs.Orders.{inside, outside, IsConsecutive}
 use Rattle.cp_pq.specs.Owners.{KeepsOwners}
 use Rattle.cp_pq.specs.Promises.{IsReduced, IsNeverConsecutive}
-use Rattle.cp_pq.specs.Words.{Opposite, together, Licensed, IsNever}
+use Rattle.cp_pq.specs.Words.{together, Licensed, IsNever}
 use Rattle.cp_pq.specs.Changes.{Wider, by_bit, IsDone}
 use Rattle.cp_pq.specs.Keeping.{any_bound, Keeps}
-use Rattle.cp_pq.specs.Ties.{tie_equation, tie_equations}
+use Rattle.cp_pq.specs.Ties.{tie_equations}
 use Rattle.cp_pq.proofs.NodeLayers.{all_leaves_one}
 use Rattle.cp_pq.proofs.NodeTests.{all_one}
 use Rattle.cp_pq.proofs.PermutedLists.{Distinct-IsPermutation}
@@ -26,7 +26,7 @@ use Rattle.cp_pq.proofs.ReadingLaws.{one_ReadsAll}
 use Rattle.cp_pq.proofs.NodesIn.{one_in_row, in_row_one}
 use Rattle.cp_pq.proofs.NodeReadings.{as_it_stands, read_below, WiderBelow}
 use Rattle.cp_pq.proofs.ConsecutiveWords.{consecutive_together, together_consecutive}
-use Rattle.cp_pq.proofs.GivenBits.{given_parts, given_from, bit_append, bit_last, given_wider, given_below, met_append, append_met, ties_met, met_ties}
+use Rattle.cp_pq.proofs.GivenBits.{given_parts, given_from, bit_last, given_wider, given_below, met_append, append_met, ties_met, met_ties}
 
 all_join : {A : Type 0} (M : A → Type 0) (xs ys : List A) → AllByRecursion M xs → AllByRecursion M ys
     → AllByRecursion M (xs ++ ys)
@@ -92,8 +92,10 @@ module _ (set : List ℕ) (root vars : ℕ) (body : Node) (eqs : List Equation) 
     (make_tree root body vars eqs)) (apart : outside set root ≡ true) where
   abbrev q : ℕ → Bool
   q = outside set
+
   abbrev p : ℕ → Bool
   p = inside set
+
   abbrev old : PQTree
   old = make_tree root body vars eqs
 
@@ -171,11 +173,16 @@ module _ (set : List ℕ) (root vars : ℕ) (body : Node) (eqs : List Equation) 
           let g = (done vars).to (given bits) h.word h.reads t in
           let wide = given (bits ++ g.0 ∷ []) in
           let r = g.3 wide (given_wider bits (g.0 ∷ [])) (subst (λ z. given (bits ++ g.0 ∷ []) z g.0 ≡ true) h.bits_count (given_last bits g.0)) in
-          let low : WiderBelow vars wide (given bits) = λ v b lt e. given_below bits (g.0 ∷ []) v b (subst (λ z. v < z) (sym h.bits_count) lt) e in
-          ([], subst (IsPair (make_tree root new vars eqs) order) (sym (append-nil bits)) (record {
-            word = h.word; order_is = h.order_is; bits_count = h.bits_count;
-            reads = read_below vars wide (given bits) low new h.word r (sym (all_one (has_vars_below vars) new) ∙ k.vars_below vars tt (all_one (has_vars_below vars) body ∙ wf.vars_below));
-            met = h.met }));
+          let low : WiderBelow vars wide (given bits) = λ v b lt e. given_below bits (g.0 ∷ []) v b (subst (λ z. v < z) (sym h.bits_count) lt) e in (
+            [],
+            subst (IsPair (make_tree root new vars eqs) order) (sym (append-nil bits)) (record {
+              word = h.word;
+              order_is = h.order_is;
+              bits_count = h.bits_count;
+              reads = read_below vars wide (given bits) low new h.word r (sym (all_one (has_vars_below vars) new) ∙ k.vars_below vars tt (all_one (has_vars_below vars) body ∙ wf.vars_below));
+              met = h.met;
+            }),
+          );
       only = λ order bits h.
           let g = (done vars).fro (given bits) h.word h.reads (λ b e. tt) in
           old_pair order (take vars bits) bits h.word (all_bits bits h.bits_count) h.order_is h.bits_count g.0 h.met g.1;
@@ -199,11 +206,16 @@ module _ (set : List ℕ) (root vars : ℕ) (body : Node) (eqs : List Equation) 
         keeps = λ order bits h c.
             let t = consecutive_together set root h.word apart (subst (IsConsecutive set) h.order_is c) in
             let g = d.to (given bits) h.word h.reads t in
-            let here = given_parts bits y g.0 (g.1 refl) in
-            ([], subst (IsPair (make_tree root new vars (eqs ++ tie_equations y ts)) order) (sym (append-nil bits)) (record {
-              word = h.word; order_is = h.order_is; bits_count = h.bits_count;
-              reads = g.3 (given bits) (λ v b e. e) (g.1 refl);
-              met = all_join (IsMet bits) eqs (tie_equations y ts) h.met (ties_met bits y ts (subst (λ b. Licensed false (by_bit b (given bits)) ts) here.1 g.2)) }));
+            let here = given_parts bits y g.0 (g.1 refl) in (
+              [],
+              subst (IsPair (make_tree root new vars (eqs ++ tie_equations y ts)) order) (sym (append-nil bits)) (record {
+                word = h.word;
+                order_is = h.order_is;
+                bits_count = h.bits_count;
+                reads = g.3 (given bits) (λ v b e. e) (g.1 refl);
+                met = all_join (IsMet bits) eqs (tie_equations y ts) h.met (ties_met bits y ts (subst (λ b. Licensed false (by_bit b (given bits)) ts) here.1 g.2));
+              }),
+            );
         only = λ order bits h.
             let m = all_parts (IsMet bits) eqs (tie_equations y ts) h.met in
             let o = all_parts (IsOverVars vars) eqs (tie_equations y ts) (over_old y d lt) in
@@ -233,12 +245,17 @@ module _ (set : List ℕ) (root vars : ℕ) (body : Node) (eqs : List Equation) 
             let g = d.to (given bits) h.word h.reads t in
             let all = bits ++ g.0 ∷ [] in
             let bit : bit_of all vars ≡ g.0 = subst (λ z. bit_of all z ≡ g.0) h.bits_count (bit_last bits g.0) in
-            let over : AllByRecursion (IsOverVars (length bits)) eqs = subst (λ z. AllByRecursion (IsOverVars z) eqs) (sym h.bits_count) wf.equations_below in
-            (g.0 ∷ [], record {
-              word = h.word; order_is = h.order_is; bits_count = length-append bits (g.0 ∷ []) ∙ ap (λ z. z + 1) h.bits_count;
-              reads = g.3 (given all) (given_wider bits (g.0 ∷ [])) (subst (λ z. given all z g.0 ≡ true) h.bits_count (given_last bits g.0));
-              met = all_join (IsMet all) eqs (tie_equations vars ts) (met_append bits (g.0 ∷ []) eqs over h.met)
-                (ties_met all vars ts (subst (λ b. Licensed false (by_bit b (given all)) ts) (sym bit) (wider_ties (given bits) (given all) (given_wider bits (g.0 ∷ [])) g.0 ts g.2))) });
+            let over : AllByRecursion (IsOverVars (length bits)) eqs = subst (λ z. AllByRecursion (IsOverVars z) eqs) (sym h.bits_count) wf.equations_below in (
+              g.0 ∷ [],
+              record {
+                word = h.word;
+                order_is = h.order_is;
+                bits_count = length-append bits (g.0 ∷ []) ∙ ap (λ z. z + 1) h.bits_count;
+                reads = g.3 (given all) (given_wider bits (g.0 ∷ [])) (subst (λ z. given all z g.0 ≡ true) h.bits_count (given_last bits g.0));
+                met = all_join (IsMet all) eqs (tie_equations vars ts) (met_append bits (g.0 ∷ []) eqs over h.met)
+                    (ties_met all vars ts (subst (λ b. Licensed false (by_bit b (given all)) ts) (sym bit) (wider_ties (given bits) (given all) (given_wider bits (g.0 ∷ [])) g.0 ts g.2)));
+              },
+            );
         only = λ order bits h.
             let s = split_last bits vars (h.bits_count ∙ add_one vars) in
             let m = all_parts (IsMet bits) eqs (tie_equations vars ts) h.met in
@@ -248,7 +265,7 @@ module _ (set : List ℕ) (root vars : ℕ) (body : Node) (eqs : List Equation) 
             let low : WiderBelow vars (given bits) (given s.0) = subst₂ (λ z w. WiderBelow z (given w) (given s.0)) s.3 (sym s.2) (λ v b lt e. given_below s.0 (s.1 ∷ []) v b lt e) in
             let over_eqs : AllByRecursion (IsOverVars (length s.0)) eqs = subst (λ z. AllByRecursion (IsOverVars z) eqs) (sym s.3) wf.equations_below in
             old_pair order (take vars bits) s.0 h.word (ap (take vars) s.2 ∙ take_front s.0 (s.1 ∷ []) vars s.3) h.order_is s.3 (read_below vars (given bits) (given s.0) low body h.word g.0 wf.vars_below)
-              (append_met s.0 (s.1 ∷ []) eqs over_eqs (subst (λ z. AllByRecursion (IsMet z) eqs) s.2 m.0)) g.1;
+            (append_met s.0 (s.1 ∷ []) eqs over_eqs (subst (λ z. AllByRecursion (IsMet z) eqs) s.2 m.0)) g.1;
         shape = shape_of false vars ts d (vars + 1) (eqs ++ tie_equations vars ts);
         possible = possible_of false vars ts d;
         root = refl;

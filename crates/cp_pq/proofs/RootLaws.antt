@@ -1,36 +1,36 @@
 -- What becomes of the node that holds a whole set.
-use Rattle.std.proofs.Common.{◌≡◌, ℕ, zero, suc, ◌+◌, ◌<◌, ◌≤◌, Bool, true, false, cond, not, ◌&&◌, ◌↔◌, ◌⊎◌, List, [], ◌∷◌, ◌++◌, length, length-append, filter, reverse, refl, sym, ap, ap₂, ◌∙◌, subst, subst₂, inl, inr, ⊎_elim, append-nil, arith, IsPermutation}
+use Rattle.std.proofs.Common.{◌≡◌, ℕ, ◌<◌, ◌≤◌, Bool, true, false, cond, ◌↔◌, List, [], ◌∷◌, ◌++◌, length, length-append, filter, reverse, refl, sym, ap, ◌∙◌, subst, subst₂, arith, IsPermutation}
 use Rattle.std.specs.Prelude.{nat_lt}
 use Rattle.std.specs.List.{list_all, list_any, AllZip}
-use Rattle.std.proofs.lemmas.Bool.{both_ways, true≢false, false≢true, cases_Bool, and_parts, and_from, ltb-true}
+use Rattle.std.proofs.lemmas.Bool.{both_ways, false≢true, and_parts, ltb-true}
 use Rattle.std.proofs.lemmas.Slice.Zip.{AllZip-long}
 use Rattle.std.proofs.lemmas.List.Sorted.{IsPermutation-refl, IsPermutation-sym, IsPermutation-trans}
 use Rattle.cp_pq.specs.declared.node.Node.{Node}
 use Rattle.cp_pq.specs.declared.node.Node.TheVariants.{P, Q}
 use Rattle.cp_pq.specs.declared.found.Found.{Found}
 use Rattle.cp_pq.specs.declared.change.Change.{Change}
-use Rattle.cp_pq.specs.Readings.{Reads, any_order}
-use Rattle.cp_pq.specs.Nodes.{leaves, all_leaves, has_vars_below}
-use Rattle.cp_pq.specs.Words.{Opposite, sorted, together, has_all, Licensed, IsLike, IsNever, is_mixed, is_met, is_clear}
+use Rattle.cp_pq.specs.Readings.{any_order}
+use Rattle.cp_pq.specs.Nodes.{leaves, has_vars_below}
+use Rattle.cp_pq.specs.Words.{Opposite, together, has_all, Licensed, IsNever, is_mixed, is_met, is_clear}
 use Rattle.cp_pq.specs.Changes.{by_bit, IsDone}
 use Rattle.cp_pq.specs.Founds.{IsGiven, Sorts, is_torn, found_run, flat_line, flat_ties, turn_behind}
 use Rattle.cp_pq.specs.Keeping.{any_bound, Keeps}
 use Rattle.cp_pq.specs.Grants.{Grants}
 use Rattle.cp_pq.specs.Roots.{IsCore, IsChange}
-use Rattle.cp_pq.proofs.NodeLayers.{all_leaves_one, leaves_P}
+use Rattle.cp_pq.proofs.NodeLayers.{all_leaves_one}
 use Rattle.cp_pq.proofs.NodeTests.{below_Q}
-use Rattle.cp_pq.proofs.Permutations.{IsPermutation-same, all_filter}
+use Rattle.cp_pq.proofs.Permutations.{all_filter}
 use Rattle.cp_pq.proofs.WordLaws.{sorted_last, sorted_together}
 use Rattle.cp_pq.proofs.ReadingLaws.{read_wider, ReadsAll_one, Reads_P}
 use Rattle.cp_pq.proofs.Rows.{class_read}
 use Rattle.cp_pq.proofs.Tops.{Q_done, P_frame}
 use Rattle.cp_pq.proofs.TopP.{P_grouped}
 use Rattle.cp_pq.proofs.Closes.{has_all_P, all_second}
-use Rattle.cp_pq.proofs.Zips.{grants_torn, grants_licensed, torn_back}
+use Rattle.cp_pq.proofs.Zips.{grants_torn, grants_licensed}
 use Rattle.cp_pq.proofs.Runs.{zip_found_run, zip_run, keeps_run, Q_refused, P_refused}
 use Rattle.cp_pq.proofs.FittingSides.{Fits_permuted, Fits_frame}
-use Rattle.cp_pq.proofs.KeepingLaws.{Keeps_refl, Keeps_weaken, Keeps_trans, Keeps_append, Keeps_permuted, Keeps_P, Keeps_Q, Keeps_parted}
-use Rattle.cp_pq.proofs.Cores.{done_again, parted, met_parts, met_inside}
+use Rattle.cp_pq.proofs.KeepingLaws.{Keeps_refl, Keeps_trans, Keeps_append, Keeps_permuted, Keeps_P, Keeps_Q, Keeps_parted}
+use Rattle.cp_pq.proofs.Cores.{done_again, parted, met_inside}
 
 -- a node inside is done as it stands
 pub same_done : (q p : ℕ → Bool) → Opposite q p → (y : ℕ) (n : Node) → has_all p n ≡ true
@@ -98,12 +98,13 @@ module _ (q p : ℕ → Bool) (opp : Opposite q p) (vars : ℕ) where
       → list_any is_torn (turn_behind fs) ≡ false
       → kids ≡ flat_line (turn_behind fs) → ties ≡ flat_ties (reverse (turn_behind fs)) ++ [] → IsChange q p vars (Q v ks) (Change.Old (Q v kids) v ties)
   change_Q v ks fs kids ties z two run t e1 e2 =
-      subst₂ (λ a b. IsChange q p vars (Q v ks) (Change.Old (Q v a) v b)) (sym e1) (sym e2)
-      (done_again q p true v (λ may. Grants may (turn_behind fs)) (λ may. Licensed false may (flat_ties (reverse (turn_behind fs)) ++ [])) (Q v ks) (Q v (flat_line (turn_behind fs)))
-        (λ may. let g = grants_licensed may (turn_behind fs) [] t in (λ x. g.0 (tt, x), λ x. (g.1 x).1))
-        (Q_done q p opp (λ may. Grants may (turn_behind fs)) v ks (flat_line (turn_behind fs)) (zip_run q p opp ks fs z two run)),
-       (let k = keeps_run q p opp ks fs z t in let l1 = k.1 in let l2 = long_met ks two in Keeps_Q any_bound v ks (flat_line (turn_behind fs)) k.0 (λ x. omega (arith, l1, l2))),
-       below_var v ks)
+      subst₂ (λ a b. IsChange q p vars (Q v ks) (Change.Old (Q v a) v b)) (sym e1) (sym e2) (
+        done_again q p true v (λ may. Grants may (turn_behind fs)) (λ may. Licensed false may (flat_ties (reverse (turn_behind fs)) ++ [])) (Q v ks) (Q v (flat_line (turn_behind fs)))
+            (λ may. let g = grants_licensed may (turn_behind fs) [] t in (λ x. g.0 (tt, x), λ x. (g.1 x).1))
+            (Q_done q p opp (λ may. Grants may (turn_behind fs)) v ks (flat_line (turn_behind fs)) (zip_run q p opp ks fs z two run)),
+        (let k = keeps_run q p opp ks fs z t in let l1 = k.1 in let l2 = long_met ks two in Keeps_Q any_bound v ks (flat_line (turn_behind fs)) k.0 (λ x. omega (arith, l1, l2))),
+        below_var v ks,
+      )
 
   -- a P-node
   module _ (o : ℕ) (ks : List Node) (clear : list_all (is_clear q p) ks ≡ true) (two : 2 ≤ length (filter
@@ -187,17 +188,19 @@ module _ (q p : ℕ → Bool) (opp : Opposite q p) (vars : ℕ) where
           → ties ≡ flat_ties (reverse row) ++ [] → filter (has_all q) ks ≡ []
           → IsChange q p vars (P o ks) (Change.New (Q vars line) ties)
       core_alone line ties t e1 e2 none =
-          subst₂ (λ a b. IsChange q p vars (P o ks) (Change.New (Q vars a) b)) (sym e1) (sym e2)
-          (done_again q p false vars (λ may. Grants may row) (λ may. Licensed false may (flat_ties (reverse row) ++ [])) (P o ks) (Q vars (flat_line row)) (licensed t)
-            (P_permuted q p false vars (λ may. Grants may row) o ks (filter (is_met q) ks) (Q vars (flat_line row)) (none_out none) (IsPermutation-sym _ _ (none_out none)) core.done),
-           Keeps_trans (λ n. vars < n) _ _ _ (Keeps_P (λ n. vars < n) o ks (filter (is_met q) ks) (Keeps_permuted (λ n. vars < n) ks (filter (is_met q) ks) (none_out none)) (λ d. Fits_permuted ks (filter (is_met q) ks) (none_out none)) (λ x. two)) (core.keeps t))
+          subst₂ (λ a b. IsChange q p vars (P o ks) (Change.New (Q vars a) b)) (sym e1) (sym e2) (
+            done_again q p false vars (λ may. Grants may row) (λ may. Licensed false may (flat_ties (reverse row) ++ [])) (P o ks) (Q vars (flat_line row)) (licensed t)
+                (P_permuted q p false vars (λ may. Grants may row) o ks (filter (is_met q) ks) (Q vars (flat_line row)) (none_out none) (IsPermutation-sym _ _ (none_out none)) core.done),
+            Keeps_trans (λ n. vars < n) _ _ _ (Keeps_P (λ n. vars < n) o ks (filter (is_met q) ks) (Keeps_permuted (λ n. vars < n) ks (filter (is_met q) ks) (none_out none)) (λ d. Fits_permuted ks (filter (is_met q) ks) (none_out none)) (λ x. two)) (core.keeps t),
+          )
 
       pub core_beside : (outs line : List Node) (ties : List (ℕ × Bool)) → list_any is_torn row ≡ false
           → line ≡ flat_line row → ties ≡ flat_ties (reverse row) ++ [] → outs ≡ filter (has_all q) ks → 1 ≤ length outs
           → IsChange q p vars (P o ks) (Change.New (P o (outs ++ Q vars line ∷ [])) ties)
       core_beside outs line ties t e1 e2 e3 one =
           subst (λ d. IsChange q p vars (P o ks) (Change.New (P o (d ++ Q vars line ∷ [])) ties)) (sym e3)
-          (subst₂ (λ a b. IsChange q p vars (P o ks) (Change.New (P o (filter (has_all q) ks ++ Q vars a ∷ [])) b)) (sym e1) (sym e2)
-          (done_again q p false vars (λ may. Grants may row) (λ may. Licensed false may (flat_ties (reverse row) ++ [])) (P o ks) (P o (filter (has_all q) ks ++ Q vars (flat_line row) ∷ [])) (licensed t)
-            (beside false vars (λ may. Grants may row) (Q vars (flat_line row)) core.done),
-           keeps_beside (λ n. vars < n) (Q vars (flat_line row)) (subst (λ z. 1 ≤ length z) e3 one) (core.keeps t)))
+          (subst₂ (λ a b. IsChange q p vars (P o ks) (Change.New (P o (filter (has_all q) ks ++ Q vars a ∷ [])) b)) (sym e1) (sym e2) (
+            done_again q p false vars (λ may. Grants may row) (λ may. Licensed false may (flat_ties (reverse row) ++ [])) (P o ks) (P o (filter (has_all q) ks ++ Q vars (flat_line row) ∷ [])) (licensed t)
+                (beside false vars (λ may. Grants may row) (Q vars (flat_line row)) core.done),
+            keeps_beside (λ n. vars < n) (Q vars (flat_line row)) (subst (λ z. 1 ≤ length z) e3 one) (core.keeps t),
+          ))

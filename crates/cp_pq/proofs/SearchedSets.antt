@@ -1,11 +1,9 @@
 -- A binary search in a rising set.
-use Rattle.std.proofs.Common.{◌≡◌, ℕ, zero, suc, ◌+◌, ◌<◌, ◌≤◌, ◌⊎◌, Bool, true, false, List, [], ◌∷◌, length, get_or, slice_index, Result, Ok, Err, MatchResult, inl, inr, ⊎_elim, refl, sym, ap, ◌∙◌, subst, arith}
+use Rattle.std.proofs.Common.{◌≡◌, ℕ, zero, suc, ◌<◌, ◌≤◌, ◌⊎◌, List, [], ◌∷◌, length, get_or, slice_index, Result, Ok, Err, MatchResult, inl, inr, ⊎_elim, sym, arith}
 use Rattle.std.specs.Prelude.{is_ok, eqb}
-use Rattle.std.specs.List.{list_any}
 use Rattle.std.specs.List.Sorted.{IsStrictlyIncreasing}
 use Rattle.std.proofs.lemmas.Bool.{eq-eqb, cases_Bool}
 use Rattle.std.proofs.lemmas.List.Folds.{list_any_at}
-use Rattle.cp_lists.specs.CyclicLists.{Has}
 use Rattle.cp_lists.proofs.DistinctLists.{Has-place, Has_at}
 use Rattle.cp_pq.specs.Orders.{inside}
 use Rattle.cp_pq.proofs.LeafSets.{inside_of, greater, rest_rises}
@@ -27,11 +25,11 @@ pub searched_inside : (set : List ℕ) (x : ℕ) (r : Result ℕ ℕ)
 searched_inside set x (Ok i) h = sym (list_any_at (λ y. eqb y x) set i 0 h.0 (eq-eqb (get_or set i 0) x h.1))
 searched_inside set x (Err i) h = ⊎_elim
     (λ e. let p = Has-place x set (inside_of set x e) in
-        let lt = p.1 in let at : get_or set p.0 0 ≡ x = p.2 in
-        absurd (⊎_elim
-          (λ low. let g = h.1 p.0 low in omega (arith, g, at))
-          (λ high. let g = h.2 p.0 high p.1 in omega (arith, g, at))
-          (side p.0 i)))
+    let lt = p.1 in let at : get_or set p.0 0 ≡ x = p.2 in
+    absurd (⊎_elim
+    (λ low. let g = h.1 p.0 low in omega (arith, g, at))
+    (λ high. let g = h.2 p.0 high p.1 in omega (arith, g, at))
+    (side p.0 i)))
     (λ e. sym e)
     (cases_Bool (inside set x))
   where

@@ -1,14 +1,12 @@
 -- A set of leaves of a tree: the root is not in it, and the body holds it whole.
-use Rattle.std.proofs.Common.{◌≡◌, ◌≢◌, ℕ, zero, suc, ◌<◌, ◌≤◌, Bool, true, List, [], ◌∷◌, length, refl, sym, ap, ◌∙◌, subst, arith}
-use Rattle.cp_lists.specs.CyclicLists.{Has, Lacks, Distinct}
+use Rattle.std.proofs.Common.{◌≡◌, ◌≢◌, ℕ, ◌<◌, Bool, true, List, [], ◌∷◌, length, refl, subst, arith}
 use Rattle.cp_lists.proofs.DistinctLists.{Lacks-from, has_lacks}
-use Rattle.cp_base.specs.declared.equation.Equation.{Equation}
 use Rattle.cp_pq.specs.declared.node.Node.{Node}
 use Rattle.cp_pq.specs.declared.found.Found.{Found}
 use Rattle.cp_pq.specs.declared.step.Step.{Step}
 use Rattle.cp_pq.specs.declared.step.Place.{Place}
 use Rattle.cp_pq.specs.Nodes.{leaves}
-use Rattle.cp_pq.specs.Trees.{PQTree, make_tree, IsWellFormed}
+use Rattle.cp_pq.specs.Trees.{PQTree, IsWellFormed}
 use Rattle.cp_pq.specs.Orders.{inside, outside}
 use Rattle.cp_pq.specs.Promises.{IsLeafSet}
 use Rattle.cp_pq.specs.Steps.{count_in, IsStep, IsPlace}

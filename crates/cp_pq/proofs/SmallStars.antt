@@ -1,14 +1,14 @@
 -- Small stars meet the conditions of the calls.
-use Rattle.std.proofs.Common.{◌≡◌, ◌≢◌, ℕ, zero, suc, ◌+◌, ◌<◌, Bool, true, false, not, ◌&&◌, eqb, List, [], ◌∷◌, length, slice_index, refl, sym, ap, ◌∙◌, subst, ⊎_elim, inl, inr, arith}
+use Rattle.std.proofs.Common.{◌≡◌, ◌≢◌, ℕ, zero, suc, ◌+◌, ◌<◌, true, not, ◌&&◌, eqb, List, [], ◌∷◌, slice_index, refl, sym, ap, ◌∙◌, subst, ⊎_elim, arith}
 use Rattle.std.specs.Prelude.{nat_lt}
 use Rattle.std.specs.List.{list_all}
 use Rattle.std.specs.List.Sorted.{IsStrictlyIncreasing}
-use Rattle.std.proofs.lemmas.Bool.{and_parts, ltb-true, eq-eqb, both_ways, true≢false, false≢true}
+use Rattle.std.proofs.lemmas.Bool.{and_parts, ltb-true, eq-eqb, both_ways, false≢true}
 use Rattle.cp_lists.specs.CyclicLists.{Has, Lacks, Distinct}
 use Rattle.cp_pq.specs.Orders.{inside}
 use Rattle.cp_pq.specs.Nodes.{leaves}
 use Rattle.cp_pq.specs.Trees.{PQTree}
-use Rattle.cp_pq.specs.Promises.{IsLeafSet, IsStar, star_body}
+use Rattle.cp_pq.specs.Promises.{IsLeafSet, IsStar}
 use Rattle.cp_pq.specs.SmallTrees.{are_apart, is_rising, is_some, is_star_with}
 use Rattle.cp_pq.proofs.LeafSets.{inside_of}
 use Rattle.cp_pq.proofs.Stars.{star_leaves}

@@ -1,14 +1,13 @@
 -- The tree of one P-node of leaves.
-use Rattle.std.proofs.Common.{◌≡◌, ◌≢◌, ℕ, zero, suc, ◌≤◌, ◌↔◌, Bool, true, List, [], ◌∷◌, ◌++◌, length, map, refl, sym, ap, ap₂, ◌∙◌, subst, subst₂, arith, IsPermutation}
+use Rattle.std.proofs.Common.{◌≡◌, ◌≢◌, ℕ, suc, Bool, true, List, [], ◌∷◌, ◌++◌, length, map, refl, sym, ap, ap₂, ◌∙◌, subst, arith, IsPermutation}
 use Rattle.std.specs.Prelude.{◌&&◌}
 use Rattle.std.specs.List.{list_all}
 use Rattle.std.proofs.lemmas.List.Sorted.{IsPermutation-map}
 use Rattle.cp_lists.specs.CyclicLists.{Distinct}
-use Rattle.cp_pq.specs.declared.node.Node.{Node}
-use Rattle.cp_pq.specs.declared.node.Node.TheVariants.{Leaf, P, Q}
+use Rattle.cp_pq.specs.declared.node.Node.TheVariants.{Leaf, P}
 use Rattle.cp_pq.specs.Nodes.{leaves, all_leaves, is_branching, has_vars_below}
 use Rattle.cp_pq.specs.Readings.{Reads, ReadsAll, given, leaf, any_order, none, more}
-use Rattle.cp_pq.specs.Trees.{PQTree, make_tree, IsWellFormed, IsPair}
+use Rattle.cp_pq.specs.Trees.{PQTree, make_tree, IsWellFormed}
 use Rattle.cp_pq.specs.Promises.{star_body, IsStar}
 use Rattle.cp_pq.proofs.NodeLayers.{leaves_Leaf, leaves_P, all_leaves_nil, all_leaves_cons}
 use Rattle.cp_pq.proofs.NodeTests.{branching_Leaf, branching_P_from, below_Leaf, below_P}

@@ -1,26 +1,23 @@
 -- A P-node where the set is together, with up to two kids that are neither outside nor inside.
-use Rattle.std.proofs.Common.{◌≡◌, ℕ, ◌<◌, ◌≤◌, Bool, true, false, cond, not, ◌&&◌, ◌↔◌, ◌⊎◌, List, [], ◌∷◌, ◌++◌, length, length-append, map, filter, reverse, refl, sym, ap, ap₂, ◌∙◌, subst, subst₂, inl, inr, ⊎_elim, append_assoc, append-nil, arith, IsPermutation}
+use Rattle.std.proofs.Common.{◌≡◌, ℕ, ◌≤◌, Bool, true, false, not, ◌&&◌, ◌↔◌, ◌⊎◌, List, [], ◌∷◌, ◌++◌, length, filter, reverse, refl, sym, ap, ap₂, ◌∙◌, subst, subst₂, inl, inr, ⊎_elim, append_assoc, append-nil, arith, IsPermutation}
 use Rattle.std.specs.List.{list_all}
 use Rattle.std.proofs.lemmas.Bool.{both_ways, true≢false, false≢true, cases_Bool, and_parts, and_from}
 use Rattle.std.proofs.lemmas.List.{reverse-append, reverse-reverse}
 use Rattle.std.proofs.lemmas.List.Folds.{list_all-append}
 use Rattle.std.proofs.lemmas.List.Elements.{filter-append}
-use Rattle.std.proofs.lemmas.List.Sorted.{IsPermutation-refl, IsPermutation-sym, IsPermutation-trans, IsPermutation-cons, IsPermutation-middle, IsPermutation-append, IsPermutation-append_left, IsPermutation-append_right, IsPermutation-append_comm, IsPermutation-reverse, length_permutation}
+use Rattle.std.proofs.lemmas.List.Sorted.{IsPermutation-sym, IsPermutation-trans, IsPermutation-cons, IsPermutation-middle, IsPermutation-append, IsPermutation-append_left, IsPermutation-append_right, IsPermutation-append_comm, length_permutation}
 use Rattle.cp_pq.specs.declared.node.Node.{Node}
-use Rattle.cp_pq.specs.declared.node.Node.TheVariants.{Leaf, P, Q}
-use Rattle.cp_pq.specs.Readings.{Reads, ReadsAll, leaf, any_order, forward, backward, none, more}
-use Rattle.cp_pq.specs.Words.{Opposite, sorted, together, has_all, row_sorted, Licensed, IsLike, group_of, is_clear, turned, IsNever, is_mixed, is_met}
-use Rattle.cp_pq.specs.Bits.{flip}
-use Rattle.cp_pq.proofs.Permutations.{along_permutation, list_all-IsPermutation, IsPermutation-same, IsPermutation-filter, short_permutation, filter_all, filter_none}
-use Rattle.cp_pq.proofs.WordLaws.{opposite_sym, sorted_front, sorted_cut, together_front, together_start, together_whole, together_reverse, together_end, end_together, sorted_reverse, sorted_together, sorted_last}
-use Rattle.cp_pq.specs.Changes.{Wider}
-use Rattle.cp_pq.proofs.ReadingLaws.{read_wider, read_all_wider, ReadsAll_cons, ReadsAll_one, one_ReadsAll, ReadsAll_join, ReadsAll_cut, Reads_P, Reads_Q}
-use Rattle.cp_pq.proofs.Mirrors.{like_reverse, like_again, mirror_row, mirror_back}
-use Rattle.cp_pq.proofs.Rows.{class_read, class_row, like_front, run_here, row_sorted_of}
-use Rattle.cp_pq.proofs.Lines.{IsMiddle, IsMixed, Split, split_sorted, sorted_row, like_full, group_reads, reads_group, middle_mixed, all_weaker, all_append, mixed_one, kinds}
+use Rattle.cp_pq.specs.declared.node.Node.TheVariants.{P, Q}
+use Rattle.cp_pq.specs.Readings.{Reads, ReadsAll, any_order, forward, backward, more}
+use Rattle.cp_pq.specs.Words.{Opposite, sorted, together, has_all, IsLike, group_of, is_clear, turned, is_mixed, is_met}
+use Rattle.cp_pq.proofs.Permutations.{list_all-IsPermutation, IsPermutation-same, IsPermutation-filter, short_permutation, filter_all, filter_none}
+use Rattle.cp_pq.proofs.WordLaws.{opposite_sym, together_front, together_start, together_whole, sorted_reverse}
+use Rattle.cp_pq.proofs.ReadingLaws.{read_all_wider, ReadsAll_cons, ReadsAll_join, ReadsAll_cut, Reads_P, Reads_Q}
+use Rattle.cp_pq.proofs.Mirrors.{like_reverse}
+use Rattle.cp_pq.proofs.Rows.{class_read, class_row, run_here, row_sorted_of}
+use Rattle.cp_pq.proofs.Lines.{IsMiddle, IsMixed, split_sorted, sorted_row, like_full, group_reads, reads_group, middle_mixed, all_weaker, all_append, mixed_one}
 use Rattle.cp_pq.proofs.Zips.{clear_other}
-use Rattle.cp_pq.proofs.Closes.{false_unless}
-use Rattle.cp_pq.specs.Changes.{by_bit, IsDone}
+use Rattle.cp_pq.specs.Changes.{IsDone}
 use Rattle.cp_pq.proofs.Tops.{find_in}
 use Rattle.cp_pq.proofs.Groups.{group_back}
 
@@ -57,15 +54,29 @@ module _ (q p : ℕ → Bool) (opp : Opposite q p) where
       let cl = and_parts _ _ c in
       ⊎_elim
       (λ out. let g = run_of may ks h.1 cl.1 h.4 (sym (together_front q p h.0 h.1 (class_read q may k h.0 h.3 ∙ out)) ∙ w) in
-          record { a = k ∷ g.a; c = g.c; b = g.b; is = ap (λ z. k ∷ z) g.is; before = and_from _ _ out g.before; met = g.met; after = g.after })
+      record { a = k ∷ g.a; c = g.c; b = g.b; is = ap (λ z. k ∷ z) g.is; before = and_from _ _ out g.before; met = g.met; after = g.after })
       (λ out. ⊎_elim
-          (λ s. let f = split_sorted p q ks (row_sorted_of p q may ks h.1 h.4 (sym (together_start q p h.0 h.1 (class_read q may k h.0 h.3 ∙ out) s) ∙ w)) in
-              let fc = all_append (is_clear q p) f.a (f.m ++ f.b) (subst (λ z. list_all (is_clear q p) z ≡ true) f.is cl.1) in
-              record { a = []; c = k ∷ (f.a ++ f.m); b = f.b; is = ap (λ z. k ∷ z) (f.is ∙ sym (append_assoc f.a f.m f.b)); before = refl;
-                met = and_from _ _ (ap (λ z. not z) out) (list_all-append (is_met q) f.a f.m ∙ and_from _ _ (met_full f.a fc.0 f.out) (mixed_met f.m f.mixed.1)); after = f.full })
-          (λ s. record { a = []; c = k ∷ []; b = ks; is = refl; before = refl; met = and_from _ _ (ap (λ z. not z) out) refl;
-                after = sym (class_row q may ks h.1 h.4) ∙ (and_parts _ _ (sym (together_whole q p h.0 h.1 s) ∙ w)).1 })
-          (cases_Bool (sorted q p h.0)))
+      (λ s. let f = split_sorted p q ks (row_sorted_of p q may ks h.1 h.4 (sym (together_start q p h.0 h.1 (class_read q may k h.0 h.3 ∙ out) s) ∙ w)) in
+      let fc = all_append (is_clear q p) f.a (f.m ++ f.b) (subst (λ z. list_all (is_clear q p) z ≡ true) f.is cl.1) in
+      record {
+        a = [];
+        c = k ∷ (f.a ++ f.m);
+        b = f.b;
+        is = ap (λ z. k ∷ z) (f.is ∙ sym (append_assoc f.a f.m f.b));
+        before = refl;
+        met = and_from _ _ (ap (λ z. not z) out) (list_all-append (is_met q) f.a f.m ∙ and_from _ _ (met_full f.a fc.0 f.out) (mixed_met f.m f.mixed.1));
+        after = f.full;
+      })
+      (λ s. record {
+        a = [];
+        c = k ∷ [];
+        b = ks;
+        is = refl;
+        before = refl;
+        met = and_from _ _ (ap (λ z. not z) out) refl;
+        after = sym (class_row q may ks h.1 h.4) ∙ (and_parts _ _ (sym (together_whole q p h.0 h.1 s) ∙ w)).1;
+      })
+      (cases_Bool (sorted q p h.0)))
       (cases_Bool (has_all q k))
     where
       mixed_met : (m : List Node) → list_all (is_mixed p q) m ≡ true → list_all (is_met q) m ≡ true
@@ -83,21 +94,23 @@ module _ (q p : ℕ → Bool) (opp : Opposite q p) where
         let ee : IsPermutation e (g.a ++ g.b) = subst₂ IsPermutation (keep2 e c out met) (keep3 g.a g.c g.b g.before g.met g.after) (IsPermutation-filter (has_all q) _ _ all) in
         let cc' : IsPermutation c g.c = subst₂ IsPermutation (met2 e c out met) (met3 g.a g.c g.b g.before g.met g.after) (IsPermutation-filter (is_met q) _ _ all) in
         let x = ReadsAll_cut may g.a (g.c ++ g.b) xs (subst (λ z. ReadsAll may z xs) g.is t.2) in
-        let y = ReadsAll_cut may g.c g.b x.1 x.4 in
-        (any_order o (e ++ P o c ∷ []) (g.a ++ P o c ∷ g.b) xs
-          (IsPermutation-trans _ _ _ (IsPermutation-middle e (P o c) []) (IsPermutation-trans _ _ _ (IsPermutation-cons (P o c) _ _ (IsPermutation-trans _ _ _ (IsPermutation-same _ _ (append-nil e)) ee)) (IsPermutation-sym _ _ (IsPermutation-middle g.a (P o c) g.b))))
-          (subst (ReadsAll may (g.a ++ P o c ∷ g.b)) (ap (λ z. x.0 ++ z) (sym y.2) ∙ sym x.2) (ReadsAll_join may g.a (P o c ∷ g.b) x.0 (y.0 ++ y.1) x.3 (more (P o c) g.b y.0 y.1 (any_order o c g.c y.0 cc' y.3) y.4))),
-         r.1),
+        let y = ReadsAll_cut may g.c g.b x.1 x.4 in (
+          any_order o (e ++ P o c ∷ []) (g.a ++ P o c ∷ g.b) xs
+              (IsPermutation-trans _ _ _ (IsPermutation-middle e (P o c) []) (IsPermutation-trans _ _ _ (IsPermutation-cons (P o c) _ _ (IsPermutation-trans _ _ _ (IsPermutation-same _ _ (append-nil e)) ee)) (IsPermutation-sym _ _ (IsPermutation-middle g.a (P o c) g.b))))
+              (subst (ReadsAll may (g.a ++ P o c ∷ g.b)) (ap (λ z. x.0 ++ z) (sym y.2) ∙ sym x.2) (ReadsAll_join may g.a (P o c ∷ g.b) x.0 (y.0 ++ y.1) x.3 (more (P o c) g.b y.0 y.1 (any_order o c g.c y.0 cc' y.3) y.4))),
+          r.1,
+        ),
     λ r. let t = Reads_P may o (e ++ P o c ∷ []) xs r.0 in
         let f = find_in (e ++ P o c ∷ []) t.0 t.1 (P o c) e [] refl in
         let x = ReadsAll_cut may f.before (P o c ∷ f.after) xs (subst (λ z. ReadsAll may z xs) f.is t.2) in
         let y = ReadsAll_cons may (P o c) f.after x.1 x.4 in
-        let s = Reads_P may o c y.0 y.3 in
-        (any_order o ks (f.before ++ (s.0 ++ f.after)) xs
-          (IsPermutation-trans _ _ _ perm (IsPermutation-trans _ _ _ (IsPermutation-append _ _ _ _ (IsPermutation-trans _ _ _ (IsPermutation-same _ _ (sym (append-nil e))) f.rest) s.1)
-            (IsPermutation-trans _ _ _ (IsPermutation-same _ _ (append_assoc f.before f.after s.0)) (IsPermutation-append_right f.before _ _ (IsPermutation-append_comm f.after s.0)))))
-          (subst (ReadsAll may (f.before ++ (s.0 ++ f.after))) (ap (λ z. x.0 ++ z) (sym y.2) ∙ sym x.2) (ReadsAll_join may f.before (s.0 ++ f.after) x.0 (y.0 ++ y.1) x.3 (ReadsAll_join may s.0 f.after y.0 y.1 s.2 y.4))),
-         r.1),
+        let s = Reads_P may o c y.0 y.3 in (
+          any_order o ks (f.before ++ (s.0 ++ f.after)) xs
+              (IsPermutation-trans _ _ _ perm (IsPermutation-trans _ _ _ (IsPermutation-append _ _ _ _ (IsPermutation-trans _ _ _ (IsPermutation-same _ _ (sym (append-nil e))) f.rest) s.1)
+              (IsPermutation-trans _ _ _ (IsPermutation-same _ _ (append_assoc f.before f.after s.0)) (IsPermutation-append_right f.before _ _ (IsPermutation-append_comm f.after s.0)))))
+              (subst (ReadsAll may (f.before ++ (s.0 ++ f.after))) (ap (λ z. x.0 ++ z) (sym y.2) ∙ sym x.2) (ReadsAll_join may f.before (s.0 ++ f.after) x.0 (y.0 ++ y.1) x.3 (ReadsAll_join may s.0 f.after y.0 y.1 s.2 y.4))),
+          r.1,
+        ),
   )
     where
       not_met : (b : Bool) → b ≡ true → not (not b) ≡ true
@@ -133,6 +146,7 @@ short_sides [] m2 n1 n2 a b c d nomid perm =
     nil_parts : (n1 n2 : List Node) → n1 ++ n2 ≡ [] → n1 ≡ []
     nil_parts [] n2 e = refl
     nil_parts (x ∷ n1) n2 e = absurd cc
+
     nil_right : (n1 n2 : List Node) → n1 ++ n2 ≡ [] → n2 ≡ []
     nil_right [] n2 e = e
     nil_right (x ∷ n1) n2 e = absurd cc
@@ -199,11 +213,11 @@ module _ (q p : ℕ → Bool) (opp : Opposite q p) where
   run_row L M n1 l1 f n2 l2 mid1 mid2 full met two =
       ⊎_elim
       (λ h. subst₂ (λ a b. IsLike (together q p) (λ may. L may × M (turned may)) (a ++ (f ++ n2)) (b ++ (f ++ reverse l2))) (sym h.0) (sym h.1)
-          (no_first f full (subst (λ z. list_all (is_met q) (z ++ (f ++ n2)) ≡ true) h.0 met) (subst (λ z. 2 ≤ length (z ++ (f ++ n2))) h.0 two) h.2))
+      (no_first f full (subst (λ z. list_all (is_met q) (z ++ (f ++ n2)) ≡ true) h.0 met) (subst (λ z. 2 ≤ length (z ++ (f ++ n2))) h.0 two) h.2))
       (λ h. subst (λ a. IsLike (together q p) (λ may. L may × M (turned may)) (a ++ (f ++ n2)) (l1 ++ (f ++ reverse l2))) (sym h.1)
-          (let met1 : list_all (is_met q) (h.0 ∷ (f ++ n2)) ≡ true = subst (λ z. list_all (is_met q) (z ++ (f ++ n2)) ≡ true) h.1 met in
-           let two1 : 2 ≤ length (h.0 ∷ (f ++ n2)) = subst (λ z. 2 ≤ length (z ++ (f ++ n2))) h.1 two in
-           run_here q p L (λ may. M (turned may)) h.0 (f ++ n2) l1 (f ++ reverse l2) h.2 (not_all_out (f ++ n2) (and_parts _ _ met1).1 (omega arith)) h.4 (end_row M f n2 l2 mid2 full)))
+      (let met1 : list_all (is_met q) (h.0 ∷ (f ++ n2)) ≡ true = subst (λ z. list_all (is_met q) (z ++ (f ++ n2)) ≡ true) h.1 met in
+      let two1 : 2 ≤ length (h.0 ∷ (f ++ n2)) = subst (λ z. 2 ≤ length (z ++ (f ++ n2))) h.1 two in
+      run_here q p L (λ may. M (turned may)) h.0 (f ++ n2) l1 (f ++ reverse l2) h.2 (not_all_out (f ++ n2) (and_parts _ _ met1).1 (omega arith)) h.4 (end_row M f n2 l2 mid2 full)))
       mid1
     where
       no_first : (f : List Node) → list_all (has_all p) f ≡ true → list_all (is_met q) (f ++ n2) ≡ true
@@ -253,14 +267,14 @@ module _ (q p : ℕ → Bool) (opp : Opposite q p) where
       let out = un_met (has_all q k) m.0 in
       ⊎_elim
       (λ s. let g = split_sorted p q ks (row_sorted_of p q may ks h.1 h.4 (sym (together_start q p h.0 h.1 (class_read q may k h.0 h.3 ∙ out) s) ∙ w)) in
-          let rest = all_append (is_met q) g.a (g.m ++ g.b) (subst (λ z. list_all (is_met q) z ≡ true) g.is m.1) in
-          let none = no_outs g.b g.full (all_append (is_met q) g.m g.b rest.1).1 in
-          let is : ks ≡ g.a ++ g.m = g.is ∙ ap (λ z. g.a ++ (g.m ++ z)) none ∙ ap (λ z. g.a ++ z) (append-nil g.m) in
-          let last : IsMixed q p g.m = (g.mixed.0, all_weaker (is_mixed p q) (is_mixed p q) (is_mixed q p) (λ k x y. turn_mixed (has_all q k) (has_all p k) x) g.m g.mixed.1 g.mixed.1) in
-          ⊎_elim
-          (λ f. record { n1 = []; f = k ∷ g.a; n2 = g.m; is = ap (λ z. k ∷ z) is; mixed1 = (omega arith, refl); full = and_from _ _ f g.out; mixed2 = last })
-          (λ f. record { n1 = k ∷ []; f = g.a; n2 = g.m; is = ap (λ z. k ∷ z) is; mixed1 = (omega arith, mixed_one _ _ out f); full = g.out; mixed2 = last })
-          (cases_Bool (has_all p k)))
+      let rest = all_append (is_met q) g.a (g.m ++ g.b) (subst (λ z. list_all (is_met q) z ≡ true) g.is m.1) in
+      let none = no_outs g.b g.full (all_append (is_met q) g.m g.b rest.1).1 in
+      let is : ks ≡ g.a ++ g.m = g.is ∙ ap (λ z. g.a ++ (g.m ++ z)) none ∙ ap (λ z. g.a ++ z) (append-nil g.m) in
+      let last : IsMixed q p g.m = (g.mixed.0, all_weaker (is_mixed p q) (is_mixed p q) (is_mixed q p) (λ k x y. turn_mixed (has_all q k) (has_all p k) x) g.m g.mixed.1 g.mixed.1) in
+      ⊎_elim
+      (λ f. record { n1 = []; f = k ∷ g.a; n2 = g.m; is = ap (λ z. k ∷ z) is; mixed1 = (omega arith, refl); full = and_from _ _ f g.out; mixed2 = last })
+      (λ f. record { n1 = k ∷ []; f = g.a; n2 = g.m; is = ap (λ z. k ∷ z) is; mixed1 = (omega arith, mixed_one _ _ out f); full = g.out; mixed2 = last })
+      (cases_Bool (has_all p k)))
       (λ s. absurd (both_ways _ (not_all_out q p opp ks m.1 (omega arith)) (sym (class_row q may ks h.1 h.4) ∙ (and_parts _ _ (sym (together_whole q p h.0 h.1 s) ∙ w)).1)))
       (cases_Bool (sorted q p h.0))
 
@@ -349,18 +363,18 @@ module _ (q p : ℕ → Bool) (opp : Opposite q p) where
           let row : ReadsAll may (d.n1 ++ (d.f ++ d.n2)) xs = subst (λ z. ReadsAll may z xs) d.is s.2 in
           ⊎_elim
           (λ e. let g = (like_a d.f ff may xs).0 (subst₂ (λ u v. ReadsAll may (u ++ (d.f ++ v)) xs) e.0 e.1 row, t) in
-              (false, λ z. absurd (false≢true z), g.0, λ wide w h. forward y line xs h (read_all_wider may wide w line xs (regroup may o l1 f d.f (reverse l2) xs ff g.1))))
+          (false, λ z. absurd (false≢true z), g.0, λ wide w h. forward y line xs h (read_all_wider may wide w line xs (regroup may o l1 f d.f (reverse l2) xs ff g.1))))
           (λ e. let g = (like_b d.f ff may xs).0 (subst₂ (λ u v. ReadsAll may (u ++ (d.f ++ v)) xs) e.0 e.1 row, t) in
-              (true, λ z. absurd (false≢true z), (g.0.1, (twice may).0 g.0.0), λ wide w h. backward y line xs h (subst (λ z. ReadsAll wide z xs) (sym (row_back o l1 f l2)) (read_all_wider may wide w _ xs (regroup may o l2 f d.f (reverse l1) xs ff g.1)))))
+          (true, λ z. absurd (false≢true z), (g.0.1, (twice may).0 g.0.0), λ wide w h. backward y line xs h (subst (λ z. ReadsAll wide z xs) (sym (row_back o l1 f l2)) (read_all_wider may wide w _ xs (regroup may o l2 f d.f (reverse l1) xs ff g.1)))))
           (short_sides m1 m2 d.n1 d.n2 a.0 b.0 d.mixed1.0 d.mixed2.0 first mm);
       fro = λ may xs r tie.
           ⊎_elim
           (λ h. let u = ungroup may o l1 f (reverse l2) xs h.1 in
-              let g = (like_a u.0 u.1 may xs).1 (tie false h.0, u.2) in
-              (any_order o c _ xs (side_a u.0 u.1) g.0, g.1))
+          let g = (like_a u.0 u.1 may xs).1 (tie false h.0, u.2) in
+          (any_order o c _ xs (side_a u.0 u.1) g.0, g.1))
           (λ h. let u = ungroup may o l2 f (reverse l1) xs (subst (λ z. ReadsAll may z xs) (row_back o l1 f l2) h.1) in
-              let l = tie true h.0 in
-              let g = (like_b u.0 u.1 may xs).1 (((twice may).1 l.1, l.0), u.2) in
-              (any_order o c _ xs (side_b u.0 u.1) g.0, g.1))
+          let l = tie true h.0 in
+          let g = (like_b u.0 u.1 may xs).1 (((twice may).1 l.1, l.0), u.2) in
+          (any_order o c _ xs (side_b u.0 u.1) g.0, g.1))
           (Reads_Q may y line xs r);
     }

@@ -1,7 +1,7 @@
 -- Words against a set.
-use Rattle.std.proofs.Common.{◌≡◌, ℕ, Bool, true, false, cond, not, ◌&&◌, List, [], ◌∷◌, ◌++◌, reverse, refl, sym, ap, ◌∙◌, subst, inl, inr, ⊎_elim, arith}
+use Rattle.std.proofs.Common.{◌≡◌, ℕ, Bool, true, false, cond, not, ◌&&◌, List, [], ◌∷◌, ◌++◌, reverse, refl, sym, ap, ◌∙◌, ⊎_elim}
 use Rattle.std.specs.List.{list_all}
-use Rattle.std.proofs.lemmas.Bool.{both_ways, true≢false, false≢true, cases_Bool, not-true, not-false}
+use Rattle.std.proofs.lemmas.Bool.{true≢false, false≢true, cases_Bool}
 use Rattle.std.proofs.lemmas.List.{reverse-append}
 use Rattle.std.proofs.lemmas.List.Sorted.{IsPermutation-reverse}
 use Rattle.cp_pq.proofs.Permutations.{list_all-IsPermutation}
@@ -33,11 +33,12 @@ module _ (q p : ℕ → Bool) where
   pub sorted_last : Opposite q p → (u : List ℕ) → list_all p u ≡ true → sorted q p u ≡ true
   sorted_last opp [] = λ h. refl
   sorted_last opp (x ∷ u) =
-      elim (q x) as (λ b. b ≡ not (p x) → (p x && list_all p u) ≡ true → cond b (sorted q p u) (list_all p u) ≡ true)
-      [ true ↦ elim (p x) as (λ a. true ≡ not a → (a && list_all p u) ≡ true → sorted q p u ≡ true)
-          [ true ↦ λ e h. absurd (true≢false e) | false ↦ λ e h. absurd (false≢true h) ]
-      | false ↦ elim (p x) as (λ a. false ≡ not a → (a && list_all p u) ≡ true → list_all p u ≡ true)
-          [ true ↦ λ e h. h | false ↦ λ e h. absurd (false≢true h) ] ]
+      elim (q x) as (λ b. b ≡ not (p x) → (p x && list_all p u) ≡ true → cond b (sorted q p u) (list_all p u) ≡ true) [
+        | true ↦ elim (p x) as (λ a. true ≡ not a → (a && list_all p u) ≡ true → sorted q p u ≡ true)
+            [ true ↦ λ e h. absurd (true≢false e) | false ↦ λ e h. absurd (false≢true h) ]
+        | false ↦ elim (p x) as (λ a. false ≡ not a → (a && list_all p u) ≡ true → list_all p u ≡ true)
+            [ true ↦ λ e h. h | false ↦ λ e h. absurd (false≢true h) ]
+      ]
       (opp x)
 
   pub together_front : (u v : List ℕ) → list_all q u ≡ true → together q p (u ++ v) ≡ together q p v
@@ -59,7 +60,6 @@ module _ (q p : ℕ → Bool) where
   together_whole (x ∷ u) v =
       elim (q x) as (λ b. cond b (sorted q p u) (list_all p u) ≡ false → cond b (together q p (u ++ v)) (sorted p q (u ++ v)) ≡ (cond b (together q p u) (sorted p q u) && list_all q v))
       [ true ↦ λ s. together_whole u v s | false ↦ λ s. sorted_cut p q u v s ]
-
 
 and_true : (a : Bool) → (a && (true && true)) ≡ a
 and_true true = refl

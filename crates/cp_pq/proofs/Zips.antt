@@ -1,17 +1,16 @@
 -- Rows of kids with what each is.
-use Rattle.std.proofs.Common.{◌≡◌, ℕ, ◌<◌, ◌≤◌, Bool, true, false, cond, not, ◌&&◌, ◌||◌, ◌↔◌, ◌⊎◌, List, [], ◌∷◌, ◌++◌, length, length-append, flat_map, filter, reverse, refl, sym, ap, ap₂, ◌∙◌, subst, subst₂, inl, inr, ⊎_elim, append_assoc, append-nil, arith}
+use Rattle.std.proofs.Common.{◌≡◌, ℕ, ◌≤◌, Bool, true, false, cond, not, ◌&&◌, ◌↔◌, ◌⊎◌, List, [], ◌∷◌, ◌++◌, length, length-append, flat_map, filter, reverse, refl, sym, ap, ap₂, ◌∙◌, subst, subst₂, inl, inr, ⊎_elim, arith}
 use Rattle.std.specs.List.{list_all, list_any, AllZip}
 use Rattle.std.proofs.lemmas.Bool.{both_ways, true≢false, false≢true, cases_Bool, and_parts, and_from}
 use Rattle.std.proofs.lemmas.List.{reverse-append, reverse-reverse}
 use Rattle.std.proofs.lemmas.List.Folds.{list_all-append}
 use Rattle.std.proofs.lemmas.List.Sorted.{IsPermutation-reverse, list_any-IsPermutation}
 use Rattle.cp_pq.specs.declared.node.Node.{Node}
-use Rattle.cp_pq.specs.declared.node.Node.TheVariants.{Leaf, P, Q}
 use Rattle.cp_pq.specs.declared.found.Found.{Found}
-use Rattle.cp_pq.specs.Words.{is_mixed, Opposite, sorted, has_all, row_sorted, Licensed, IsLike, is_clear, IsNever}
-use Rattle.cp_pq.specs.Founds.{IsGiven, Sorts, is_out, is_in, is_torn, found_sorted, line_of, ties_of, flat_line, flat_ties, out_node, in_node, mixed_found}
+use Rattle.cp_pq.specs.Words.{is_mixed, Opposite, sorted, has_all, row_sorted, Licensed, IsLike, is_clear}
+use Rattle.cp_pq.specs.Founds.{IsGiven, Sorts, is_out, is_in, is_torn, found_sorted, flat_line, flat_ties, out_node, in_node, mixed_found}
 use Rattle.cp_pq.specs.Keeping.{any_bound, Keeps}
-use Rattle.cp_pq.specs.Grants.{Grant, Grants}
+use Rattle.cp_pq.specs.Grants.{Grants}
 use Rattle.cp_pq.proofs.Permutations.{list_all-IsPermutation}
 use Rattle.cp_pq.proofs.Mirrors.{like_again}
 use Rattle.cp_pq.proofs.WordLaws.{sorted_front}
@@ -19,8 +18,8 @@ use Rattle.cp_pq.proofs.Rows.{like_nil, like_front, sorted_here, row_all}
 use Rattle.cp_pq.proofs.NodeLayers.{all_leaves_nil}
 use Rattle.cp_pq.proofs.NodeTests.{all_one}
 use Rattle.cp_pq.proofs.KeepingLaws.{Keeps_refl, Keeps_append}
-use Rattle.cp_pq.proofs.Lines.{like_full, Q_forward, Q_backward, Q_never}
-use Rattle.cp_pq.proofs.Closes.{has_all_Q, never_like, false_unless}
+use Rattle.cp_pq.proofs.Lines.{like_full}
+use Rattle.cp_pq.proofs.Closes.{never_like, false_unless}
 
 pub given_out : (q p : ℕ → Bool) (k : Node) (f : Found) → IsGiven q p k f → has_all q k ≡ is_out f
 given_out q p k (Found.Out m) g = g.0
@@ -159,13 +158,14 @@ module _ (q p : ℕ → Bool) where
       ⊎_elim
       (λ e. and_from _ _ e (last_out ks x (sym (ap (λ b. cond b (row_sorted q p (ks ++ x ∷ [])) (list_all (has_all p) (ks ++ x ∷ []))) e) ∙ r) o i))
       (λ e. let full : list_all (has_all p) (ks ++ x ∷ []) ≡ true = sym (ap (λ b. cond b (row_sorted q p (ks ++ x ∷ [])) (list_all (has_all p) (ks ++ x ∷ []))) e) ∙ r in
-          absurd (both_ways _ i (and_parts _ _ (and_parts _ _ (sym (list_all-append (has_all p) ks (x ∷ [])) ∙ full)).1).0))
+      absurd (both_ways _ i (and_parts _ _ (and_parts _ _ (sym (list_all-append (has_all p) ks (x ∷ [])) ∙ full)).1).0))
       (cases_Bool (has_all q k))
 
   pub clear_other : (k : Node) → is_clear q p k ≡ true → has_all p k ≡ true → has_all q k ≡ false
-  clear_other k = elim (has_all p k) as (λ b. not (has_all q k && b) ≡ true → b ≡ true → has_all q k ≡ false)
-      [ true ↦ elim (has_all q k) as (λ a. not (a && true) ≡ true → true ≡ true → a ≡ false) [ true ↦ λ c h. absurd (false≢true c) | false ↦ λ c h. refl ]
-      | false ↦ λ c h. absurd (false≢true h) ]
+  clear_other k = elim (has_all p k) as (λ b. not (has_all q k && b) ≡ true → b ≡ true → has_all q k ≡ false) [
+    | true ↦ elim (has_all q k) as (λ a. not (a && true) ≡ true → true ≡ true → a ≡ false) [ true ↦ λ c h. absurd (false≢true c) | false ↦ λ c h. refl ]
+    | false ↦ λ c h. absurd (false≢true h)
+  ]
 
   both_at : (r : List Node) (x : Node) → list_all (is_clear q p) (r ++ x ∷ []) ≡ true
       → row_sorted q p (r ++ x ∷ []) ≡ true → row_sorted q p (x ∷ reverse r) ≡ true
@@ -175,10 +175,10 @@ module _ (q p : ℕ → Bool) where
       ⊎_elim
       (λ o. inl (last_out (k ∷ r) x a o (false_unless _ (λ i. both_ways _ (clear_other x (and_parts _ _ (and_parts _ _ (sym (list_all-append (is_clear q p) (k ∷ r) (x ∷ [])) ∙ c)).1).0 i) o))))
       (λ o. let full : list_all (has_all p) (k ∷ r) ≡ true = list_all-IsPermutation (has_all p) (k ∷ r) (reverse (k ∷ r)) (IsPermutation-reverse (k ∷ r)) ∙ sym (ap (λ b. cond b (row_sorted q p (reverse (k ∷ r))) (list_all (has_all p) (reverse (k ∷ r)))) o) ∙ b in
-          let first = (and_parts _ _ full).0 in
-          let not_out = clear_other k (and_parts _ _ c).0 first in
-          let rest : list_all (has_all p) (r ++ x ∷ []) ≡ true = sym (ap (λ b. cond b (row_sorted q p (r ++ x ∷ [])) (list_all (has_all p) (r ++ x ∷ []))) not_out) ∙ a in
-          inr (inl (and_from _ _ first rest)))
+      let first = (and_parts _ _ full).0 in
+      let not_out = clear_other k (and_parts _ _ c).0 first in
+      let rest : list_all (has_all p) (r ++ x ∷ []) ≡ true = sym (ap (λ b. cond b (row_sorted q p (r ++ x ∷ [])) (list_all (has_all p) (r ++ x ∷ []))) not_out) ∙ a in
+      inr (inl (and_from _ _ first rest)))
       (cases_Bool (has_all q x))
 
   both_by : (rs ks : List Node) → ks ≡ reverse rs → list_all (is_clear q p) ks ≡ true → row_sorted q p ks ≡ true
@@ -288,6 +288,7 @@ torn_back fs = sym (list_any-IsPermutation is_torn fs (reverse fs) (IsPermutatio
 pub grants_licensed : (may : ℕ → Bool → Bool) (fs : List Found) (ts : List (ℕ × Bool)) → list_any is_torn fs ≡ false
     → (Licensed false may ts × Grants may fs) ↔ Licensed false may (flat_ties (reverse fs) ++ ts)
 grants_licensed may fs ts h =
-    let g = grants_ties may (reverse fs) (torn_back fs ∙ h) in
-    (λ x. licence_join false may (flat_ties (reverse fs)) ts (g.0 (grants_back may fs x.1)) x.0,
-     λ x. let c = licence_cut false may (flat_ties (reverse fs)) ts x in (c.1, subst (Grants may) (reverse-reverse fs) (grants_back may (reverse fs) (g.1 c.0))))
+    let g = grants_ties may (reverse fs) (torn_back fs ∙ h) in (
+      λ x. licence_join false may (flat_ties (reverse fs)) ts (g.0 (grants_back may fs x.1)) x.0,
+      λ x. let c = licence_cut false may (flat_ties (reverse fs)) ts x in (c.1, subst (Grants may) (reverse-reverse fs) (grants_back may (reverse fs) (g.1 c.0))),
+    )

@@ -6,7 +6,7 @@ use Rattle.cp_pq.specs.declared.node.Node.{Node}
 use Rattle.cp_pq.specs.declared.node.Node.TheVariants.{Leaf, P, Q}
 use Rattle.cp_pq.specs.declared.part.Part.{Part}
 use Rattle.cp_pq.specs.Nodes.{leaves, is_branching, has_vars_below}
-use Rattle.cp_pq.specs.Bits.{bit_of, flip}
+use Rattle.cp_pq.specs.Bits.{bit_of}
 use Rattle.cp_pq.specs.Readings.{Reads, given}
 use Rattle.cp_pq.specs.Trees.{PQTree, make_tree, IsPair, Admits}
 use Rattle.cp_pq.specs.Orders.{IsConsecutive, HasRow}

@@ -51,9 +51,16 @@ pub enum Step {
 #[derive(Drop)]
 pub enum Row {
     /// None holds the whole set. Together they hold `count` leaves of it.
-    Open { founds: Founds, count: usize },
+    Open {
+        founds: Founds,
+        count: usize,
+    },
     /// One of them does.
-    Root { before: Founds, place: Place, after: Founds },
+    Root {
+        before: Founds,
+        place: Place,
+        after: Founds,
+    },
 }
 
 impl Row {
@@ -106,7 +113,13 @@ impl Row {
 }
 
 /// The place with one more frame round it.
-fn framed(alloc: Global, label: Label, before: Founds, place: Place, after: Founds) -> Result<Place, Memory>
+fn framed(
+    alloc: Global,
+    label: Label,
+    before: Founds,
+    place: Place,
+    after: Founds,
+) -> Result<Place, Memory>
     ensures { IfOk result (λ r. (r.frames ≡ place.frames ++ record { label = label; before = flat_line before; after = flat_line after } ∷ [])
         × (r.top ≡ place.top)) }
 {

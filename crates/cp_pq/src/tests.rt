@@ -11,7 +11,12 @@ use std::test::Fail;
 const OWNER: usize = 7;
 
 // The star with this root and these leaves, reduced by the set.
-fn star_reduced(alloc: Global, root: usize, leaves: &[usize], set: &[usize]) -> Result<Tree, ReduceFault>
+fn star_reduced(
+    alloc: Global,
+    root: usize,
+    leaves: &[usize],
+    set: &[usize],
+) -> Result<Tree, ReduceFault>
     requires { IsTrue (is_star_with root leaves.now set.now) }
 {
     let tree = star(alloc, root, leaves, OWNER, 0)?;

@@ -1,4 +1,4 @@
-use Rattle.std.proofs.Common.{◌≡◌, ℕ, ◌+◌, ◌<◌, ◌≤◌, List, [], ◌∷◌, ◌++◌, length, length-append, refl, sym, ap, ◌∙◌, arith}
+use Rattle.std.proofs.Common.{◌≡◌, ℕ, ◌<◌, ◌≤◌, List, [], ◌∷◌, ◌++◌, length, length-append, ap, arith}
 use Rattle.cp_pq.specs.declared.found.Found.{Found}
 use Rattle.cp_pq.proofs.Closes.{close_many}
 use Rattle.cp_pq.proofs.close.close_p.Goals as goal

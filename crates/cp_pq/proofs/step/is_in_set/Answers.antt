@@ -1,4 +1,4 @@
-use Rattle.std.proofs.Common.{◌≡◌, ◌∙◌}
+use Rattle.std.proofs.Common.{◌∙◌}
 use Rattle.std.proofs.lemmas.List.Sorted.{searched}
 use Rattle.cp_pq.proofs.SearchedSets.{not_falling, searched_inside}
 use Rattle.cp_pq.proofs.step.is_in_set.Goals as goal
