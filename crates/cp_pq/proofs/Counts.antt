@@ -11,9 +11,8 @@ use Rattle.std.specs.Prelude.{nat_lt}
 use Rattle.std.proofs.lemmas.Bool.{false≢true, true≢false, cases_Bool, and_parts, ltb-true}
 use Rattle.cp_pq.specs.Words.{Opposite, has_all, is_met}
 use Rattle.cp_pq.specs.Frames.{node_of}
-use Rattle.cp_pq.proofs.NodeLayers.{leaves_Leaf, leaves_P, leaves_Q, all_leaves_cons, all_leaves_append, all_leaves_nil, all_leaves_one}
+use Rattle.cp_pq.proofs.NodeLayers.{leaves_Leaf, leaves_P, leaves_Q, all_leaves_cons, all_leaves_append, all_leaves_nil}
 use Rattle.cp_pq.proofs.Rows.{row_all}
-use Rattle.cp_pq.proofs.Permutations.{filter_none}
 use Rattle.cp_pq.proofs.Closes.{has_all_P, has_all_Q}
 
 pub count_Leaf : (p : ℕ → Bool) (x : ℕ) (b : Bool) → p x ≡ b → count_in p (Leaf x) ≡ cond b 1 0
@@ -36,7 +35,8 @@ pub count_Q_at : (p : ℕ → Bool) (n : Node) (o : ℕ) (ks : List Node) → n 
 unfolding count_in count_all
 count_Q_at p n o ks e = ap (λ z. length (filter p (leaves z))) e ∙ ap (λ z. length (filter p z)) (leaves_Q o ks)
 
-pub count_at : (p : ℕ → Bool) (ks : List Node) (i : ℕ) (d : Node) → i < length ks → count_in p (get_or ks i d) ≤ count_all p ks
+pub count_at : (p : ℕ → Bool) (ks : List Node) (i : ℕ) (d : Node) → i < length ks
+    → count_in p (get_or ks i d) ≤ count_all p ks
 count_at p [] i d lt = absurd (omega arith)
 count_at p (k ∷ ks) zero d lt = let e = count_cons p k ks in omega arith
 count_at p (k ∷ ks) (suc i) d lt = let e = count_cons p k ks in let h = count_at p ks i d (omega arith) in omega arith
@@ -46,7 +46,8 @@ pub none_inside : (q p : ℕ → Bool) → Opposite q p → (xs : List ℕ) → 
 none_inside q p opp [] = λ h. refl
 none_inside q p opp (x ∷ xs) = go (q x) (p x) (opp x) (none_inside q p opp xs)
   where
-    go : (a b : Bool) → a ≡ not b → (length (filter p xs) ≡ 0 → list_all q xs ≡ true) → length (cond b (x ∷ filter p xs) (filter p xs)) ≡ 0 → (a && list_all q xs) ≡ true
+    go : (a b : Bool) → a ≡ not b → (length (filter p xs) ≡ 0 → list_all q xs ≡ true)
+        → length (cond b (x ∷ filter p xs) (filter p xs)) ≡ 0 → (a && list_all q xs) ≡ true
     go true true e ih h = absurd (true≢false e)
     go true false e ih h = ih h
     go false true e ih h = absurd (omega arith)
@@ -61,18 +62,19 @@ unfolding count_all
 count_append p ks js = ap (λ z. length (filter p z)) (all_leaves_append ks js) ∙ ap length (filter-append p (all_leaves ks) (all_leaves js)) ∙ length-append (filter p (all_leaves ks)) (filter p (all_leaves js))
 
 -- beside a kid that holds the whole set the others are outside
-pub others_out : (q p : ℕ → Bool) → Opposite q p → (a b : List Node) (k : Node) (total : ℕ) → count_in p k ≡ total → count_all p (a ++ k ∷ b) ≤ total → (list_all (has_all q) a ≡ true) × (list_all (has_all q) b ≡ true)
+pub others_out : (q p : ℕ → Bool) → Opposite q p → (a b : List Node) (k : Node) (total : ℕ) → count_in p k ≡ total
+    → count_all p (a ++ k ∷ b) ≤ total → (list_all (has_all q) a ≡ true) × (list_all (has_all q) b ≡ true)
 others_out q p opp a b k total e le =
     let x = count_append p a (k ∷ b) in let y = count_cons p k b in
     (none_outs q p opp a (omega arith), none_outs q p opp b (omega arith))
-
 
 -- the count of an inner node is that of its kids, and its leaves pass a test where those of its kids do
 pub count_node : (p : ℕ → Bool) (label : Label) (ks : List Node) → count_in p (node_of label ks) ≡ count_all p ks
 count_node p (Label.P o) ks = count_P_at p (P o ks) o ks refl
 count_node p (Label.Q v) ks = count_Q_at p (Q v ks) v ks refl
 
-pub has_all_node : (p : ℕ → Bool) (label : Label) (ks : List Node) → has_all p (node_of label ks) ≡ list_all (has_all p) ks
+pub has_all_node : (p : ℕ → Bool) (label : Label) (ks : List Node)
+    → has_all p (node_of label ks) ≡ list_all (has_all p) ks
 has_all_node p (Label.P o) ks = has_all_P p o ks
 has_all_node p (Label.Q v) ks = has_all_Q p v ks
 
@@ -87,7 +89,8 @@ none_of_out : (q p : ℕ → Bool) → Opposite q p → (xs : List ℕ) → list
 none_of_out q p opp [] = λ g. refl
 none_of_out q p opp (x ∷ xs) = go (q x) (p x) (opp x) (none_of_out q p opp xs)
   where
-    go : (a b : Bool) → a ≡ not b → (list_all q xs ≡ true → length (filter p xs) ≡ 0) → (a && list_all q xs) ≡ true → length (cond b (x ∷ filter p xs) (filter p xs)) ≡ 0
+    go : (a b : Bool) → a ≡ not b → (list_all q xs ≡ true → length (filter p xs) ≡ 0) → (a && list_all q xs) ≡ true
+        → length (cond b (x ∷ filter p xs) (filter p xs)) ≡ 0
     go true true e ih h = absurd (true≢false e)
     go true false e ih h = ih h
     go false b e ih h = absurd (false≢true h)
@@ -104,23 +107,25 @@ module _ (q p : ℕ → Bool) (opp : Opposite q p) (total : ℕ) (pos : 0 < tota
   met_none (k ∷ ks) e =
       ⊎_elim
       (λ out. let a = count_cons p k ks in let b = out_count q p opp k out in
-          let c = met_none ks (sym (ap (λ x. length (cond (not x) (k ∷ filter (is_met q) ks) (filter (is_met q) ks))) out) ∙ e) in omega arith)
+      let c = met_none ks (sym (ap (λ x. length (cond (not x) (k ∷ filter (is_met q) ks) (filter (is_met q) ks))) out) ∙ e) in omega arith)
       (λ out. let z : length (k ∷ filter (is_met q) ks) ≡ 0 = sym (ap (λ x. length (cond (not x) (k ∷ filter (is_met q) ks) (filter (is_met q) ks))) out) ∙ e in absurd (omega arith))
       (cases_Bool (has_all q k))
 
-  met_one : (ks : List Node) → list_all (λ k. nat_lt (count_in p k) total) ks ≡ true → length (filter (is_met q) ks) ≤ 1 → count_all p ks < total
+  met_one : (ks : List Node) → list_all (λ k. nat_lt (count_in p k) total) ks ≡ true → length (filter (is_met q) ks) ≤ 1
+      → count_all p ks < total
   met_one [] below le = let e = met_none [] refl in omega arith
   met_one (k ∷ ks) below le =
       let a = count_cons p k ks in
       let g = and_parts (nat_lt (count_in p k) total) (list_all (λ k. nat_lt (count_in p k) total) ks) below in
       ⊎_elim
       (λ out. let b = out_count q p opp k out in
-          let c = met_one ks g.1 (subst (λ z. z ≤ 1) (ap (λ x. length (cond (not x) (k ∷ filter (is_met q) ks) (filter (is_met q) ks))) out) le) in omega arith)
+      let c = met_one ks g.1 (subst (λ z. z ≤ 1) (ap (λ x. length (cond (not x) (k ∷ filter (is_met q) ks) (filter (is_met q) ks))) out) le) in omega arith)
       (λ out. let z : length (k ∷ filter (is_met q) ks) ≤ 1 = subst (λ z. z ≤ 1) (ap (λ x. length (cond (not x) (k ∷ filter (is_met q) ks) (filter (is_met q) ks))) out) le in
-          let b = met_none ks (omega arith) in let lt = ltb-true (count_in p k) total g.0 in omega arith)
+      let b = met_none ks (omega arith) in let lt = ltb-true (count_in p k) total g.0 in omega arith)
       (cases_Bool (has_all q k))
 
-  pub two_met : (ks : List Node) → list_all (λ k. nat_lt (count_in p k) total) ks ≡ true → total ≤ count_all p ks → 2 ≤ length (filter (is_met q) ks)
+  pub two_met : (ks : List Node) → list_all (λ k. nat_lt (count_in p k) total) ks ≡ true → total ≤ count_all p ks
+      → 2 ≤ length (filter (is_met q) ks)
   two_met ks below le = ⊎_elim (λ lt. let h = met_one ks below lt in absurd (omega arith)) (λ ge. ge) (few_or_two (length (filter (is_met q) ks)))
     where
       few_or_two : (n : ℕ) → (n ≤ 1) ⊎ (2 ≤ n)

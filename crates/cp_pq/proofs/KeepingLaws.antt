@@ -1,25 +1,25 @@
 -- Rows that keep leaves, two kids, vars and owners: how rows are put together and nodes built from them.
-use Rattle.std.proofs.Common.{◌≡◌, ℕ, ◌<◌, ◌≤◌, ◌⊎◌, Bool, true, false, ◌&&◌, List, [], ◌∷◌, ◌++◌, length, length-append, inl, inr, ⊎_elim, refl, sym, ap, ap₂, ◌∙◌, subst, subst₂, append-nil, append_assoc, arith, IsPermutation}
+use Rattle.std.proofs.Common.{◌≡◌, ℕ, ◌<◌, ◌≤◌, ◌⊎◌, Bool, true, List, [], ◌∷◌, ◌++◌, length, length-append, inl, inr, ⊎_elim, refl, sym, ap, ap₂, ◌∙◌, subst, subst₂, append_assoc, arith, IsPermutation}
 use Rattle.std.specs.Prelude.{nat_lt}
 use Rattle.std.specs.List.{list_all}
 use Rattle.std.proofs.lemmas.Bool.{and_parts, and_from, lt-ltb}
 use Rattle.std.proofs.lemmas.List.Folds.{list_all-append}
-use Rattle.std.proofs.lemmas.List.Sorted.{IsPermutation-refl, IsPermutation-sym, IsPermutation-trans, IsPermutation-append, IsPermutation-append_left, IsPermutation-append_right, IsPermutation-append_comm}
+use Rattle.std.proofs.lemmas.List.Sorted.{IsPermutation-refl, IsPermutation-sym, IsPermutation-trans, IsPermutation-append, IsPermutation-append_comm}
 use Rattle.cp_lists.specs.CyclicLists.{Distinct}
 use Rattle.cp_lists.proofs.DistinctLists.{Distinct-append_left, Distinct-append_right}
 use Rattle.cp_pq.specs.declared.node.Node.{Node}
-use Rattle.cp_pq.specs.declared.node.Node.TheVariants.{Leaf, P, Q}
-use Rattle.cp_pq.specs.Nodes.{leaves, all_leaves, is_branching, has_vars_below, IsIn, itself}
+use Rattle.cp_pq.specs.declared.node.Node.TheVariants.{P, Q}
+use Rattle.cp_pq.specs.Nodes.{all_leaves, is_branching, has_vars_below, itself}
 use Rattle.cp_pq.specs.Owners.{Fits}
 use Rattle.cp_pq.specs.Words.{group_of}
-use Rattle.cp_pq.specs.Keeping.{IsInRow, RowKeepsOwners, any_bound, Keeps}
-use Rattle.cp_pq.proofs.NodeLayers.{P_P, P_Q, leaves_P, leaves_Q, all_leaves_one, all_leaves_append, all_leaves_nil}
+use Rattle.cp_pq.specs.Keeping.{IsInRow, any_bound, Keeps}
+use Rattle.cp_pq.proofs.NodeLayers.{P_P, P_Q, leaves_P, leaves_Q, all_leaves_one, all_leaves_append}
 use Rattle.cp_pq.proofs.NodeTests.{all_one, below_P, below_Q, branching_P_parts, branching_Q_parts, branching_P_from, branching_Q_from}
 use Rattle.cp_pq.proofs.Permutations.{IsPermutation-same, list_all-IsPermutation}
 use Rattle.cp_pq.proofs.PermutedLists.{Distinct-IsPermutation}
 use Rattle.cp_pq.proofs.ReadingLaws.{IsPermutation-all_leaves}
 use Rattle.cp_pq.proofs.NodesIn.{in_P, in_Q, in_row_one, one_in_row, in_row_cases, in_row_left, in_row_right, in_row_permuted, in_row_P, in_row_Q}
-use Rattle.cp_pq.proofs.FittingSides.{Fits_refl, Fits_trans, Fits_permuted, Fits_part, Fits_union}
+use Rattle.cp_pq.proofs.FittingSides.{Fits_refl, Fits_trans, Fits_part, Fits_union}
 
 -- the leaves of a row of one P-node or Q-node
 row_P_leaves : (o : ℕ) (ks : List Node) → all_leaves (P o ks ∷ []) ≡ all_leaves ks
@@ -32,7 +32,8 @@ kids_distinct : (o : ℕ) (ks : List Node) → Distinct (all_leaves (P o ks ∷ 
 kids_distinct o ks d = subst Distinct (row_P_leaves o ks) d
 
 -- a P-node of a row of one P-node is this one or stands in its kids
-owner_cases : (o ow : ℕ) (js ls : List Node) → IsInRow (P ow ls) (P o js ∷ []) → ((ow ≡ o) × (ls ≡ js)) ⊎ IsInRow (P ow ls) js
+owner_cases : (o ow : ℕ) (js ls : List Node) → IsInRow (P ow ls) (P o js ∷ [])
+    → ((ow ≡ o) × (ls ≡ js)) ⊎ IsInRow (P ow ls) js
 owner_cases o ow js ls h = ⊎_elim (λ e. inl (P_P ow o ls js e)) inr (in_P (P ow ls) o js (in_row_one (P ow ls) (P o js) h))
 
 -- the P-node itself
@@ -50,17 +51,20 @@ group_branching o [] h = h
 group_branching o (k ∷ []) h = h
 group_branching o (k ∷ j ∷ ks) h = all_one is_branching (P o (k ∷ j ∷ ks)) ∙ branching_P_from o (k ∷ j ∷ ks) (omega arith) h
 
-group_below : (o m : ℕ) (e : List Node) → list_all (has_vars_below m) e ≡ true → list_all (has_vars_below m) (group_of o e) ≡ true
+group_below : (o m : ℕ) (e : List Node) → list_all (has_vars_below m) e ≡ true
+    → list_all (has_vars_below m) (group_of o e) ≡ true
 group_below o m [] h = h
 group_below o m (k ∷ []) h = h
 group_below o m (k ∷ j ∷ ks) h = all_one (has_vars_below m) (P o (k ∷ j ∷ ks)) ∙ below_P m o (k ∷ j ∷ ks) ∙ h
 
-group_owner : (o ow : ℕ) (e ls : List Node) → IsInRow (P ow ls) (group_of o e) → ((ow ≡ o) × (ls ≡ e)) ⊎ IsInRow (P ow ls) e
+group_owner : (o ow : ℕ) (e ls : List Node) → IsInRow (P ow ls) (group_of o e)
+    → ((ow ≡ o) × (ls ≡ e)) ⊎ IsInRow (P ow ls) e
 group_owner o ow [] ls h = inr h
 group_owner o ow (k ∷ []) ls h = inr h
 group_owner o ow (k ∷ j ∷ ks) ls h = owner_cases o ow (k ∷ j ∷ ks) ls h
 
-all_split : (f : Node → Bool) (a b : List Node) → list_all f (a ++ b) ≡ true → (list_all f a ≡ true) × (list_all f b ≡ true)
+all_split : (f : Node → Bool) (a b : List Node) → list_all f (a ++ b) ≡ true
+    → (list_all f a ≡ true) × (list_all f b ≡ true)
 all_split f a b h = and_parts (list_all f a) (list_all f b) (sym (list_all-append f a b) ∙ h)
 
 all_join : (f : Node → Bool) (a b : List Node) → list_all f a ≡ true → list_all f b ≡ true → list_all f (a ++ b) ≡ true
@@ -106,7 +110,8 @@ module _ (V : ℕ → Type 0) where
   }
 
   -- new kids of a P-node
-  pub Keeps_P : (o : ℕ) (ks js : List Node) → Keeps V ks js → (Distinct (all_leaves ks) → Fits ks js) → (2 ≤ length ks → 2 ≤ length js) → Keeps V (P o ks ∷ []) (P o js ∷ [])
+  pub Keeps_P : (o : ℕ) (ks js : List Node) → Keeps V ks js → (Distinct (all_leaves ks) → Fits ks js)
+      → (2 ≤ length ks → 2 ≤ length js) → Keeps V (P o ks ∷ []) (P o js ∷ [])
   Keeps_P o ks js k fits two = record {
     leaves_kept = subst₂ IsPermutation (sym (row_P_leaves o ks)) (sym (row_P_leaves o js)) k.leaves_kept;
     branching = λ h. let g = branching_P_parts o ks (sym (all_one is_branching (P o ks)) ∙ h) in all_one is_branching (P o js) ∙ branching_P_from o js (two g.0) (k.branching g.1);
@@ -120,7 +125,8 @@ module _ (V : ℕ → Type 0) where
   }
 
   -- new kids of a Q-node
-  pub Keeps_Q : (w : ℕ) (ks js : List Node) → Keeps V ks js → (2 ≤ length ks → 2 ≤ length js) → Keeps V (Q w ks ∷ []) (Q w js ∷ [])
+  pub Keeps_Q : (w : ℕ) (ks js : List Node) → Keeps V ks js → (2 ≤ length ks → 2 ≤ length js)
+      → Keeps V (Q w ks ∷ []) (Q w js ∷ [])
   Keeps_Q w ks js k two = record {
     leaves_kept = subst₂ IsPermutation (sym (row_Q_leaves w ks)) (sym (row_Q_leaves w js)) k.leaves_kept;
     branching = λ h. let g = branching_Q_parts w ks (sym (all_one is_branching (Q w ks)) ∙ h) in all_one is_branching (Q w js) ∙ branching_Q_from w js (two g.0) (k.branching g.1);
@@ -144,7 +150,8 @@ module _ (V : ℕ → Type 0) where
   }
 
   -- a P-node whose kids are in three parts, of which the first and the last are grouped
-  pub Keeps_grouped : (o : ℕ) (ks e m f : List Node) → IsPermutation ks (e ++ (m ++ f)) → Keeps V (P o ks ∷ []) (group_of o e ++ (m ++ group_of o f))
+  pub Keeps_grouped : (o : ℕ) (ks e m f : List Node) → IsPermutation ks (e ++ (m ++ f))
+      → Keeps V (P o ks ∷ []) (group_of o e ++ (m ++ group_of o f))
   Keeps_grouped o ks e m f perm = record {
     leaves_kept = IsPermutation-trans _ _ _ (IsPermutation-same _ _ (row_P_leaves o ks)) (IsPermutation-trans _ _ _ (IsPermutation-all_leaves ks _ perm) (IsPermutation-same _ _ same));
     branching = λ h.
@@ -156,19 +163,19 @@ module _ (V : ℕ → Type 0) where
     owners = λ d ow ls h.
         let dis = kids_distinct o ks d in
         let back : (z : List Node) → IsInRow (P ow ls) (e ++ (m ++ f)) → (old : List Node) × IsInRow (P ow old) (P o ks ∷ []) × Fits old ls
-              = λ z x. (ls, in_row_P (P ow ls) o ks (in_row_permuted (P ow ls) (e ++ (m ++ f)) ks (IsPermutation-sym ks _ perm) x), Fits_refl ls) in
+        = λ z x. (ls, in_row_P (P ow ls) o ks (in_row_permuted (P ow ls) (e ++ (m ++ f)) ks (IsPermutation-sym ks _ perm) x), Fits_refl ls) in
         ⊎_elim
         (λ x. ⊎_elim
-            (λ g. (ks, own o ks ow g.0, subst (Fits ks) (sym g.1) (Fits_part ks e (m ++ f) perm dis)))
-            (λ g. back ls (in_row_left (P ow ls) e (m ++ f) g))
-            (group_owner o ow e ls x))
+        (λ g. (ks, own o ks ow g.0, subst (Fits ks) (sym g.1) (Fits_part ks e (m ++ f) perm dis)))
+        (λ g. back ls (in_row_left (P ow ls) e (m ++ f) g))
+        (group_owner o ow e ls x))
         (λ x. ⊎_elim
-            (λ g. back ls (in_row_right (P ow ls) e (m ++ f) (in_row_left (P ow ls) m f g)))
-            (λ y. ⊎_elim
-                (λ g. (ks, own o ks ow g.0, subst (Fits ks) (sym g.1) (Fits_part ks f (e ++ m) last dis)))
-                (λ g. back ls (in_row_right (P ow ls) e (m ++ f) (in_row_right (P ow ls) m f g)))
-                (group_owner o ow f ls y))
-            (in_row_cases (P ow ls) m (group_of o f) x))
+        (λ g. back ls (in_row_right (P ow ls) e (m ++ f) (in_row_left (P ow ls) m f g)))
+        (λ y. ⊎_elim
+        (λ g. (ks, own o ks ow g.0, subst (Fits ks) (sym g.1) (Fits_part ks f (e ++ m) last dis)))
+        (λ g. back ls (in_row_right (P ow ls) e (m ++ f) (in_row_right (P ow ls) m f g)))
+        (group_owner o ow f ls y))
+        (in_row_cases (P ow ls) m (group_of o f) x))
         (in_row_cases (P ow ls) (group_of o e) (m ++ group_of o f) h);
   }
     where
@@ -179,36 +186,38 @@ module _ (V : ℕ → Type 0) where
       last : IsPermutation ks (f ++ (e ++ m))
       last = IsPermutation-trans _ _ _ perm (IsPermutation-trans _ _ _ (IsPermutation-same _ _ (sym (append_assoc e m f))) (IsPermutation-append_comm (e ++ m) f))
 
-      parts : (t : Node → Bool) → list_all t ks ≡ true → (list_all t e ≡ true) × (list_all t m ≡ true) × (list_all t f ≡ true)
+      parts : (t : Node → Bool) → list_all t ks ≡ true
+          → (list_all t e ≡ true) × (list_all t m ≡ true) × (list_all t f ≡ true)
       parts t h =
           let a = all_split t e (m ++ f) (sym (list_all-IsPermutation t ks _ perm) ∙ h) in
           let b = all_split t m f a.1 in
           (a.0, b.0, b.1)
 
   -- the kids of a P-node in two parts, of which the second is put under a P-node of its own
-  pub Keeps_parted : (o : ℕ) (ks e c : List Node) → IsPermutation ks (e ++ c) → 1 ≤ length e → 2 ≤ length c → Keeps V (P o ks ∷ []) (P o (e ++ P o c ∷ []) ∷ [])
+  pub Keeps_parted : (o : ℕ) (ks e c : List Node) → IsPermutation ks (e ++ c) → 1 ≤ length e → 2 ≤ length c
+      → Keeps V (P o ks ∷ []) (P o (e ++ P o c ∷ []) ∷ [])
   Keeps_parted o ks e c perm one two = record {
     leaves_kept = subst₂ IsPermutation (sym (row_P_leaves o ks)) (sym (row_P_leaves o (e ++ P o c ∷ []))) (IsPermutation-trans _ _ _ (IsPermutation-all_leaves ks _ perm) (IsPermutation-same _ _ same));
     branching = λ h.
         let g = all_split is_branching e c (sym (list_all-IsPermutation is_branching ks _ perm) ∙ (branching_P_parts o ks (sym (all_one is_branching (P o ks)) ∙ h)).1) in
         all_one is_branching (P o (e ++ P o c ∷ [])) ∙ branching_P_from o (e ++ P o c ∷ []) long
-            (all_join is_branching e (P o c ∷ []) g.0 (all_one is_branching (P o c) ∙ branching_P_from o c two g.1));
+        (all_join is_branching e (P o c ∷ []) g.0 (all_one is_branching (P o c) ∙ branching_P_from o c two g.1));
     vars_below = λ b v h.
         let g = all_split (has_vars_below b) e c (sym (list_all-IsPermutation (has_vars_below b) ks _ perm) ∙ sym (below_P b o ks) ∙ sym (all_one (has_vars_below b) (P o ks)) ∙ h) in
         all_one (has_vars_below b) (P o (e ++ P o c ∷ [])) ∙ below_P b o (e ++ P o c ∷ []) ∙ all_join (has_vars_below b) e (P o c ∷ []) g.0 (all_one (has_vars_below b) (P o c) ∙ below_P b o c ∙ g.1);
     owners = λ d ow ls h.
         let dis = kids_distinct o ks d in
         let back : IsInRow (P ow ls) (e ++ c) → (old : List Node) × IsInRow (P ow old) (P o ks ∷ []) × Fits old ls
-              = λ x. (ls, in_row_P (P ow ls) o ks (in_row_permuted (P ow ls) (e ++ c) ks (IsPermutation-sym ks _ perm) x), Fits_refl ls) in
+        = λ x. (ls, in_row_P (P ow ls) o ks (in_row_permuted (P ow ls) (e ++ c) ks (IsPermutation-sym ks _ perm) x), Fits_refl ls) in
         ⊎_elim
         (λ g. (ks, own o ks ow g.0, subst (Fits ks) (sym g.1) (Fits_union ks e c (P o c) perm (IsPermutation-same _ _ (sym (leaves_P o c))))))
         (λ g. ⊎_elim
-            (λ x. back (in_row_left (P ow ls) e c x))
-            (λ x. ⊎_elim
-                (λ y. (ks, own o ks ow y.0, subst (Fits ks) (sym y.1) (Fits_part ks c e (IsPermutation-trans _ _ _ perm (IsPermutation-append_comm e c)) dis)))
-                (λ y. back (in_row_right (P ow ls) e c y))
-                (owner_cases o ow c ls x))
-            (in_row_cases (P ow ls) e (P o c ∷ []) g))
+        (λ x. back (in_row_left (P ow ls) e c x))
+        (λ x. ⊎_elim
+        (λ y. (ks, own o ks ow y.0, subst (Fits ks) (sym y.1) (Fits_part ks c e (IsPermutation-trans _ _ _ perm (IsPermutation-append_comm e c)) dis)))
+        (λ y. back (in_row_right (P ow ls) e c y))
+        (owner_cases o ow c ls x))
+        (in_row_cases (P ow ls) e (P o c ∷ []) g))
         (owner_cases o ow (e ++ P o c ∷ []) ls h);
   }
     where

@@ -33,3 +33,5 @@ mod LeafSets
 mod Stars
 mod ReducedTrees
 mod SetInTrees
+mod SearchedSets
+mod SmallStars

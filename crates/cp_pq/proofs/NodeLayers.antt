@@ -1,10 +1,10 @@
 -- The variants of a node told apart, and induction.
-use Rattle.std.proofs.Common.{◌≡◌, ℕ, Bool, true, false, List, [], ◌∷◌, ◌++◌, map, flat_map, refl, sym, ap, ◌∙◌, subst, append-nil}
+use Rattle.std.proofs.Common.{◌≡◌, ℕ, List, [], ◌∷◌, ◌++◌, map, flat_map, refl, sym, ap, ◌∙◌, append-nil}
 use Rattle.std.proofs.lemmas.List.Concat.{flat_map-append}
 use Rattle.cp_pq.specs.declared.node.Node.{Node}
 use Rattle.cp_pq.specs.declared.node.Node.TheOpen.{Node-F}
-use Rattle.cp_pq.specs.declared.node.Node.TheViews.{out-Node, roll-Node, out-roll-Node}
-use Rattle.cp_pq.specs.declared.node.Node.TheFolds.{fold-Node, fold-roll-Node, map-Node, ind-Node}
+use Rattle.cp_pq.specs.declared.node.Node.TheViews.{out-Node, out-roll-Node}
+use Rattle.cp_pq.specs.declared.node.Node.TheFolds.{fold-roll-Node}
 use Rattle.cp_pq.specs.declared.node.Node.TheVariants.{Leaf, P, Q, rolls-Leaf, rolls-P, rolls-Q}
 use Rattle.cp_pq.specs.Nodes.{leaves, leaves_step, all_leaves}
 

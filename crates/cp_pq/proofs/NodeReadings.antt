@@ -1,5 +1,5 @@
 -- Each node has a reading where each var may have the bit false, and readings depend on the vars of the node alone.
-use Rattle.std.proofs.Common.{◌≡◌, ℕ, ◌<◌, ◌≤◌, Bool, true, false, ◌&&◌, List, [], ◌∷◌, ◌++◌, map, reverse, refl, sym, ap, ◌∙◌, subst, subst₂, arith, IsPermutation}
+use Rattle.std.proofs.Common.{◌≡◌, ℕ, ◌<◌, ◌≤◌, Bool, true, false, List, [], ◌∷◌, map, reverse, refl, sym, ◌∙◌, subst, arith}
 use Rattle.std.specs.Prelude.{nat_lt}
 use Rattle.std.specs.List.{list_all}
 use Rattle.std.proofs.lemmas.Bool.{and_parts, and_from, ltb-true, lt-ltb}
@@ -18,7 +18,8 @@ use Rattle.cp_pq.proofs.Permutations.{list_all-IsPermutation}
 abbrev Stands : (ℕ → Bool → Bool) → Node → Type 0
 Stands may n = Reads may n (leaves n)
 
-row_stands : (may : ℕ → Bool → Bool) (es : List ((n : Node) × Stands may n)) → ReadsAll may (map (λ e. e.0) es) (all_leaves (map (λ e. e.0) es))
+row_stands : (may : ℕ → Bool → Bool) (es : List ((n : Node) × Stands may n))
+    → ReadsAll may (map (λ e. e.0) es) (all_leaves (map (λ e. e.0) es))
 row_stands may [] = subst (ReadsAll may []) (sym all_leaves_nil) none
 row_stands may (e ∷ es) =
     subst (ReadsAll may (e.0 ∷ map (λ e. e.0) es)) (sym (all_leaves_cons e.0 (map (λ e. e.0) es)))
@@ -28,7 +29,8 @@ row_stands may (e ∷ es) =
 pub as_it_stands : (may : ℕ → Bool → Bool) → ((v : ℕ) → may v false ≡ true) → (n : Node) → Reads may n (leaves n)
 as_it_stands may free = ind-Node (Stands may) step
   where
-    step : (x : Node-F Node) (y : Node-F ((n : Node) × Stands may n)) → map-Node ((n : Node) × Stands may n) Node (λ e. e.0) y ≡ x → Stands may (roll-Node x)
+    step : (x : Node-F Node) (y : Node-F ((n : Node) × Stands may n))
+        → map-Node ((n : Node) × Stands may n) Node (λ e. e.0) y ≡ x → Stands may (roll-Node x)
     step x (Node-F.Leaf v) e = subst (λ z. Stands may (roll-Node z)) e (subst (Stands may) (sym (rolls-Leaf v)) (subst (Reads may (Leaf v)) (sym (leaves_Leaf v)) (leaf v)))
     step x (Node-F.P o es) e =
         let ks = map (λ d. d.0) es in
@@ -43,7 +45,8 @@ WiderBelow m may wide = (v : ℕ) (b : Bool) → v < m → may v b ≡ true → 
 
 -- a reading depends on the vars of the node alone
 mutual
-  pub read_below : (m : ℕ) (may wide : ℕ → Bool → Bool) → WiderBelow m may wide → (n : Node) (xs : List ℕ) → Reads may n xs → has_vars_below m n ≡ true → Reads wide n xs
+  pub read_below : (m : ℕ) (may wide : ℕ → Bool → Bool) → WiderBelow m may wide → (n : Node) (xs : List ℕ)
+      → Reads may n xs → has_vars_below m n ≡ true → Reads wide n xs
   read_below m may wide w _ _ (leaf x) h = leaf x
   read_below m may wide w _ _ (any_order o ks turn xs p all) h = any_order o ks turn xs p (read_all_below m may wide w turn xs all (sym (list_all-IsPermutation (has_vars_below m) ks turn p) ∙ sym (below_P m o ks) ∙ h))
   read_below m may wide w _ _ (forward v ks xs e all) h =
@@ -51,7 +54,9 @@ mutual
   read_below m may wide w _ _ (backward v ks xs e all) h =
       let g = and_parts (nat_lt v m) (list_all (has_vars_below m) ks) (sym (below_Q m v ks) ∙ h) in
       backward v ks xs (w v true (ltb-true v m g.0) e) (read_all_below m may wide w (reverse ks) xs all (sym (list_all-IsPermutation (has_vars_below m) ks (reverse ks) (IsPermutation-reverse ks)) ∙ g.1))
-  pub read_all_below : (m : ℕ) (may wide : ℕ → Bool → Bool) → WiderBelow m may wide → (ks : List Node) (xs : List ℕ) → ReadsAll may ks xs → list_all (has_vars_below m) ks ≡ true → ReadsAll wide ks xs
+
+  pub read_all_below : (m : ℕ) (may wide : ℕ → Bool → Bool) → WiderBelow m may wide → (ks : List Node) (xs : List ℕ)
+      → ReadsAll may ks xs → list_all (has_vars_below m) ks ≡ true → ReadsAll wide ks xs
   read_all_below m may wide w _ _ none h = none
   read_all_below m may wide w _ _ (more k ks xs ys a b) h = let g = and_parts (has_vars_below m k) (list_all (has_vars_below m) ks) h in more k ks xs ys (read_below m may wide w k xs a g.0) (read_all_below m may wide w ks ys b g.1)
 
@@ -59,14 +64,16 @@ mutual
 abbrev Rises : ℕ → ℕ → Node → Type 0
 Rises m n k = has_vars_below m k ≡ true → has_vars_below n k ≡ true
 
-row_rises : (m n : ℕ) (es : List ((k : Node) × Rises m n k)) → list_all (has_vars_below m) (map (λ e. e.0) es) ≡ true → list_all (has_vars_below n) (map (λ e. e.0) es) ≡ true
+row_rises : (m n : ℕ) (es : List ((k : Node) × Rises m n k)) → list_all (has_vars_below m) (map (λ e. e.0) es) ≡ true
+    → list_all (has_vars_below n) (map (λ e. e.0) es) ≡ true
 row_rises m n [] h = refl
 row_rises m n (e ∷ es) h = let g = and_parts (has_vars_below m e.0) (list_all (has_vars_below m) (map (λ d. d.0) es)) h in and_from (has_vars_below n e.0) (list_all (has_vars_below n) (map (λ d. d.0) es)) (e.1 g.0) (row_rises m n es g.1)
 
 pub below_more : (m n : ℕ) → m ≤ n → (k : Node) → has_vars_below m k ≡ true → has_vars_below n k ≡ true
 below_more m n le = ind-Node (Rises m n) step
   where
-    step : (x : Node-F Node) (y : Node-F ((k : Node) × Rises m n k)) → map-Node ((k : Node) × Rises m n k) Node (λ e. e.0) y ≡ x → Rises m n (roll-Node x)
+    step : (x : Node-F Node) (y : Node-F ((k : Node) × Rises m n k))
+        → map-Node ((k : Node) × Rises m n k) Node (λ e. e.0) y ≡ x → Rises m n (roll-Node x)
     step x (Node-F.Leaf v) e = subst (λ z. Rises m n (roll-Node z)) e (subst (Rises m n) (sym (rolls-Leaf v)) (λ h. below_Leaf n v))
     step x (Node-F.P o es) e =
         let ks = map (λ d. d.0) es in
@@ -74,6 +81,6 @@ below_more m n le = ind-Node (Rises m n) step
     step x (Node-F.Q v es) e =
         let ks = map (λ d. d.0) es in
         subst (λ z. Rises m n (roll-Node z)) e (subst (Rises m n) (sym (rolls-Q v ks))
-          (λ h. let g = and_parts (nat_lt v m) (list_all (has_vars_below m) ks) (sym (below_Q m v ks) ∙ h) in
-              let lt = ltb-true v m g.0 in
-              below_Q n v ks ∙ and_from (nat_lt v n) (list_all (has_vars_below n) ks) (lt-ltb v n (omega (arith, lt, le))) (row_rises m n es g.1)))
+        (λ h. let g = and_parts (nat_lt v m) (list_all (has_vars_below m) ks) (sym (below_Q m v ks) ∙ h) in
+        let lt = ltb-true v m g.0 in
+        below_Q n v ks ∙ and_from (nat_lt v n) (list_all (has_vars_below n) ks) (lt-ltb v n (omega (arith, lt, le))) (row_rises m n es g.1)))

@@ -1,13 +1,13 @@
 -- Tests of nodes, layer by layer: at least two kids, and vars below a number.
-use Rattle.std.proofs.Common.{◌≡◌, ℕ, zero, suc, ◌+◌, ◌<◌, ◌≤◌, Bool, true, false, not, ◌&&◌, List, [], ◌∷◌, ◌++◌, length, map, get_or, refl, sym, ap, ap₂, ◌∙◌, subst, arith, IsPermutation}
+use Rattle.std.proofs.Common.{◌≡◌, ℕ, zero, suc, ◌<◌, ◌≤◌, Bool, true, false, ◌&&◌, List, [], ◌∷◌, length, map, get_or, refl, sym, ap, ap₂, ◌∙◌, arith}
 use Rattle.std.specs.Prelude.{nat_lt}
 use Rattle.std.specs.List.{list_all}
 use Rattle.std.proofs.lemmas.Bool.{ltb-true, lt-ltb, and_parts, and_from}
 use Rattle.cp_pq.specs.declared.node.Node.{Node}
 use Rattle.cp_pq.specs.declared.node.Node.TheOpen.{Node-F}
-use Rattle.cp_pq.specs.declared.node.Node.TheFolds.{fold-Node, fold-roll-Node}
+use Rattle.cp_pq.specs.declared.node.Node.TheFolds.{fold-roll-Node}
 use Rattle.cp_pq.specs.declared.node.Node.TheVariants.{Leaf, P, Q, rolls-Leaf, rolls-P, rolls-Q}
-use Rattle.cp_pq.specs.Nodes.{leaves, is_branching, branching_step, has_vars_below, below_step}
+use Rattle.cp_pq.specs.Nodes.{is_branching, branching_step, has_vars_below, below_step}
 use Rattle.cp_pq.specs.Words.{has_all}
 use Rattle.cp_pq.proofs.NodeLayers.{leaves_Leaf}
 
@@ -52,20 +52,25 @@ pub all_one : (f : Node → Bool) (n : Node) → list_all f (n ∷ []) ≡ f n
 all_one f n = and_true (f n)
 
 -- a P-node or Q-node that branches has two kids, which branch
-pub branching_P_parts : (o : ℕ) (ks : List Node) → is_branching (P o ks) ≡ true → (2 ≤ length ks) × (list_all is_branching ks ≡ true)
+pub branching_P_parts : (o : ℕ) (ks : List Node) → is_branching (P o ks) ≡ true
+    → (2 ≤ length ks) × (list_all is_branching ks ≡ true)
 branching_P_parts o ks h = let g = and_parts (nat_lt 1 (length ks)) (list_all is_branching ks) (sym (branching_P o ks) ∙ h) in let lt = ltb-true 1 (length ks) g.0 in (omega arith, g.1)
 
-pub branching_Q_parts : (o : ℕ) (ks : List Node) → is_branching (Q o ks) ≡ true → (2 ≤ length ks) × (list_all is_branching ks ≡ true)
+pub branching_Q_parts : (o : ℕ) (ks : List Node) → is_branching (Q o ks) ≡ true
+    → (2 ≤ length ks) × (list_all is_branching ks ≡ true)
 branching_Q_parts o ks h = let g = and_parts (nat_lt 1 (length ks)) (list_all is_branching ks) (sym (branching_Q o ks) ∙ h) in let lt = ltb-true 1 (length ks) g.0 in (omega arith, g.1)
 
-pub branching_P_from : (o : ℕ) (ks : List Node) → 2 ≤ length ks → list_all is_branching ks ≡ true → is_branching (P o ks) ≡ true
+pub branching_P_from : (o : ℕ) (ks : List Node) → 2 ≤ length ks → list_all is_branching ks ≡ true
+    → is_branching (P o ks) ≡ true
 branching_P_from o ks two h = branching_P o ks ∙ and_from (nat_lt 1 (length ks)) (list_all is_branching ks) (lt-ltb 1 (length ks) (omega arith)) h
 
-pub branching_Q_from : (o : ℕ) (ks : List Node) → 2 ≤ length ks → list_all is_branching ks ≡ true → is_branching (Q o ks) ≡ true
+pub branching_Q_from : (o : ℕ) (ks : List Node) → 2 ≤ length ks → list_all is_branching ks ≡ true
+    → is_branching (Q o ks) ≡ true
 branching_Q_from o ks two h = branching_Q o ks ∙ and_from (nat_lt 1 (length ks)) (list_all is_branching ks) (lt-ltb 1 (length ks) (omega arith)) h
 
 -- a test of all nodes of a row holds at a place
-pub all_at : (f : Node → Bool) (ks : List Node) (i : ℕ) (d : Node) → i < length ks → list_all f ks ≡ true → f (get_or ks i d) ≡ true
+pub all_at : (f : Node → Bool) (ks : List Node) (i : ℕ) (d : Node) → i < length ks → list_all f ks ≡ true
+    → f (get_or ks i d) ≡ true
 all_at f [] i d lt h = absurd (omega arith)
 all_at f (k ∷ ks) zero d lt h = (and_parts _ _ h).0
 all_at f (k ∷ ks) (suc i) d lt h = all_at f ks i d (omega arith) (and_parts _ _ h).1

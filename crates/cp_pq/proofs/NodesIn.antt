@@ -1,12 +1,12 @@
 -- Kids of a row, and nodes that stand in nodes.
-use Rattle.std.proofs.Common.{◌≡◌, ℕ, ◌⊎◌, List, [], ◌∷◌, ◌++◌, inl, inr, ⊎_elim, refl, sym, ap, ap₂, ◌∙◌, subst, append_assoc, IsPermutation}
+use Rattle.std.proofs.Common.{◌≡◌, ℕ, ◌⊎◌, List, [], ◌∷◌, ◌++◌, inl, inr, ⊎_elim, refl, sym, ap, ◌∙◌, subst, append_assoc, IsPermutation}
 use Rattle.cp_lists.specs.CyclicLists.{Has}
-use Rattle.cp_lists.proofs.DistinctLists.{Has-append_left, Has-append_right, Has-append_cases}
+use Rattle.cp_lists.proofs.DistinctLists.{Has-append_left, Has-append_right}
 use Rattle.cp_pq.specs.declared.node.Node.{Node}
-use Rattle.cp_pq.specs.declared.node.Node.TheVariants.{Leaf, P, Q}
+use Rattle.cp_pq.specs.declared.node.Node.TheVariants.{P, Q}
 use Rattle.cp_pq.specs.Nodes.{leaves, all_leaves, IsKid, IsIn, itself, under_P, under_Q}
 use Rattle.cp_pq.specs.Keeping.{IsInRow}
-use Rattle.cp_pq.proofs.NodeLayers.{P_P, Q_Q, P_Q, all_leaves_cons, all_leaves_append, all_leaves_nil}
+use Rattle.cp_pq.proofs.NodeLayers.{P_P, Q_Q, P_Q, all_leaves_cons, all_leaves_append}
 use Rattle.cp_pq.proofs.Tops.{find_in}
 
 -- a kid of the first part is one of the row

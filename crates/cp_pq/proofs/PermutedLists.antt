@@ -1,5 +1,5 @@
 -- What permutations keep of numbers in lists.
-use Rattle.std.proofs.Common.{◌≡◌, ℕ, ◌⊎◌, ◌↔◌, List, [], ◌∷◌, ◌++◌, inl, inr, ⊎_elim, sym, IsPermutation}
+use Rattle.std.proofs.Common.{ℕ, List, inl, inr, ⊎_elim, sym, IsPermutation}
 use Rattle.std.proofs.lemmas.List.Sorted.{IsPermutation-sym}
 use Rattle.cp_lists.specs.CyclicLists.{Has, Lacks, Distinct}
 use Rattle.cp_lists.proofs.DistinctLists.{Lacks-from, has_lacks}

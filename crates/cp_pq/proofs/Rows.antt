@@ -1,19 +1,19 @@
 -- Rows against a set: what a row of kids becomes.
-use Rattle.std.proofs.Common.{◌≡◌, ℕ, Bool, true, false, cond, not, ◌&&◌, ◌↔◌, ◌⊎◌, List, [], ◌∷◌, ◌++◌, map, reverse, refl, sym, ap, ap₂, ◌∙◌, subst, subst₂, inl, inr, ⊎_elim, IsPermutation}
+use Rattle.std.proofs.Common.{◌≡◌, ℕ, Bool, true, false, cond, ◌&&◌, List, [], ◌∷◌, ◌++◌, refl, sym, ap, ◌∙◌, subst, ⊎_elim}
 use Rattle.std.specs.List.{list_all}
-use Rattle.std.proofs.lemmas.Bool.{both_ways, true≢false, false≢true, cases_Bool, and_parts, and_from}
+use Rattle.std.proofs.lemmas.Bool.{both_ways, cases_Bool, and_parts, and_from}
 use Rattle.std.proofs.lemmas.List.Folds.{list_all-append}
 use Rattle.cp_pq.specs.declared.node.Node.{Node}
 use Rattle.cp_pq.specs.Nodes.{leaves, all_leaves}
-use Rattle.cp_pq.specs.Readings.{Reads, ReadsAll, leaf, any_order, forward, backward, none, more}
-use Rattle.cp_pq.specs.Words.{Opposite, sorted, together, has_all, row_sorted, Licensed, IsLike}
-use Rattle.cp_pq.specs.Bits.{flip}
+use Rattle.cp_pq.specs.Readings.{Reads, ReadsAll, more}
+use Rattle.cp_pq.specs.Words.{sorted, together, has_all, row_sorted, IsLike}
 use Rattle.cp_pq.proofs.Permutations.{list_all-IsPermutation}
 use Rattle.cp_pq.proofs.NodeLayers.{all_leaves_cons, all_leaves_nil}
-use Rattle.cp_pq.proofs.WordLaws.{sorted_front, sorted_cut, sorted_all, together_front, together_start, together_whole}
+use Rattle.cp_pq.proofs.WordLaws.{sorted_front, sorted_cut, together_start, together_whole}
 use Rattle.cp_pq.proofs.ReadingLaws.{ReadsAll_nil, ReadsAll_cons, ReadsAll_one, one_ReadsAll, ReadsAll_join, ReadsAll_cut, read_leaves, read_all_leaves}
 
-pub class_read : (p : ℕ → Bool) (may : ℕ → Bool → Bool) (k : Node) (u : List ℕ) → Reads may k u → list_all p u ≡ has_all p k
+pub class_read : (p : ℕ → Bool) (may : ℕ → Bool → Bool) (k : Node) (u : List ℕ) → Reads may k u
+    → list_all p u ≡ has_all p k
 unfolding has_all
 class_read p may k u r = sym (list_all-IsPermutation p (leaves k) u (read_leaves may k u r))
 
@@ -22,7 +22,8 @@ unfolding has_all
 row_all p [] = ap (list_all p) all_leaves_nil
 row_all p (k ∷ ks) = ap (list_all p) (all_leaves_cons k ks) ∙ list_all-append p (leaves k) (all_leaves ks) ∙ ap (λ b. list_all p (leaves k) && b) (row_all p ks)
 
-pub class_row : (p : ℕ → Bool) (may : ℕ → Bool → Bool) (ks : List Node) (u : List ℕ) → ReadsAll may ks u → list_all p u ≡ list_all (has_all p) ks
+pub class_row : (p : ℕ → Bool) (may : ℕ → Bool → Bool) (ks : List Node) (u : List ℕ) → ReadsAll may ks u
+    → list_all p u ≡ list_all (has_all p) ks
 class_row p may ks u r = sym (list_all-IsPermutation p (all_leaves ks) u (read_all_leaves may ks u r)) ∙ row_all p ks
 
 pub like_nil : (test : List ℕ → Bool) → test [] ≡ true → IsLike test (λ may. Unit {0}) [] []
@@ -62,8 +63,8 @@ run_here q p L M k row line rest out left like next may xs = (
       let t : together q p (h.0 ++ h.1) ≡ true = ap (together q p) (sym h.2) ∙ r.1 in
       ⊎_elim
       (λ s. let g = (like may h.0).0 (one_ReadsAll may k h.0 h.3, s) in
-          let f = (next may h.1).0 (h.4, sym (together_start q p h.0 h.1 (class_read q may k h.0 h.3 ∙ out) s) ∙ t) in
-          ((g.0, f.0), subst (ReadsAll may (line ++ rest)) (sym h.2) (ReadsAll_join may line rest h.0 h.1 g.1 f.1)))
+      let f = (next may h.1).0 (h.4, sym (together_start q p h.0 h.1 (class_read q may k h.0 h.3 ∙ out) s) ∙ t) in
+      ((g.0, f.0), subst (ReadsAll may (line ++ rest)) (sym h.2) (ReadsAll_join may line rest h.0 h.1 g.1 f.1)))
       (λ s. absurd (both_ways _ left (sym (class_row q may row h.1 h.4) ∙ (and_parts _ _ (sym (together_whole q p h.0 h.1 s) ∙ t)).1)))
       (cases_Bool (sorted q p h.0)),
   λ r. let h = ReadsAll_cut may line rest xs r.1 in
@@ -74,7 +75,8 @@ run_here q p L M k row line rest out left like next may xs = (
 )
 
 -- a row with a sorted reading has kids outside, then one, then kids inside
-pub row_sorted_of : (q p : ℕ → Bool) (may : ℕ → Bool → Bool) (ks : List Node) (xs : List ℕ) → ReadsAll may ks xs → sorted q p xs ≡ true → row_sorted q p ks ≡ true
+pub row_sorted_of : (q p : ℕ → Bool) (may : ℕ → Bool → Bool) (ks : List Node) (xs : List ℕ) → ReadsAll may ks xs
+    → sorted q p xs ≡ true → row_sorted q p ks ≡ true
 row_sorted_of q p may [] xs r s = refl
 row_sorted_of q p may (k ∷ ks) xs r s =
     ⊎_elim

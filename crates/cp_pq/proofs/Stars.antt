@@ -1,14 +1,13 @@
 -- The tree of one P-node of leaves.
-use Rattle.std.proofs.Common.{◌≡◌, ◌≢◌, ℕ, zero, suc, ◌≤◌, ◌↔◌, Bool, true, List, [], ◌∷◌, ◌++◌, length, map, refl, sym, ap, ap₂, ◌∙◌, subst, subst₂, arith, IsPermutation}
+use Rattle.std.proofs.Common.{◌≡◌, ◌≢◌, ℕ, suc, Bool, true, List, [], ◌∷◌, ◌++◌, length, map, refl, sym, ap, ap₂, ◌∙◌, subst, arith, IsPermutation}
 use Rattle.std.specs.Prelude.{◌&&◌}
 use Rattle.std.specs.List.{list_all}
 use Rattle.std.proofs.lemmas.List.Sorted.{IsPermutation-map}
 use Rattle.cp_lists.specs.CyclicLists.{Distinct}
-use Rattle.cp_pq.specs.declared.node.Node.{Node}
-use Rattle.cp_pq.specs.declared.node.Node.TheVariants.{Leaf, P, Q}
+use Rattle.cp_pq.specs.declared.node.Node.TheVariants.{Leaf, P}
 use Rattle.cp_pq.specs.Nodes.{leaves, all_leaves, is_branching, has_vars_below}
 use Rattle.cp_pq.specs.Readings.{Reads, ReadsAll, given, leaf, any_order, none, more}
-use Rattle.cp_pq.specs.Trees.{PQTree, make_tree, IsWellFormed, IsPair}
+use Rattle.cp_pq.specs.Trees.{PQTree, make_tree, IsWellFormed}
 use Rattle.cp_pq.specs.Promises.{star_body, IsStar}
 use Rattle.cp_pq.proofs.NodeLayers.{leaves_Leaf, leaves_P, all_leaves_nil, all_leaves_cons}
 use Rattle.cp_pq.proofs.NodeTests.{branching_Leaf, branching_P_from, below_Leaf, below_P}
@@ -35,12 +34,13 @@ row_reads : (may : ℕ → Bool → Bool) (xs : List ℕ) → ReadsAll may (map 
 row_reads may [] = none
 row_reads may (x ∷ xs) = more (Leaf x) (map Leaf xs) (x ∷ []) xs (leaf x) (row_reads may xs)
 
-star_leaves : (owner : ℕ) (xs : List ℕ) → leaves (star_body owner xs) ≡ xs
+pub star_leaves : (owner : ℕ) (xs : List ℕ) → leaves (star_body owner xs) ≡ xs
 star_leaves owner [] = leaves_P owner [] ∙ all_leaves_nil
 star_leaves owner (x ∷ []) = leaves_Leaf x
 star_leaves owner (x ∷ y ∷ xs) = leaves_P owner (map Leaf (x ∷ y ∷ xs)) ∙ leaves_row (x ∷ y ∷ xs)
 
-star_reads : (may : ℕ → Bool → Bool) (owner : ℕ) (xs word : List ℕ) → IsPermutation xs word → Reads may (star_body owner xs) word
+star_reads : (may : ℕ → Bool → Bool) (owner : ℕ) (xs word : List ℕ) → IsPermutation xs word
+    → Reads may (star_body owner xs) word
 star_reads may owner [] word h = any_order owner [] (map Leaf word) word (IsPermutation-map Leaf [] word h) (row_reads may word)
 star_reads may owner (x ∷ []) word h = subst (Reads may (Leaf x)) (sym (short_permutation (x ∷ []) word h (omega arith))) (leaf x)
 star_reads may owner (x ∷ y ∷ xs) word h = any_order owner (map Leaf (x ∷ y ∷ xs)) (map Leaf word) word (IsPermutation-map Leaf (x ∷ y ∷ xs) word h) (row_reads may word)
@@ -55,7 +55,8 @@ star_below m owner [] = below_P m owner []
 star_below m owner (x ∷ []) = below_Leaf m x
 star_below m owner (x ∷ y ∷ xs) = below_P m owner (map Leaf (x ∷ y ∷ xs)) ∙ row_below m (x ∷ y ∷ xs)
 
-pub star_formed : (root owner vars : ℕ) (xs : List ℕ) → xs ≢ [] → Distinct (root ∷ xs) → IsWellFormed (make_tree root (star_body owner xs) vars [])
+pub star_formed : (root owner vars : ℕ) (xs : List ℕ) → xs ≢ [] → Distinct (root ∷ xs)
+    → IsWellFormed (make_tree root (star_body owner xs) vars [])
 star_formed root owner vars xs some d = record {
   branching = star_branching owner xs some;
   distinct = subst (λ z. Distinct (root ∷ z)) (sym (star_leaves owner xs)) d;
@@ -63,7 +64,8 @@ star_formed root owner vars xs some d = record {
   equations_below = tt;
 }
 
-pub star_is : (root owner vars : ℕ) (xs : List ℕ) (tree : PQTree) → tree ≡ make_tree root (star_body owner xs) vars [] → IsStar root xs owner vars tree
+pub star_is : (root owner vars : ℕ) (xs : List ℕ) (tree : PQTree) → tree ≡ make_tree root (star_body owner xs) vars []
+    → IsStar root xs owner vars tree
 star_is root owner vars xs tree e = subst (IsStar root xs owner vars) (sym e) (record {
   tree_is = refl;
   pairs = λ order bits. (

@@ -1,17 +1,16 @@
 -- Rows of kids with what each is.
-use Rattle.std.proofs.Common.{◌≡◌, ℕ, ◌<◌, ◌≤◌, Bool, true, false, cond, not, ◌&&◌, ◌||◌, ◌↔◌, ◌⊎◌, List, [], ◌∷◌, ◌++◌, length, length-append, flat_map, filter, reverse, refl, sym, ap, ap₂, ◌∙◌, subst, subst₂, inl, inr, ⊎_elim, append_assoc, append-nil, arith}
+use Rattle.std.proofs.Common.{◌≡◌, ℕ, ◌≤◌, Bool, true, false, cond, not, ◌&&◌, ◌↔◌, ◌⊎◌, List, [], ◌∷◌, ◌++◌, length, length-append, flat_map, filter, reverse, refl, sym, ap, ap₂, ◌∙◌, subst, subst₂, inl, inr, ⊎_elim, arith}
 use Rattle.std.specs.List.{list_all, list_any, AllZip}
 use Rattle.std.proofs.lemmas.Bool.{both_ways, true≢false, false≢true, cases_Bool, and_parts, and_from}
 use Rattle.std.proofs.lemmas.List.{reverse-append, reverse-reverse}
 use Rattle.std.proofs.lemmas.List.Folds.{list_all-append}
 use Rattle.std.proofs.lemmas.List.Sorted.{IsPermutation-reverse, list_any-IsPermutation}
 use Rattle.cp_pq.specs.declared.node.Node.{Node}
-use Rattle.cp_pq.specs.declared.node.Node.TheVariants.{Leaf, P, Q}
 use Rattle.cp_pq.specs.declared.found.Found.{Found}
-use Rattle.cp_pq.specs.Words.{is_mixed, Opposite, sorted, has_all, row_sorted, Licensed, IsLike, is_clear, IsNever}
-use Rattle.cp_pq.specs.Founds.{IsGiven, Sorts, is_out, is_in, is_torn, found_sorted, line_of, ties_of, flat_line, flat_ties, out_node, in_node, mixed_found}
+use Rattle.cp_pq.specs.Words.{is_mixed, Opposite, sorted, has_all, row_sorted, Licensed, IsLike, is_clear}
+use Rattle.cp_pq.specs.Founds.{IsGiven, Sorts, is_out, is_in, is_torn, found_sorted, flat_line, flat_ties, out_node, in_node, mixed_found}
 use Rattle.cp_pq.specs.Keeping.{any_bound, Keeps}
-use Rattle.cp_pq.specs.Grants.{Grant, Grants}
+use Rattle.cp_pq.specs.Grants.{Grants}
 use Rattle.cp_pq.proofs.Permutations.{list_all-IsPermutation}
 use Rattle.cp_pq.proofs.Mirrors.{like_again}
 use Rattle.cp_pq.proofs.WordLaws.{sorted_front}
@@ -19,8 +18,8 @@ use Rattle.cp_pq.proofs.Rows.{like_nil, like_front, sorted_here, row_all}
 use Rattle.cp_pq.proofs.NodeLayers.{all_leaves_nil}
 use Rattle.cp_pq.proofs.NodeTests.{all_one}
 use Rattle.cp_pq.proofs.KeepingLaws.{Keeps_refl, Keeps_append}
-use Rattle.cp_pq.proofs.Lines.{like_full, Q_forward, Q_backward, Q_never}
-use Rattle.cp_pq.proofs.Closes.{has_all_Q, never_like, false_unless}
+use Rattle.cp_pq.proofs.Lines.{like_full}
+use Rattle.cp_pq.proofs.Closes.{never_like, false_unless}
 
 pub given_out : (q p : ℕ → Bool) (k : Node) (f : Found) → IsGiven q p k f → has_all q k ≡ is_out f
 given_out q p k (Found.Out m) g = g.0
@@ -35,13 +34,15 @@ given_in q p k (Found.Line front back ties) g = g.1
 given_in q p k Found.Torn g = g.1
 
 module _ (q p : ℕ → Bool) where
-  pub zip_out : (ks : List Node) (fs : List Found) → AllZip (IsGiven q p) ks fs → list_all (has_all q) ks ≡ list_all is_out fs
+  pub zip_out : (ks : List Node) (fs : List Found) → AllZip (IsGiven q p) ks fs
+      → list_all (has_all q) ks ≡ list_all is_out fs
   zip_out [] [] z = refl
   zip_out [] (f ∷ fs) z = absurd z
   zip_out (k ∷ ks) [] z = absurd z
   zip_out (k ∷ ks) (f ∷ fs) z = ap₂ (λ a b. a && b) (given_out q p k f z.0) (zip_out ks fs z.1)
 
-  pub zip_in : (ks : List Node) (fs : List Found) → AllZip (IsGiven q p) ks fs → list_all (has_all p) ks ≡ list_all is_in fs
+  pub zip_in : (ks : List Node) (fs : List Found) → AllZip (IsGiven q p) ks fs
+      → list_all (has_all p) ks ≡ list_all is_in fs
   zip_in [] [] z = refl
   zip_in [] (f ∷ fs) z = absurd z
   zip_in (k ∷ ks) [] z = absurd z
@@ -65,20 +66,23 @@ module _ (q p : ℕ → Bool) where
       one (Found.Line front back ties) = refl
       one Found.Torn = refl
 
-  pub zip_push : (ks : List Node) (fs : List Found) (k : Node) (f : Found) → AllZip (IsGiven q p) ks fs → IsGiven q p k f → AllZip (IsGiven q p) (ks ++ k ∷ []) (fs ++ f ∷ [])
+  pub zip_push : (ks : List Node) (fs : List Found) (k : Node) (f : Found) → AllZip (IsGiven q p) ks fs
+      → IsGiven q p k f → AllZip (IsGiven q p) (ks ++ k ∷ []) (fs ++ f ∷ [])
   zip_push [] [] k f z g = (g, tt)
   zip_push [] (j ∷ fs) k f z g = absurd z
   zip_push (j ∷ ks) [] k f z g = absurd z
   zip_push (j ∷ ks) (h ∷ fs) k f z g = (z.0, zip_push ks fs k f z.1 g)
 
-  pub zip_reverse : (ks : List Node) (fs : List Found) → AllZip (IsGiven q p) ks fs → AllZip (IsGiven q p) (reverse ks) (reverse fs)
+  pub zip_reverse : (ks : List Node) (fs : List Found) → AllZip (IsGiven q p) ks fs
+      → AllZip (IsGiven q p) (reverse ks) (reverse fs)
   zip_reverse [] [] z = z
   zip_reverse [] (f ∷ fs) z = absurd z
   zip_reverse (k ∷ ks) [] z = absurd z
   zip_reverse (k ∷ ks) (f ∷ fs) z = subst₂ (AllZip (IsGiven q p)) (sym (reverse-append (k ∷ []) ks)) (sym (reverse-append (f ∷ []) fs)) (zip_push (reverse ks) (reverse fs) k f (zip_reverse ks fs z.1) z.0)
 
   -- kids that are whole stand as they are
-  pub zip_full : (ks : List Node) (fs : List Found) → AllZip (IsGiven q p) ks fs → list_all is_in fs ≡ true → (flat_line fs ≡ ks) × ((may : ℕ → Bool → Bool) → Grants may fs)
+  pub zip_full : (ks : List Node) (fs : List Found) → AllZip (IsGiven q p) ks fs → list_all is_in fs ≡ true
+      → (flat_line fs ≡ ks) × ((may : ℕ → Bool → Bool) → Grants may fs)
   zip_full [] [] z h = (refl, λ may. tt)
   zip_full [] (f ∷ fs) z h = absurd z
   zip_full (k ∷ ks) [] z h = absurd z
@@ -87,7 +91,8 @@ module _ (q p : ℕ → Bool) where
   zip_full (k ∷ ks) (Found.Line front back ties ∷ fs) z h = absurd (false≢true h)
   zip_full (k ∷ ks) (Found.Torn ∷ fs) z h = absurd (false≢true h)
 
-  pub zip_empty : (ks : List Node) (fs : List Found) → AllZip (IsGiven q p) ks fs → list_all is_out fs ≡ true → flat_line fs ≡ ks
+  pub zip_empty : (ks : List Node) (fs : List Found) → AllZip (IsGiven q p) ks fs → list_all is_out fs ≡ true
+      → flat_line fs ≡ ks
   zip_empty [] [] z h = refl
   zip_empty [] (f ∷ fs) z h = absurd z
   zip_empty (k ∷ ks) [] z h = absurd z
@@ -96,7 +101,8 @@ module _ (q p : ℕ → Bool) where
   zip_empty (k ∷ ks) (Found.Line front back ties ∷ fs) z h = absurd (false≢true h)
   zip_empty (k ∷ ks) (Found.Torn ∷ fs) z h = absurd (false≢true h)
 
-  pub zip_like : Opposite q p → (ks : List Node) (fs : List Found) → AllZip (IsGiven q p) ks fs → found_sorted fs ≡ true → IsLike (sorted q p) (λ may. Grants may fs) ks (flat_line fs)
+  pub zip_like : Opposite q p → (ks : List Node) (fs : List Found) → AllZip (IsGiven q p) ks fs → found_sorted fs ≡ true
+      → IsLike (sorted q p) (λ may. Grants may fs) ks (flat_line fs)
   zip_like opp [] [] z h = like_nil (sorted q p) refl
   zip_like opp [] (f ∷ fs) z h = absurd z
   zip_like opp (k ∷ ks) [] z h = absurd z
@@ -116,15 +122,18 @@ module _ (q p : ℕ → Bool) where
       like_again (sorted q p) (λ may. ⊥) (λ may. ⊥ × Grants may fs) (k ∷ ks) (flat_line fs) (λ may. (λ x. absurd x, λ x. x.0))
       (subst (λ r. IsLike (sorted q p) (λ may. ⊥) (k ∷ ks) r) (sym g.0) (sorted_here q p (λ may. ⊥) k ks [] z.0.0 (zip_in ks fs z.1 ∙ h) (never_like (sorted q p) (k ∷ []) [] z.0.2)))
 
-pub licence_join : (d : Bool) (may : ℕ → Bool → Bool) (ts us : List (ℕ × Bool)) → Licensed d may ts → Licensed d may us → Licensed d may (ts ++ us)
+pub licence_join : (d : Bool) (may : ℕ → Bool → Bool) (ts us : List (ℕ × Bool)) → Licensed d may ts → Licensed d may us
+    → Licensed d may (ts ++ us)
 licence_join d may [] us a b = b
 licence_join d may (t ∷ ts) us a b = (a.0, licence_join d may ts us a.1 b)
 
-pub licence_cut : (d : Bool) (may : ℕ → Bool → Bool) (ts us : List (ℕ × Bool)) → Licensed d may (ts ++ us) → Licensed d may ts × Licensed d may us
+pub licence_cut : (d : Bool) (may : ℕ → Bool → Bool) (ts us : List (ℕ × Bool)) → Licensed d may (ts ++ us)
+    → Licensed d may ts × Licensed d may us
 licence_cut d may [] us h = (tt, h)
 licence_cut d may (t ∷ ts) us h = let g = licence_cut d may ts us h.1 in ((h.0, g.0), g.1)
 
-pub grants_ties : (may : ℕ → Bool → Bool) (fs : List Found) → list_any is_torn fs ≡ false → Grants may fs ↔ Licensed false may (flat_ties fs)
+pub grants_ties : (may : ℕ → Bool → Bool) (fs : List Found) → list_any is_torn fs ≡ false
+    → Grants may fs ↔ Licensed false may (flat_ties fs)
 grants_ties may [] h = (λ g. g, λ g. g)
 grants_ties may (Found.Out m ∷ fs) h = let r = grants_ties may fs h in (λ g. r.0 g.1, λ g. (tt, r.1 g))
 grants_ties may (Found.In m ∷ fs) h = let r = grants_ties may fs h in (λ g. r.0 g.1, λ g. (tt, r.1 g))
@@ -142,46 +151,54 @@ grants_torn may (Found.Torn ∷ fs) h g = g.0
 
 -- a row that is sorted both ways is outside, inside, or one kid
 module _ (q p : ℕ → Bool) where
-  last_out : (ks : List Node) (x : Node) → row_sorted q p (ks ++ x ∷ []) ≡ true → has_all q x ≡ true → has_all p x ≡ false → list_all (has_all q) (ks ++ x ∷ []) ≡ true
+  last_out : (ks : List Node) (x : Node) → row_sorted q p (ks ++ x ∷ []) ≡ true → has_all q x ≡ true
+      → has_all p x ≡ false → list_all (has_all q) (ks ++ x ∷ []) ≡ true
   last_out [] x r o i = and_from _ _ o refl
   last_out (k ∷ ks) x r o i =
       ⊎_elim
       (λ e. and_from _ _ e (last_out ks x (sym (ap (λ b. cond b (row_sorted q p (ks ++ x ∷ [])) (list_all (has_all p) (ks ++ x ∷ []))) e) ∙ r) o i))
       (λ e. let full : list_all (has_all p) (ks ++ x ∷ []) ≡ true = sym (ap (λ b. cond b (row_sorted q p (ks ++ x ∷ [])) (list_all (has_all p) (ks ++ x ∷ []))) e) ∙ r in
-          absurd (both_ways _ i (and_parts _ _ (and_parts _ _ (sym (list_all-append (has_all p) ks (x ∷ [])) ∙ full)).1).0))
+      absurd (both_ways _ i (and_parts _ _ (and_parts _ _ (sym (list_all-append (has_all p) ks (x ∷ [])) ∙ full)).1).0))
       (cases_Bool (has_all q k))
 
   pub clear_other : (k : Node) → is_clear q p k ≡ true → has_all p k ≡ true → has_all q k ≡ false
-  clear_other k = elim (has_all p k) as (λ b. not (has_all q k && b) ≡ true → b ≡ true → has_all q k ≡ false)
-      [ true ↦ elim (has_all q k) as (λ a. not (a && true) ≡ true → true ≡ true → a ≡ false) [ true ↦ λ c h. absurd (false≢true c) | false ↦ λ c h. refl ]
-      | false ↦ λ c h. absurd (false≢true h) ]
+  clear_other k = elim (has_all p k) as (λ b. not (has_all q k && b) ≡ true → b ≡ true → has_all q k ≡ false) [
+    | true ↦ elim (has_all q k) as (λ a. not (a && true) ≡ true → true ≡ true → a ≡ false) [ true ↦ λ c h. absurd (false≢true c) | false ↦ λ c h. refl ]
+    | false ↦ λ c h. absurd (false≢true h)
+  ]
 
-  both_at : (r : List Node) (x : Node) → list_all (is_clear q p) (r ++ x ∷ []) ≡ true → row_sorted q p (r ++ x ∷ []) ≡ true → row_sorted q p (x ∷ reverse r) ≡ true → (list_all (has_all q) (r ++ x ∷ []) ≡ true) ⊎ ((list_all (has_all p) (r ++ x ∷ []) ≡ true) ⊎ (length (r ++ x ∷ []) ≤ 1))
+  both_at : (r : List Node) (x : Node) → list_all (is_clear q p) (r ++ x ∷ []) ≡ true
+      → row_sorted q p (r ++ x ∷ []) ≡ true → row_sorted q p (x ∷ reverse r) ≡ true
+      → (list_all (has_all q) (r ++ x ∷ []) ≡ true) ⊎ ((list_all (has_all p) (r ++ x ∷ []) ≡ true) ⊎ (length (r ++ x ∷ []) ≤ 1))
   both_at [] x c a b = inr (inr (omega arith))
   both_at (k ∷ r) x c a b =
       ⊎_elim
       (λ o. inl (last_out (k ∷ r) x a o (false_unless _ (λ i. both_ways _ (clear_other x (and_parts _ _ (and_parts _ _ (sym (list_all-append (is_clear q p) (k ∷ r) (x ∷ [])) ∙ c)).1).0 i) o))))
       (λ o. let full : list_all (has_all p) (k ∷ r) ≡ true = list_all-IsPermutation (has_all p) (k ∷ r) (reverse (k ∷ r)) (IsPermutation-reverse (k ∷ r)) ∙ sym (ap (λ b. cond b (row_sorted q p (reverse (k ∷ r))) (list_all (has_all p) (reverse (k ∷ r)))) o) ∙ b in
-          let first = (and_parts _ _ full).0 in
-          let not_out = clear_other k (and_parts _ _ c).0 first in
-          let rest : list_all (has_all p) (r ++ x ∷ []) ≡ true = sym (ap (λ b. cond b (row_sorted q p (r ++ x ∷ [])) (list_all (has_all p) (r ++ x ∷ []))) not_out) ∙ a in
-          inr (inl (and_from _ _ first rest)))
+      let first = (and_parts _ _ full).0 in
+      let not_out = clear_other k (and_parts _ _ c).0 first in
+      let rest : list_all (has_all p) (r ++ x ∷ []) ≡ true = sym (ap (λ b. cond b (row_sorted q p (r ++ x ∷ [])) (list_all (has_all p) (r ++ x ∷ []))) not_out) ∙ a in
+      inr (inl (and_from _ _ first rest)))
       (cases_Bool (has_all q x))
 
-  both_by : (rs ks : List Node) → ks ≡ reverse rs → list_all (is_clear q p) ks ≡ true → row_sorted q p ks ≡ true → row_sorted q p rs ≡ true → (list_all (has_all q) ks ≡ true) ⊎ ((list_all (has_all p) ks ≡ true) ⊎ (length ks ≤ 1))
+  both_by : (rs ks : List Node) → ks ≡ reverse rs → list_all (is_clear q p) ks ≡ true → row_sorted q p ks ≡ true
+      → row_sorted q p rs ≡ true
+      → (list_all (has_all q) ks ≡ true) ⊎ ((list_all (has_all p) ks ≡ true) ⊎ (length ks ≤ 1))
   both_by [] ks e c a b = inr (inr (omega (arith, ap length e)))
   both_by (x ∷ rs) ks e c a b =
       let f : ks ≡ reverse rs ++ x ∷ [] = e ∙ reverse-append (x ∷ []) rs in
       subst (λ z. (list_all (has_all q) z ≡ true) ⊎ ((list_all (has_all p) z ≡ true) ⊎ (length z ≤ 1))) (sym f)
       (both_at (reverse rs) x (subst (λ z. list_all (is_clear q p) z ≡ true) f c) (subst (λ z. row_sorted q p z ≡ true) f a) (subst (λ z. row_sorted q p (x ∷ z) ≡ true) (sym (reverse-reverse rs)) b))
 
-  pub not_both : (ks : List Node) → 2 ≤ length ks → list_all (is_clear q p) ks ≡ true → list_all (has_all q) ks ≡ false → list_all (has_all p) ks ≡ false → row_sorted q p ks ≡ true → row_sorted q p (reverse ks) ≡ true → ⊥
+  pub not_both : (ks : List Node) → 2 ≤ length ks → list_all (is_clear q p) ks ≡ true → list_all (has_all q) ks ≡ false
+      → list_all (has_all p) ks ≡ false → row_sorted q p ks ≡ true → row_sorted q p (reverse ks) ≡ true → ⊥
   not_both ks two c nq np a b =
       ⊎_elim (λ h. both_ways _ nq h) (λ h. ⊎_elim (λ h. both_ways _ np h) (λ le. absurd (omega arith)) h) (both_by (reverse ks) ks (sym (reverse-reverse ks)) c a b)
 
 -- the row of what the nodes of a row become keeps what they keep
 module _ (q p : ℕ → Bool) where
-  pub zip_keeps : (ks : List Node) (fs : List Found) → AllZip (IsGiven q p) ks fs → list_any is_torn fs ≡ false → Keeps any_bound ks (flat_line fs)
+  pub zip_keeps : (ks : List Node) (fs : List Found) → AllZip (IsGiven q p) ks fs → list_any is_torn fs ≡ false
+      → Keeps any_bound ks (flat_line fs)
   zip_keeps [] [] z t = Keeps_refl any_bound []
   zip_keeps [] (f ∷ fs) z t = absurd z
   zip_keeps (k ∷ ks) [] z t = absurd z
@@ -199,7 +216,8 @@ module _ (q p : ℕ → Bool) where
       absurd (both_ways (has_all q k) out none)
   line_long k (x ∷ line) out keeps = omega arith
 
-  pub zip_long : (ks : List Node) (fs : List Found) → AllZip (IsGiven q p) ks fs → list_any is_torn fs ≡ false → length ks ≤ length (flat_line fs)
+  pub zip_long : (ks : List Node) (fs : List Found) → AllZip (IsGiven q p) ks fs → list_any is_torn fs ≡ false
+      → length ks ≤ length (flat_line fs)
   zip_long [] [] z t = omega arith
   zip_long [] (f ∷ fs) z t = absurd z
   zip_long (k ∷ ks) [] z t = absurd z
@@ -211,7 +229,8 @@ module _ (q p : ℕ → Bool) where
   zip_long (k ∷ ks) (Found.Torn ∷ fs) z t = absurd (true≢false t)
 
   -- the kids of a row by their kinds
-  pub zip_outs : (ks : List Node) (fs : List Found) → AllZip (IsGiven q p) ks fs → flat_map out_node fs ≡ filter (has_all q) ks
+  pub zip_outs : (ks : List Node) (fs : List Found) → AllZip (IsGiven q p) ks fs
+      → flat_map out_node fs ≡ filter (has_all q) ks
   zip_outs [] [] z = refl
   zip_outs [] (f ∷ fs) z = absurd z
   zip_outs (k ∷ ks) [] z = absurd z
@@ -220,7 +239,8 @@ module _ (q p : ℕ → Bool) where
   zip_outs (k ∷ ks) (Found.Line front back ties ∷ fs) z = zip_outs ks fs z.1 ∙ sym (ap (λ c. cond c (k ∷ filter (has_all q) ks) (filter (has_all q) ks)) z.0.0)
   zip_outs (k ∷ ks) (Found.Torn ∷ fs) z = zip_outs ks fs z.1 ∙ sym (ap (λ c. cond c (k ∷ filter (has_all q) ks) (filter (has_all q) ks)) z.0.0)
 
-  pub zip_ins : (ks : List Node) (fs : List Found) → AllZip (IsGiven q p) ks fs → flat_map in_node fs ≡ filter (has_all p) ks
+  pub zip_ins : (ks : List Node) (fs : List Found) → AllZip (IsGiven q p) ks fs
+      → flat_map in_node fs ≡ filter (has_all p) ks
   zip_ins [] [] z = refl
   zip_ins [] (f ∷ fs) z = absurd z
   zip_ins (k ∷ ks) [] z = absurd z
@@ -229,13 +249,17 @@ module _ (q p : ℕ → Bool) where
   zip_ins (k ∷ ks) (Found.Line front back ties ∷ fs) z = zip_ins ks fs z.1 ∙ sym (ap (λ c. cond c (k ∷ filter (has_all p) ks) (filter (has_all p) ks)) z.0.1)
   zip_ins (k ∷ ks) (Found.Torn ∷ fs) z = zip_ins ks fs z.1 ∙ sym (ap (λ c. cond c (k ∷ filter (has_all p) ks) (filter (has_all p) ks)) z.0.1)
 
-  skip_mixed : (k : Node) (ks : List Node) (ms : List Found) → is_mixed q p k ≡ false → AllZip (IsGiven q p) (filter (is_mixed q p) ks) ms → AllZip (IsGiven q p) (filter (is_mixed q p) (k ∷ ks)) ms
+  skip_mixed : (k : Node) (ks : List Node) (ms : List Found) → is_mixed q p k ≡ false
+      → AllZip (IsGiven q p) (filter (is_mixed q p) ks) ms → AllZip (IsGiven q p) (filter (is_mixed q p) (k ∷ ks)) ms
   skip_mixed k ks ms e z = subst (λ c. AllZip (IsGiven q p) (cond c (k ∷ filter (is_mixed q p) ks) (filter (is_mixed q p) ks)) ms) (sym e) z
 
-  take_mixed : (k : Node) (ks : List Node) (f : Found) (ms : List Found) → is_mixed q p k ≡ true → IsGiven q p k f → AllZip (IsGiven q p) (filter (is_mixed q p) ks) ms → AllZip (IsGiven q p) (filter (is_mixed q p) (k ∷ ks)) (f ∷ ms)
+  take_mixed : (k : Node) (ks : List Node) (f : Found) (ms : List Found) → is_mixed q p k ≡ true → IsGiven q p k f
+      → AllZip (IsGiven q p) (filter (is_mixed q p) ks) ms
+      → AllZip (IsGiven q p) (filter (is_mixed q p) (k ∷ ks)) (f ∷ ms)
   take_mixed k ks f ms e g z = subst (λ c. AllZip (IsGiven q p) (cond c (k ∷ filter (is_mixed q p) ks) (filter (is_mixed q p) ks)) (f ∷ ms)) (sym e) (g, z)
 
-  pub zip_mixed : (ks : List Node) (fs : List Found) → AllZip (IsGiven q p) ks fs → AllZip (IsGiven q p) (filter (is_mixed q p) ks) (flat_map mixed_found fs)
+  pub zip_mixed : (ks : List Node) (fs : List Found) → AllZip (IsGiven q p) ks fs
+      → AllZip (IsGiven q p) (filter (is_mixed q p) ks) (flat_map mixed_found fs)
   zip_mixed [] [] z = tt
   zip_mixed [] (f ∷ fs) z = absurd z
   zip_mixed (k ∷ ks) [] z = absurd z
@@ -244,7 +268,8 @@ module _ (q p : ℕ → Bool) where
   zip_mixed (k ∷ ks) (Found.Line front back ties ∷ fs) z = take_mixed k ks (Found.Line front back ties) _ (ap₂ (λ a b. not a && not b) z.0.0 z.0.1) z.0 (zip_mixed ks fs z.1)
   zip_mixed (k ∷ ks) (Found.Torn ∷ fs) z = take_mixed k ks Found.Torn _ (ap₂ (λ a b. not a && not b) z.0.0 z.0.1) z.0 (zip_mixed ks fs z.1)
 
-  pub zip_sorts : (ks : List Node) (fs : List Found) → AllZip (IsGiven q p) ks fs → Sorts q p ks (flat_map out_node fs) (flat_map in_node fs) (flat_map mixed_found fs)
+  pub zip_sorts : (ks : List Node) (fs : List Found) → AllZip (IsGiven q p) ks fs
+      → Sorts q p ks (flat_map out_node fs) (flat_map in_node fs) (flat_map mixed_found fs)
   zip_sorts ks fs z = record { clear = zip_clear q p ks fs z; outs_are = zip_outs ks fs z; ins_are = zip_ins ks fs z; mixed_are = zip_mixed ks fs z }
 
 -- grants of a row from its end
@@ -263,6 +288,7 @@ torn_back fs = sym (list_any-IsPermutation is_torn fs (reverse fs) (IsPermutatio
 pub grants_licensed : (may : ℕ → Bool → Bool) (fs : List Found) (ts : List (ℕ × Bool)) → list_any is_torn fs ≡ false
     → (Licensed false may ts × Grants may fs) ↔ Licensed false may (flat_ties (reverse fs) ++ ts)
 grants_licensed may fs ts h =
-    let g = grants_ties may (reverse fs) (torn_back fs ∙ h) in
-    (λ x. licence_join false may (flat_ties (reverse fs)) ts (g.0 (grants_back may fs x.1)) x.0,
-     λ x. let c = licence_cut false may (flat_ties (reverse fs)) ts x in (c.1, subst (Grants may) (reverse-reverse fs) (grants_back may (reverse fs) (g.1 c.0))))
+    let g = grants_ties may (reverse fs) (torn_back fs ∙ h) in (
+      λ x. licence_join false may (flat_ties (reverse fs)) ts (g.0 (grants_back may fs x.1)) x.0,
+      λ x. let c = licence_cut false may (flat_ties (reverse fs)) ts x in (c.1, subst (Grants may) (reverse-reverse fs) (grants_back may (reverse fs) (g.1 c.0))),
+    )

@@ -1,6 +1,5 @@
 -- Bits of vars, and equations over them.
-use Rattle.std.specs.Prelude.{◌≡◌, ℕ, ◌<◌, Bool, true, false, not, ◌&&◌, nat_lt, List, length, slice_index_or}
-use Rattle.std.specs.Bool.{beq}
+use Rattle.std.specs.Prelude.{◌≡◌, ℕ, ◌<◌, Bool, true, false, not, List, slice_index_or}
 use Rattle.cp_base.specs.declared.equation.Equation.{Equation}
 
 -- a bit, turned where the first is true

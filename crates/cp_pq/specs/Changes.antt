@@ -18,6 +18,6 @@ by_bit b may v f = may v (flip b f)
 pub record IsDone (q p : ℕ → Bool) (old : Bool) (y : ℕ) (L : (ℕ → Bool → Bool) → Type 0) (n m : Node) : Type 0 where
   pub to : (may : ℕ → Bool → Bool) (xs : List ℕ) → Reads may n xs → together q p xs ≡ true
       → (b : Bool) × (old ≡ true → may y b ≡ true) × L (by_bit b may)
-        × ((wide : ℕ → Bool → Bool) → Wider may wide → wide y b ≡ true → Reads wide m xs)
+      × ((wide : ℕ → Bool → Bool) → Wider may wide → wide y b ≡ true → Reads wide m xs)
   pub fro : (may : ℕ → Bool → Bool) (xs : List ℕ) → Reads may m xs → ((b : Bool) → may y b ≡ true → L (by_bit b may))
       → Reads may n xs × (together q p xs ≡ true)

@@ -1,9 +1,8 @@
 -- What nodes are against a set, and rows of them.
-use Rattle.std.specs.Prelude.{◌≡◌, ℕ, ◌≤◌, Bool, true, false, cond, not, ◌&&◌, ◌||◌, List, [], ◌∷◌, ◌++◌, filter, length, map, reverse}
+use Rattle.std.specs.Prelude.{◌≡◌, ℕ, Bool, true, false, cond, not, List, [], ◌∷◌, ◌++◌, filter, map, reverse}
 use Rattle.std.specs.List.{list_all, flat_map, AllZip}
 use Rattle.cp_pq.specs.declared.node.Node.{Node}
 use Rattle.cp_pq.specs.declared.found.Found.{Found}
-use Rattle.cp_pq.specs.Readings.{ReadsAll}
 use Rattle.cp_pq.specs.Words.{sorted, has_all, is_clear, is_mixed, Licensed, IsLike, IsNever}
 use Rattle.cp_pq.specs.Keeping.{any_bound, Keeps}
 

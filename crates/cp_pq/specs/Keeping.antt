@@ -1,11 +1,11 @@
 -- What a row of nodes keeps when it takes the place of another: leaves, two kids at inner nodes, vars, owners.
-use Rattle.std.specs.Prelude.{◌≡◌, ℕ, Bool, true, List, ◌∷◌, []}
+use Rattle.std.specs.Prelude.{◌≡◌, ℕ, true, List}
 use Rattle.std.specs.List.{list_all}
 use Rattle.std.specs.List.Sorted.{IsPermutation}
 use Rattle.cp_lists.specs.CyclicLists.{Distinct}
 use Rattle.cp_pq.specs.declared.node.Node.{Node}
 use Rattle.cp_pq.specs.declared.node.Node.TheVariants.{P}
-use Rattle.cp_pq.specs.Nodes.{leaves, all_leaves, is_branching, has_vars_below, IsKid, IsIn}
+use Rattle.cp_pq.specs.Nodes.{all_leaves, is_branching, has_vars_below, IsKid, IsIn}
 use Rattle.cp_pq.specs.Owners.{Fits}
 
 -- the node stands in the row
@@ -26,5 +26,6 @@ any_bound n = Unit {0}
 pub record Keeps (on_bound : ℕ → Type 0) (old new : List Node) : Type 0 where
   pub leaves_kept : IsPermutation (all_leaves old) (all_leaves new)
   pub branching : list_all is_branching old ≡ true → list_all is_branching new ≡ true
-  pub vars_below : (vars : ℕ) → on_bound vars → list_all (has_vars_below vars) old ≡ true → list_all (has_vars_below vars) new ≡ true
+  pub vars_below : (vars : ℕ) → on_bound vars → list_all (has_vars_below vars) old ≡ true
+      → list_all (has_vars_below vars) new ≡ true
   pub owners : Distinct (all_leaves old) → RowKeepsOwners old new

@@ -16,3 +16,4 @@ pub mod Steps
 pub mod Grants
 pub mod Roots
 pub mod Ties
+pub mod SmallTrees

@@ -1,10 +1,10 @@
 -- Nodes of order trees: their leaves, their vars and the nodes in them (Booth, Lueker 1976).
-use Rattle.std.specs.Prelude.{◌≡◌, ℕ, Bool, true, false, ◌&&◌, nat_lt, length, List, [], ◌∷◌, ◌++◌}
+use Rattle.std.specs.Prelude.{◌≡◌, ℕ, Bool, true, ◌&&◌, nat_lt, length, List, [], ◌∷◌, ◌++◌}
 use Rattle.std.specs.List.{flat_map, list_all}
 use Rattle.cp_pq.specs.declared.node.Node.{Node}
 use Rattle.cp_pq.specs.declared.node.Node.TheOpen.{Node-F}
 use Rattle.cp_pq.specs.declared.node.Node.TheFolds.{fold-Node}
-use Rattle.cp_pq.specs.declared.node.Node.TheVariants.{Leaf, P, Q}
+use Rattle.cp_pq.specs.declared.node.Node.TheVariants.{P, Q}
 
 abbrev pub leaves_step : Node-F (List ℕ) → List ℕ
 leaves_step (Node-F.Leaf x) = x ∷ []

@@ -30,6 +30,6 @@ abbrev pub ExchangesOwners : List ℕ → Node → Node → Node → Type 0
 ExchangesOwners set part old new = (owner : ℕ) (kids : List Node) → IsIn (P owner kids) new
     → IsIn (P owner kids) part
     ⊎ ((old_kids : List Node) × IsIn (P owner old_kids) old
-        × ((a b : ℕ) → Has a set → Has b set → AreOnOneSide old_kids a b)
-        × ((a b c d : ℕ) → IsExchangedFor set (leaves part) a c → IsExchangedFor set (leaves part) b d
-            → AreOnOneSide old_kids a b ↔ AreOnOneSide kids c d))
+    × ((a b : ℕ) → Has a set → Has b set → AreOnOneSide old_kids a b)
+    × ((a b c d : ℕ) → IsExchangedFor set (leaves part) a c → IsExchangedFor set (leaves part) b d
+    → AreOnOneSide old_kids a b ↔ AreOnOneSide kids c d))

@@ -6,7 +6,7 @@ use Rattle.cp_pq.specs.declared.node.Node.{Node}
 use Rattle.cp_pq.specs.declared.node.Node.TheVariants.{Leaf, P, Q}
 use Rattle.cp_pq.specs.declared.part.Part.{Part}
 use Rattle.cp_pq.specs.Nodes.{leaves, is_branching, has_vars_below}
-use Rattle.cp_pq.specs.Bits.{bit_of, flip}
+use Rattle.cp_pq.specs.Bits.{bit_of}
 use Rattle.cp_pq.specs.Readings.{Reads, given}
 use Rattle.cp_pq.specs.Trees.{PQTree, make_tree, IsPair, Admits}
 use Rattle.cp_pq.specs.Orders.{IsConsecutive, HasRow}
@@ -54,7 +54,8 @@ in_direction true row = reverse row
 -- the new tree has the pairs of the old one that have the row in the direction of the bit of var, with some further
 -- bits, and its shape admits the orders of the old one that have the row in either direction, at least one
 pub record IsForced (row : List ℕ) (var : ℕ) (old new : PQTree) : Type 0 where
-  pub keeps : (order : List ℕ) (bits : List Bool) → IsPair old order bits → HasRow (in_direction (bit_of bits var) row) order
+  pub keeps : (order : List ℕ) (bits : List Bool) → IsPair old order bits
+      → HasRow (in_direction (bit_of bits var) row) order
       → (more : List Bool) × IsPair new order (bits ++ more)
   pub only : (order : List ℕ) (bits : List Bool) → IsPair new order bits
       → IsPair old order (take old.vars bits) × HasRow (in_direction (bit_of bits var) row) order

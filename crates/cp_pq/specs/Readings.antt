@@ -18,6 +18,7 @@ mutual
         → Reads may (Q var kids) xs
     backward : (var : ℕ) (kids : List Node) (xs : List ℕ) → may var true ≡ true → ReadsAll may (reverse kids) xs
         → Reads may (Q var kids) xs
+
   -- a row of nodes reads one reading of each, one behind the other
   pub data ReadsAll (may : ℕ → Bool → Bool) : List Node → List ℕ → Type 0 where
     none : ReadsAll may [] []

@@ -1,5 +1,5 @@
 -- Order trees, the pairs of a cyclic order and bits that they have, and the orders that their shapes admit.
-use Rattle.std.specs.Prelude.{◌≡◌, ℕ, Bool, true, List, [], ◌∷◌, ◌++◌, length}
+use Rattle.std.specs.Prelude.{◌≡◌, ℕ, Bool, true, List, ◌∷◌, length}
 use Rattle.std.specs.List.{AllByRecursion}
 use Rattle.cp_lists.specs.CyclicLists.{Distinct}
 use Rattle.cp_base.specs.declared.equation.Equation.{Equation}

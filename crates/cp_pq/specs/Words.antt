@@ -1,11 +1,11 @@
 -- Words of leaves and rows of nodes against a set of leaves, which is given by a test p and its opposite q.
-use Rattle.std.specs.Prelude.{◌≡◌, ℕ, Bool, true, false, cond, not, ◌&&◌, List, [], ◌∷◌, ◌++◌, ◌↔◌, reverse}
+use Rattle.std.specs.Prelude.{◌≡◌, ℕ, Bool, true, cond, not, ◌&&◌, List, [], ◌∷◌, ◌↔◌}
 use Rattle.std.specs.List.{list_all}
 use Rattle.cp_pq.specs.declared.node.Node.{Node}
 use Rattle.cp_pq.specs.declared.node.Node.TheVariants.{P}
-use Rattle.cp_pq.specs.Nodes.{leaves, all_leaves}
+use Rattle.cp_pq.specs.Nodes.{leaves}
 use Rattle.cp_pq.specs.Bits.{flip}
-use Rattle.cp_pq.specs.Readings.{Reads, ReadsAll}
+use Rattle.cp_pq.specs.Readings.{ReadsAll}
 
 -- the one test is the other turned
 abbrev pub Opposite : (ℕ → Bool) → (ℕ → Bool) → Type 0

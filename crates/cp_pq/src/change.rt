@@ -50,7 +50,10 @@ impl Turning {
         if met {
             let turned = found.turned(alloc)?;
             all.push(turned)?;
-            return Ok(Turning { row: all, met: true });
+            return Ok(Turning {
+                row: all,
+                met: true,
+            });
         }
         let now = !found.is_out();
         all.push(found)?;
@@ -138,7 +141,13 @@ fn core_one(alloc: Global, owner: usize, ins: Nodes, first: Found) -> Result<Fou
 }
 
 /// The row of the kids that meet the set, with two kids neither outside nor inside.
-fn core_two(alloc: Global, owner: usize, ins: Nodes, first: Found, second: Found) -> Result<Founds, Memory>
+fn core_two(
+    alloc: Global,
+    owner: usize,
+    ins: Nodes,
+    first: Found,
+    second: Found,
+) -> Result<Founds, Memory>
     ensures { IfOk result (λ r. (q p : ℕ → Bool) (vars : ℕ) (ks outs : List Node) → Opposite q p
         → Sorts q p ks outs ins (first ∷ second ∷ []) → 2 ≤ length (filter (is_met q) ks)
         → IsCore q p vars owner (filter (is_met q) ks) r) }
@@ -152,7 +161,13 @@ fn core_two(alloc: Global, owner: usize, ins: Nodes, first: Found, second: Found
 }
 
 /// What becomes of a P-node, from the row of its kids that meet the set: they go under a Q-node with the new var.
-fn change_core(alloc: Global, owner: usize, vars: usize, outs: Nodes, row: Founds) -> Result<Change, Memory>
+fn change_core(
+    alloc: Global,
+    owner: usize,
+    vars: usize,
+    outs: Nodes,
+    row: Founds,
+) -> Result<Change, Memory>
     ensures { IfOk result (λ r. (q p : ℕ → Bool) (ks : List Node) → Opposite q p → list_all (is_clear q p) ks ≡ true
         → outs ≡ filter (has_all q) ks → 2 ≤ length (filter (is_met q) ks)
         → IsCore q p vars owner (filter (is_met q) ks) row → IsChange q p vars (P owner ks) r) }

@@ -19,7 +19,14 @@ use cp_base::{Items, Memory};
 use std::alloc::Global;
 
 /// The line with the kids outside before it and those inside behind it, each grouped.
-fn line_between(alloc: Global, owner: usize, front: Nodes, back: Nodes, outs: Nodes, ins: Nodes) -> Result<(Nodes, Nodes), Memory>
+fn line_between(
+    alloc: Global,
+    owner: usize,
+    front: Nodes,
+    back: Nodes,
+    outs: Nodes,
+    ins: Nodes,
+) -> Result<(Nodes, Nodes), Memory>
     ensures { IfOk result (λ r. reverse r.0 ++ r.1 ≡ group_of owner outs ++ ((reverse front ++ back) ++ group_of owner ins)) }
 {
     let before = group(alloc, owner, outs)?;
@@ -40,13 +47,26 @@ fn close_whole(alloc: Global, owner: usize, outs: Nodes, ins: Nodes) -> Result<F
     if outs.len() == 0 {
         return Ok(Found::In(Node::P { owner, kids: ins }));
     }
-    let (front, back) = line_between(alloc, owner, Items::new(alloc), Items::new(alloc), outs, ins)?;
+    let (front, back) = line_between(
+        alloc,
+        owner,
+        Items::new(alloc),
+        Items::new(alloc),
+        outs,
+        ins,
+    )?;
     let ties = Items::new(alloc);
     Ok(Found::Line { front, back, ties })
 }
 
 /// What a P-node is that has one kid neither outside nor inside.
-fn close_one(alloc: Global, owner: usize, outs: Nodes, ins: Nodes, found: Found) -> Result<Found, Memory>
+fn close_one(
+    alloc: Global,
+    owner: usize,
+    outs: Nodes,
+    ins: Nodes,
+    found: Found,
+) -> Result<Found, Memory>
     ensures { IfOk result (λ f. (q p : ℕ → Bool) (ks : List Node) → Opposite q p → Sorts q p ks outs ins (found ∷ [])
         → IsGiven q p (P owner ks) f) }
 {

@@ -9,6 +9,7 @@ use std::alloc::Global;
 
 /// Vars with the bit that each takes where the leaves of the set stand at the end.
 pub type Ties = Items<(usize, bool)>;
+
 pub type Founds = Items<Found>;
 
 /// A node that has been compared with a set of leaves.
@@ -20,7 +21,11 @@ pub enum Found {
     In(Node),
     /// The row that reads what the node reads with the leaves of the set at the end. Its first half stands in `front` from
     /// last to first, so that a kid at either end is added in constant time.
-    Line { front: Nodes, back: Nodes, ties: Ties },
+    Line {
+        front: Nodes,
+        back: Nodes,
+        ties: Ties,
+    },
     /// The leaves of the set can stand at no end.
     Torn,
 }

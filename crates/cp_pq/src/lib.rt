@@ -23,3 +23,6 @@ pub use part::Part;
 pub use reducing::reduce;
 pub use star_tree::star;
 pub use tree::Tree;
+
+#[cfg(test)]
+mod tests;

@@ -21,7 +21,13 @@ fn leaf_nodes(alloc: Global, leaves: &[usize]) -> Result<Nodes, Memory>
 }
 
 /// The tree whose orders are all orders of the root and the leaves: one P-node, or the one leaf. Linear in the leaves.
-pub fn star(alloc: Global, root: usize, leaves: &[usize], owner: usize, vars: usize) -> Result<Tree, Memory>
+pub fn star(
+    alloc: Global,
+    root: usize,
+    leaves: &[usize],
+    owner: usize,
+    vars: usize,
+) -> Result<Tree, Memory>
     requires not_empty { leaves.now ≢ [] }
     requires distinct { Distinct (root ∷ leaves.now) }
     ensures { IfOk result (λ t. IsStar root leaves.now owner vars t) }

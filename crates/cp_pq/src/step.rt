@@ -51,9 +51,16 @@ pub enum Step {
 #[derive(Drop)]
 pub enum Row {
     /// None holds the whole set. Together they hold `count` leaves of it.
-    Open { founds: Founds, count: usize },
+    Open {
+        founds: Founds,
+        count: usize,
+    },
     /// One of them does.
-    Root { before: Founds, place: Place, after: Founds },
+    Root {
+        before: Founds,
+        place: Place,
+        after: Founds,
+    },
 }
 
 impl Row {
@@ -106,7 +113,13 @@ impl Row {
 }
 
 /// The place with one more frame round it.
-fn framed(alloc: Global, label: Label, before: Founds, place: Place, after: Founds) -> Result<Place, Memory>
+fn framed(
+    alloc: Global,
+    label: Label,
+    before: Founds,
+    place: Place,
+    after: Founds,
+) -> Result<Place, Memory>
     ensures { IfOk result (λ r. (r.frames ≡ place.frames ++ record { label = label; before = flat_line before; after = flat_line after } ∷ [])
         × (r.top ≡ place.top)) }
 {
@@ -165,16 +178,11 @@ fn close_row(alloc: Global, label: Label, row: Row, total: usize) -> Result<Step
     }
 }
 
-/// Whether the leaf is in the set, which is rising.
+/// Whether the leaf is in the set, which is rising. Logarithmic in the set.
 fn is_in_set(set: &[usize], x: usize) -> bool
     ensures { IsStrictlyIncreasing set.now → result ≡ inside set.now x }
 {
-    for y in set {
-        if *y == x {
-            return true;
-        }
-    }
-    false
+    set.binary_search(&x).is_ok()
 }
 
 /// What a leaf is.

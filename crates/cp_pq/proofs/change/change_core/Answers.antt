@@ -1,8 +1,8 @@
-use Rattle.std.proofs.Common.{◌≡◌, ℕ, zero, suc, ◌≤◌, Bool, true, List, [], ◌∷◌, ◌++◌, length, reverse, refl, sym, ap, ap₂, ◌∙◌, subst, arith}
+use Rattle.std.proofs.Common.{◌≡◌, ℕ, ◌≤◌, Bool, true, List, [], ◌∷◌, ◌++◌, length, reverse, refl, sym, ap, ap₂, ◌∙◌, subst, arith}
 use Rattle.std.specs.List.{list_any}
 use Rattle.std.proofs.lemmas.List.{reverse-reverse}
 use Rattle.cp_pq.specs.declared.node.Node.{Node}
-use Rattle.cp_pq.specs.declared.node.Node.TheVariants.{P, Q}
+use Rattle.cp_pq.specs.declared.node.Node.TheVariants.{P}
 use Rattle.cp_pq.specs.declared.found.Found.{Found}
 use Rattle.cp_pq.specs.declared.change.Change.{Change}
 use Rattle.cp_pq.specs.Founds.{is_torn, flat_line, flat_ties}
@@ -11,13 +11,16 @@ use Rattle.cp_pq.proofs.Zips.{torn_back}
 use Rattle.cp_pq.proofs.RootLaws.{core_torn, core_alone, core_beside}
 use Rattle.cp_pq.proofs.change.change_core.Goals as goal
 
-torn_is : (row back : List Found) (torn b : Bool) → back ≡ reverse row → torn ≡ list_any is_torn back → torn ≡ b → list_any is_torn row ≡ b
+torn_is : (row back : List Found) (torn b : Bool) → back ≡ reverse row → torn ≡ list_any is_torn back → torn ≡ b
+    → list_any is_torn row ≡ b
 torn_is row back torn b e t h = sym (torn_back row) ∙ ap (list_any is_torn) (sym e) ∙ sym t ∙ h
 
-line_is : (row back : List Found) (line front rear : List Node) → back ≡ reverse row → reverse front ++ rear ≡ flat_line (reverse back) → line ≡ reverse front ++ rear → line ≡ flat_line row
+line_is : (row back : List Found) (line front rear : List Node) → back ≡ reverse row
+    → reverse front ++ rear ≡ flat_line (reverse back) → line ≡ reverse front ++ rear → line ≡ flat_line row
 line_is row back line front rear e p l = l ∙ p ∙ ap flat_line (ap reverse e ∙ reverse-reverse row)
 
-ties_is : (row back : List Found) (ties old : List (ℕ × Bool)) → back ≡ reverse row → old ≡ [] → ties ≡ flat_ties back ++ old → ties ≡ flat_ties (reverse row) ++ []
+ties_is : (row back : List Found) (ties old : List (ℕ × Bool)) → back ≡ reverse row → old ≡ []
+    → ties ≡ flat_ties back ++ old → ties ≡ flat_ties (reverse row) ++ []
 ties_is row back ties old e n t = t ∙ ap₂ (λ a b. flat_ties a ++ b) e n
 
 no_length : (ks : List Node) (n : ℕ) → n ≡ length ks → n ≡ 0 → ks ≡ []

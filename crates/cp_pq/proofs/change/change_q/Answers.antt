@@ -1,4 +1,4 @@
-use Rattle.std.proofs.Common.{◌≡◌, ℕ, Bool, true, false, List, [], ◌∷◌, ◌++◌, reverse, refl, sym, ap, ap₂, ◌∙◌, subst}
+use Rattle.std.proofs.Common.{◌≡◌, ℕ, Bool, true, false, List, [], ◌++◌, reverse, sym, ap, ap₂, ◌∙◌}
 use Rattle.std.specs.List.{list_any}
 use Rattle.std.proofs.lemmas.List.{reverse-reverse}
 use Rattle.cp_pq.specs.declared.node.Node.{Node}
@@ -12,13 +12,16 @@ use Rattle.cp_pq.proofs.change.change_q.Goals as goal
 row_is : (fs back row : List Found) → back ≡ reverse fs → row ≡ turn_behind (reverse back) → row ≡ turn_behind fs
 row_is fs back row e h = h ∙ ap turn_behind (ap reverse e ∙ reverse-reverse fs)
 
-torn_is : (row line back : List Found) (torn b : Bool) → line ≡ row → back ≡ reverse line → torn ≡ list_any is_torn back → torn ≡ b → list_any is_torn row ≡ b
+torn_is : (row line back : List Found) (torn b : Bool) → line ≡ row → back ≡ reverse line → torn ≡ list_any is_torn back
+    → torn ≡ b → list_any is_torn row ≡ b
 torn_is row line back torn b same e t h = sym (torn_back row) ∙ ap (list_any is_torn) (ap reverse (sym same) ∙ sym e) ∙ sym t ∙ h
 
-kids_are : (row line back : List Found) (kids front rear : List Node) → line ≡ row → back ≡ reverse line → reverse front ++ rear ≡ flat_line (reverse back) → kids ≡ reverse front ++ rear → kids ≡ flat_line row
+kids_are : (row line back : List Found) (kids front rear : List Node) → line ≡ row → back ≡ reverse line
+    → reverse front ++ rear ≡ flat_line (reverse back) → kids ≡ reverse front ++ rear → kids ≡ flat_line row
 kids_are row line back kids front rear same e p k = k ∙ p ∙ ap flat_line (ap reverse e ∙ reverse-reverse line ∙ same)
 
-ties_are : (row line back : List Found) (ties old : List (ℕ × Bool)) → line ≡ row → back ≡ reverse line → old ≡ [] → ties ≡ flat_ties back ++ old → ties ≡ flat_ties (reverse row) ++ []
+ties_are : (row line back : List Found) (ties old : List (ℕ × Bool)) → line ≡ row → back ≡ reverse line → old ≡ []
+    → ties ≡ flat_ties back ++ old → ties ≡ flat_ties (reverse row) ++ []
 ties_are row line back ties old same e n t = t ∙ ap₂ (λ a b. flat_ties a ++ b) (e ∙ ap reverse same) n
 
 pub returns-then-not-is_run : goal.returns-then-not-is_run

@@ -1,4 +1,4 @@
-use Rattle.std.proofs.Common.{◌≡◌, sym, subst}
+use Rattle.std.proofs.Common.{sym, subst}
 use Rattle.cp_pq.specs.declared.node.Node.TheVariants.{P}
 use Rattle.cp_pq.specs.declared.change.Change.{Change}
 use Rattle.cp_pq.specs.Roots.{IsChange}

@@ -1,5 +1,4 @@
-use Rattle.std.proofs.Common.{◌≡◌, ℕ, List, [], ◌∷◌, ◌++◌, reverse, refl, sym, ap, ap₂, ◌∙◌}
-use Rattle.cp_pq.specs.Words.{group_of}
+use Rattle.std.proofs.Common.{[], ◌∷◌, refl, ap}
 use Rattle.cp_pq.proofs.Closes.{close_line, close_rest}
 use Rattle.cp_pq.proofs.close.close_one.Goals as goal
 

@@ -1,4 +1,4 @@
-use Rattle.std.proofs.Common.{◌≡◌, ℕ, Bool, true, false, cond, List, [], ◌∷◌, ◌++◌, reverse, refl, sym, ap, ap₂, ◌∙◌, subst}
+use Rattle.std.proofs.Common.{◌≡◌, Bool, true, false, List, ◌++◌, reverse, sym, ap, ap₂, ◌∙◌, subst}
 use Rattle.std.specs.List.{list_all, list_any}
 use Rattle.std.proofs.lemmas.List.{reverse-reverse}
 use Rattle.cp_pq.specs.declared.node.Node.TheVariants.{Q}
@@ -35,13 +35,13 @@ returns-then-forward c = λ q p ks opp z two.
     let r = c.in_ok-poured.poured in
     subst (IsGiven q p (Q c.args.var ks)) (sym c.line_found.ensures)
     (row_forward q p c.args.var ks fs z two opp
-      (read (list_all is_out) _ false _ _ c.are_out-outs.ensures c.items.ensures c.if-outs.false)
-      (read (list_all is_in) _ false _ _ c.are_in-ins.ensures c.items-2.ensures c.if-ins.false)
-      (read found_sorted _ true _ _ c.is_sorted-forward.ensures c.items-3.ensures c.if-forward.true)
-      r.front r.back r.ties r.torn
-      (c.in_ok-poured.ensures.line ∙ ap flat_line (twice fs back c.in_ok-back.ensures))
-      (c.in_ok-poured.ensures.ties ∙ ap₂ (λ a b. flat_ties a ++ b) c.in_ok-back.ensures c.in_ok-ties.ensures)
-      (c.in_ok-poured.ensures.torn ∙ torn_of fs back c.in_ok-back.ensures))
+    (read (list_all is_out) _ false _ _ c.are_out-outs.ensures c.items.ensures c.if-outs.false)
+    (read (list_all is_in) _ false _ _ c.are_in-ins.ensures c.items-2.ensures c.if-ins.false)
+    (read found_sorted _ true _ _ c.is_sorted-forward.ensures c.items-3.ensures c.if-forward.true)
+    r.front r.back r.ties r.torn
+    (c.in_ok-poured.ensures.line ∙ ap flat_line (twice fs back c.in_ok-back.ensures))
+    (c.in_ok-poured.ensures.ties ∙ ap₂ (λ a b. flat_ties a ++ b) c.in_ok-back.ensures c.in_ok-ties.ensures)
+    (c.in_ok-poured.ensures.torn ∙ torn_of fs back c.in_ok-back.ensures))
 
 pub returns-then-is_sorted : goal.returns-then-is_sorted
 returns-then-is_sorted c = λ q p ks opp z two.
@@ -50,15 +50,15 @@ returns-then-is_sorted c = λ q p ks opp z two.
     let r = c.in_ok-back_poured.back_poured in
     subst (IsGiven q p (Q c.args.var ks)) (sym c.line_found-then-is_sorted.ensures)
     (row_backward q p c.args.var ks fs z two opp
-      (read (list_all is_out) _ false _ _ c.are_out-outs.ensures c.items.ensures c.if-outs.false)
-      (read (list_all is_in) _ false _ _ c.are_in-ins.ensures c.items-2.ensures c.if-ins.false)
-      (read found_sorted _ false _ _ c.is_sorted-forward.ensures c.items-3.ensures c.if-forward.false)
-      back c.in_ok-back.ensures
-      (read found_sorted _ true _ _ c.is_sorted.ensures c.items-4.ensures c.if-is_sorted.true)
-      r.front r.back r.ties r.torn
-      (c.in_ok-back_poured.ensures.line ∙ ap flat_line (twice back c.in_ok-again.again c.in_ok-again.ensures))
-      (c.in_ok-back_poured.ensures.ties ∙ ap₂ (λ a b. flat_ties a ++ b) c.in_ok-again.ensures c.in_ok-back_ties.ensures)
-      (c.in_ok-back_poured.ensures.torn ∙ torn_of back c.in_ok-again.again c.in_ok-again.ensures))
+    (read (list_all is_out) _ false _ _ c.are_out-outs.ensures c.items.ensures c.if-outs.false)
+    (read (list_all is_in) _ false _ _ c.are_in-ins.ensures c.items-2.ensures c.if-ins.false)
+    (read found_sorted _ false _ _ c.is_sorted-forward.ensures c.items-3.ensures c.if-forward.false)
+    back c.in_ok-back.ensures
+    (read found_sorted _ true _ _ c.is_sorted.ensures c.items-4.ensures c.if-is_sorted.true)
+    r.front r.back r.ties r.torn
+    (c.in_ok-back_poured.ensures.line ∙ ap flat_line (twice back c.in_ok-again.again c.in_ok-again.ensures))
+    (c.in_ok-back_poured.ensures.ties ∙ ap₂ (λ a b. flat_ties a ++ b) c.in_ok-again.ensures c.in_ok-back_ties.ensures)
+    (c.in_ok-back_poured.ensures.torn ∙ torn_of back c.in_ok-again.again c.in_ok-again.ensures))
 
 pub returns : goal.returns
 returns c = λ q p ks opp z two. row_torn q p c.args.var ks c.args.founds z two

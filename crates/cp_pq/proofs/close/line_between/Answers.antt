@@ -1,7 +1,6 @@
-use Rattle.std.proofs.Common.{◌≡◌, ◌++◌, List, reverse, refl, sym, ap, ap₂, ◌∙◌, append_assoc}
+use Rattle.std.proofs.Common.{◌++◌, reverse, sym, ap, ap₂, ◌∙◌, append_assoc}
 use Rattle.std.proofs.lemmas.List.{reverse-append}
 use Rattle.cp_pq.specs.Words.{group_of}
-use Rattle.cp_pq.specs.declared.node.Node.{Node}
 use Rattle.cp_pq.proofs.Groups.{group_back}
 use Rattle.cp_pq.proofs.close.line_between.Goals as goal
 

@@ -1,5 +1,4 @@
-use Rattle.std.proofs.Common.{◌≡◌, ℕ, zero, suc, List, [], ◌∷◌, length, slice_index_or, map, refl, sym, ap, ap₂, ◌∙◌, subst, subst₂, arith}
-use Rattle.cp_pq.specs.declared.node.Node.{Node}
+use Rattle.std.proofs.Common.{◌≡◌, ℕ, List, [], ◌∷◌, length, slice_index_or, refl, sym, ap, ap₂, ◌∙◌, subst₂, arith}
 use Rattle.cp_pq.specs.declared.node.Node.TheVariants.{Leaf, P}
 use Rattle.cp_base.specs.declared.equation.Equation.{Equation}
 use Rattle.cp_pq.specs.Trees.{make_tree, IsWellFormed}

@@ -1,4 +1,4 @@
-use Rattle.std.proofs.Common.{◌≡◌, ℕ, ◌<◌, ◌≤◌, Bool, true, take, List}
+use Rattle.std.proofs.Common.{◌≡◌, ◌<◌, ◌≤◌, true, take}
 use Rattle.std.specs.List.{list_all}
 use Rattle.std.specs.List.Sorted.{IsStrictlyIncreasing}
 use Rattle.cp_pq.specs.Nodes.{is_branching}

@@ -1,4 +1,4 @@
-use Rattle.std.proofs.Common.{◌≡◌, ℕ, ◌<◌, ◌≤◌, Bool, List, [], ◌∷◌, ◌++◌, refl, sym, ap, ◌∙◌, subst, arith}
+use Rattle.std.proofs.Common.{subst}
 use Rattle.cp_pq.specs.Steps.{IsGathered}
 use Rattle.cp_pq.proofs.GatherLaws.{closed_root, closed_open, closed_top}
 use Rattle.cp_pq.proofs.step.close_row.Goals as goal

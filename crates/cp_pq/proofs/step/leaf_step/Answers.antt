@@ -1,4 +1,4 @@
-use Rattle.std.proofs.Common.{◌≡◌, ℕ, ◌<◌, Bool, true, false, not, List, [], ◌∷◌, refl, sym, ap, ◌∙◌, subst, arith}
+use Rattle.std.proofs.Common.{◌≡◌, true, false, not, [], ◌∷◌, refl, sym, ap, ◌∙◌, subst, arith}
 use Rattle.cp_pq.specs.Orders.{inside, outside}
 use Rattle.cp_pq.specs.Frames.{fill, AreOutside}
 use Rattle.cp_pq.specs.declared.node.Node.TheVariants.{Leaf}
@@ -18,7 +18,12 @@ returns-then-total-gt1 c = λ rising pos.
 
 pub returns : goal.returns
 returns c = λ rising pos.
-    let e : inside c.args.set.now c.args.x ≡ true = sym (c.is_in_set.ensures rising) ∙ c.if-not-is_in_set.false in
-    (count_Leaf (inside c.args.set.now) c.args.x true e ∙ omega (arith, c.if-total-gt1.false, pos),
-     (Leaf c.args.x, ap (λ z. fill z (Leaf c.args.x ∷ [])) (sym c.new-frames.ensures), subst (AreOutside (outside c.args.set.now)) (sym c.new-frames.ensures) tt,
-      (has_all_Leaf (inside c.args.set.now) c.args.x ∙ e, refl)))
+    let e : inside c.args.set.now c.args.x ≡ true = sym (c.is_in_set.ensures rising) ∙ c.if-not-is_in_set.false in (
+      count_Leaf (inside c.args.set.now) c.args.x true e ∙ omega (arith, c.if-total-gt1.false, pos),
+      (
+        Leaf c.args.x,
+        ap (λ z. fill z (Leaf c.args.x ∷ [])) (sym c.new-frames.ensures),
+        subst (AreOutside (outside c.args.set.now)) (sym c.new-frames.ensures) tt,
+        (has_all_Leaf (inside c.args.set.now) c.args.x ∙ e, refl),
+      ),
+    )

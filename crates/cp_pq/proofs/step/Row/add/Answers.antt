@@ -1,9 +1,8 @@
-use Rattle.std.proofs.Common.{◌≡◌, ℕ, ◌+◌, ◌<◌, ◌≤◌, Bool, List, [], ◌∷◌, ◌++◌, refl, sym, ap, ◌∙◌, subst, subst₂, arith}
+use Rattle.std.proofs.Common.{◌≡◌, ◌+◌, [], ◌∷◌, ◌++◌, sym, subst, arith}
 use Rattle.cp_pq.specs.declared.step.Row.{Row}
-use Rattle.cp_pq.specs.declared.step.Step.{Step}
-use Rattle.cp_pq.specs.Steps.{IsStep, IsGathered, count_in, count_all}
+use Rattle.cp_pq.specs.Steps.{IsStep, IsGathered}
 use Rattle.cp_pq.proofs.Counts.{count_push}
-use Rattle.cp_pq.proofs.GatherLaws.{open_open, open_root, root_open, root_root}
+use Rattle.cp_pq.proofs.GatherLaws.{open_open, root_open, root_root}
 use Rattle.cp_pq.proofs.step.Row.add.Goals as goal
 
 pub returns-in_ok-push-in-Open-step : goal.returns-in_ok-push-in-Open-step
@@ -19,9 +18,9 @@ pub returns-in-Open-step-2 : goal.returns-in-Open-step-2
 returns-in-Open-step-2 c = λ q p total ks k opp pos small le s g.
     subst (λ z. IsGathered q p total (ks ++ k ∷ []) (Row.Root c.in-Root.before c.in-Root.place z)) (sym c.in_ok-push-in-Root.ensures.ok)
     (root_open q p opp total ks k c.in-Root.before c.in-Root.after c.in-Root.place c.in-Open-step-2.found c.in-Open-step-2.count
-      (subst (IsGathered q p total ks) c.in-Root.is g) (subst (IsStep q p total k) c.in-Open-step-2.is s))
+    (subst (IsGathered q p total ks) c.in-Root.is g) (subst (IsStep q p total k) c.in-Open-step-2.is s))
 
 pub returns-in_default : goal.returns-in_default
 returns-in_default c = λ q p total ks k opp pos small le s g.
     absurd (root_root q p opp total ks k c.in-Root.before c.in-Root.after c.in-Root.place c.in_default.field-0 pos le
-      (subst (IsGathered q p total ks) c.in-Root.is g) (subst (IsStep q p total k) c.in_default.is s))
+    (subst (IsGathered q p total ks) c.in-Root.is g) (subst (IsStep q p total k) c.in_default.is s))
