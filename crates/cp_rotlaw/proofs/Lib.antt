@@ -1,6 +1,6 @@
-pub mod ShortOrbits
 pub mod DipoleGenus
 pub mod GluedNumbers
+mod NumberedLists
 pub mod GluedPairs
 pub mod ListedPartners
 pub mod GluedDarts

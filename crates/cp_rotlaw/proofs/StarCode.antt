@@ -13,6 +13,7 @@ use Rattle.cp_orbits.proofs.ClassLabels.{Connected-sym, Connected-trans, Connect
 use Rattle.cp_conn.specs.CutVertex.{avoids, without_vertex}
 use Rattle.cp_conn.specs.Numbering.{IsLeast, HasNumber, AreNumbered}
 use Rattle.cp_conn.proofs.CutVertices.{kept_pair, avoided}
+use Rattle.cp_conn.proofs.NumberedClasses.{connected_by_number, number_of_connected}
 use Rattle.cp_rot.specs.Systems.{System, darts, vertex_of, list_of, IsRotation}
 use Rattle.cp_faces.specs.Twins.{twin}
 use Rattle.cp_rot.specs.Genus.{end_pairs}
@@ -46,47 +47,6 @@ pub AreWithin-end_pairs : (r : System) → IsRotation r → AreWithin r.vertices
 AreWithin-end_pairs r is e lt =
     let p = end_pair_at r.at (slice_index_or (end_pairs r.at) e (0, 0)) e lt (get_or_default (end_pairs r.at) e (slice_index_or (end_pairs r.at) e (0, 0)) (0, 0) lt) in
     (subst (λ (x : ℕ). x < r.vertices) p.1 (is.placed (2 * e) (omega (arith, p.0))), subst (λ (x : ℕ). x < r.vertices) p.2 (is.placed (2 * e + 1) p.0))
-
--- a count is higher at a higher bound
-IsCount-higher : (P : ℕ → Type 0) (m n a b : ℕ) → m ≤ n → IsCount P m a → IsCount P n b → a ≤ b
-IsCount-higher P m n a b le ca cb =
-    let low : IsCount P m (count m cb.test) = record { test = cb.test; decides = λ x lt. cb.decides x (omega arith); counted = refl } in
-    omega (arith, IsCount-unique P m a (count m cb.test) ca low, count_higher m n cb.test le, cb.counted)
-
--- classes of a higher least member have a higher number
-number_lower : (R : ℕ → ℕ → Type 0) (x y c d : ℕ) (h : HasNumber R x c) (k : HasNumber R y d) → h.least < k.least → c ≡ d → ⊥
-number_lower R x y c d h k lt e = omega (arith, IsCount-higher (IsLeast R) (suc h.least) k.least (suc c) d (omega arith) (IsCount-next_yes (IsLeast R) h.least c h.counted h.leads) k.counted)
-
--- the components have different numbers
-module _ (es : List (ℕ × ℕ)) (n : ℕ) (numbers : List ℕ) (are : AreNumbered (Connected es) n numbers) where
-  -- one number, one component
-  pub connected_by_number : (x y : ℕ) → x < n → y < n → slice_index numbers x ≡ slice_index numbers y → Connected es x y
-  connected_by_number x y ltx lty e =
-      let h = are.by_least x ltx in
-      let k = are.by_least y lty in
-      ⊎_elim
-      (λ same. Connected-trans es x h.least y (Connected-sym es h.least x h.related) (subst (λ (z : ℕ). Connected es z y) (sym same) k.related))
-      (λ other. ⊎_elim
-      (λ lt. absurd (number_lower (Connected es) x y (slice_index numbers x) (slice_index numbers y) h k lt e))
-      (λ gt. absurd (number_lower (Connected es) y x (slice_index numbers y) (slice_index numbers x) k h gt (sym e)))
-      other)
-      (cases_order h.least k.least)
-
-  -- one component, one number
-  pub number_of_connected : (x y : ℕ) → x < n → y < n → Connected es x y → slice_index numbers x ≡ slice_index numbers y
-  number_of_connected x y ltx lty c =
-      let h = are.by_least x ltx in
-      let k = are.by_least y lty in
-      let there : h.least ≤ k.least = h.leads k.least (Connected-trans es h.least y k.least (Connected-trans es h.least x y h.related c) (Connected-sym es k.least y k.related)) in
-      let back : k.least ≤ h.least = k.leads h.least (Connected-trans es k.least x h.least (Connected-trans es k.least y x k.related (Connected-sym es x y c)) (Connected-sym es h.least x h.related)) in
-      let same : h.least ≡ k.least = omega arith in
-      IsCount-unique (IsLeast (Connected es)) k.least (slice_index numbers x) (slice_index numbers y) (subst (λ (m : ℕ). IsCount (IsLeast (Connected es)) m (slice_index numbers x)) same h.counted) k.counted
-
-  -- a number is below the number of vertices
-  pub number-below : (x : ℕ) → x < n → slice_index numbers x < n
-  number-below x lt =
-      let h = are.by_least x lt in
-      omega (arith, IsCount-le (IsLeast (Connected es)) h.least (slice_index numbers x) h.counted, h.leads x h.related)
 
 -- what is removed is connected to nothing
 pub alone : (u : ℕ) (es : List (ℕ × ℕ)) (y : ℕ) → Connected (without_vertex u es) u y → y ≡ u

@@ -4,7 +4,8 @@ use Rattle.cp_rot.specs.Systems.{darts}
 use Rattle.cp_rot.specs.Tables.{stands_at}
 use Rattle.cp_rotlaw.specs.StarParts.{far_key, ArePlaced}
 use Rattle.cp_rot.specs.Genus.{end_pairs}
-use Rattle.cp_rotlaw.proofs.StarCode.{number-below, AreEntered-from}
+use Rattle.cp_conn.proofs.NumberedClasses.{number-below}
+use Rattle.cp_rotlaw.proofs.StarCode.{AreEntered-from}
 use Rattle.cp_rotlaw.proofs.star_parts.entered_parts.Goals as goal
 
 pub places_of-requires-clause-within : goal.places_of-requires-clause-within
