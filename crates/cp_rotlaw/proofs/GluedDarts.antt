@@ -60,7 +60,7 @@ module _ (a b : System) (is_a : IsRotation a) (is_b : IsRotation b) (u w : ℕ) 
   twin_b d lt = twin-below (darts b) d is_b.paired lt
 
   -- an edge of which no dart stands at w
-  avoids_dart : (d : ℕ) → vertex_of b d ≢ w → vertex_of b (twin d) ≢ w → edge_avoids b w (d / 2) ≡ true
+  pub avoids_dart : (d : ℕ) → vertex_of b d ≢ w → vertex_of b (twin d) ≢ w → edge_avoids b w (d / 2) ≡ true
   avoids_dart d nd nt = ⊎_elim
       (λ e.
       let first : 2 * (d / 2) ≡ d = omega arith in
@@ -225,18 +225,6 @@ module _ (a b : System) (is_a : IsRotation a) (is_b : IsRotation b) (u w : ℕ) 
     -- the result is a rotation system
     pub IsRotation-glued : IsRotation s
     IsRotation-glued = record { paired = even; placed = Listed-glued.placed; listed = lists; arranged = Listed-exact s.vertices (darts s) (vertex_of s) (list_of s) Listed-glued }
-
-    -- behind a dart of a comes what came there
-    pub next_first : (d : ℕ) → d < darts a → vertex_of a d ≢ u → next s d ≡ next a d
-    next_first d lt ne = next-follow s IsRotation-glued d (omega (arith, size)) ∙ ap (λ xs. follow xs d) (own_first d lt ne).1 ∙ sym (next-follow a is_a d lt)
-
-    -- behind a dart of b comes the number of what came there
-    pub next_second : (d : ℕ) → d < darts b → vertex_of b d ≢ w → next s (number d) ≡ number (next b d)
-    next_second d lt ne =
-        next-follow s IsRotation-glued (number d) (omega (arith, number-below d lt ne, size))
-        ∙ ap (λ xs. follow xs (number d)) (own_second d lt ne).1
-        ∙ follow-map_on number d (list_of b (vertex_of b d)) (λ x hx e. apart_b (vertex_of b d) (second.placed d lt) ne x d hx (second.own d lt) e) (second.own d lt)
-        ∙ ap number (sym (next-follow b is_b d lt))
 
   -- the tables make the result
   pub IsGlued-tables : (at : List ℕ) (numbers : List ℕ) (count : ℕ) (ls : List (List ℕ)) → u < a.vertices → w < b.vertices → AreNumbers a b w pairs numbers count → AreVertices a u b w pairs at → ls ≡ values (a.vertices + b.vertices - 2) (glued_list a u b w (slice_index numbers)) → IsGlued a u b w pairs (system_of at ls)

@@ -5,8 +5,6 @@ pub mod GluedPairs
 pub mod ListedPartners
 pub mod GluedDarts
 pub mod GluedTables
-pub mod ZippedVertices
-pub mod ShortCuts
 pub mod GluedGenus
 pub mod StarCode
 pub mod StarSystems

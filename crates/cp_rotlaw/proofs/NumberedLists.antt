@@ -1,6 +1,9 @@
 -- The lists of vertices by number: renamed, parted, and with one vertex in front.
-use Rattle.std.proofs.Common.{◌≡◌, ℕ, zero, suc, ◌+◌, ◌-◌, ◌<◌, List, [], ◌∷◌, ◌++◌, map, sym, refl, ap, ap₂, ◌∙◌, ⊎_elim, arith}
+use Rattle.std.proofs.Common.{◌≡◌, ℕ, zero, suc, ◌+◌, ◌-◌, ◌<◌, List, [], ◌∷◌, ◌++◌, map, sym, refl, ap, ap₂, ◌∙◌, subst, ⊎_elim, arith}
 use Rattle.std.proofs.lemmas.Bool.{cases_eq}
+use Rattle.cp_lists.specs.CyclicLists.{Has}
+use Rattle.cp_lists.specs.Rows.{flat}
+use Rattle.cp_lists.proofs.DistinctLists.{Has-append_left, Has-append_right}
 use Rattle.cp_maplaw.specs.Systems.{rows_upto}
 use Rattle.cp_rotlaw.specs.GlueTables.{old_vertex}
 use Rattle.cp_rotlaw.proofs.GluedNumbers.{old_vertex_low, old_vertex_high}
@@ -11,6 +14,14 @@ rows_upto-agree : (lists others : ℕ → List ℕ) (v : ℕ) → ((x : ℕ) →
 rows_upto-agree lists others zero same = refl
 rows_upto-agree lists others (suc v) same =
     ap₂ (λ ys rows. ys ∷ rows) (same v (omega arith)) (rows_upto-agree lists others v (λ x lt. same x (omega arith)))
+
+-- an item of one of the lists is an item
+pub rows_upto-Has : (lists : ℕ → List ℕ) (v x d : ℕ) → x < v → Has d (lists x) → Has d (flat (rows_upto lists v))
+rows_upto-Has lists zero x d lt h = absurd (omega arith)
+rows_upto-Has lists (suc v) x d lt h = ⊎_elim
+    (λ e. Has-append_left d (lists v) (flat (rows_upto lists v)) (subst (λ y. Has d (lists y)) e h))
+    (λ ne. Has-append_right d (lists v) (flat (rows_upto lists v)) (rows_upto-Has lists v x d (omega arith) h))
+    (cases_eq x v)
 
 -- lists under names, one by one
 pub rows_upto-map : (h : ℕ → ℕ) (lists : ℕ → List ℕ) (v : ℕ)
