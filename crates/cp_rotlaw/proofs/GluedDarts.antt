@@ -2,14 +2,13 @@
 use Rattle.std.proofs.Common.{◌≡◌, ℕ, ◌+◌, ◌-◌, ◌*◌, ◌/◌, ◌%◌, ◌<◌, ◌≤◌, ◌≢◌, ◌⊎◌, true, false, ◌&&◌, eqb, ltb, List, [], length, map, slice_index, sym, ap, ap₂, ◌∙◌, subst, inl, inr, ⊎_elim, arith}
 use Rattle.std.proofs.lemmas.Bool.{cases_eq, cases_Bool, cases_lt, eq-eqb, ne_eqb, cond-true, cond-false, lt-ltb, le-ltb, false≢true}
 use Rattle.cp_lists.specs.Count.{count}
-use Rattle.cp_lists.specs.CyclicLists.{Has, Distinct, follow}
+use Rattle.cp_lists.specs.CyclicLists.{Has, Distinct}
 use Rattle.cp_faces.specs.Faces.{on_edges}
-use Rattle.cp_rot.specs.Systems.{System, darts, edges, vertex_of, list_of, next, IsRotation}
+use Rattle.cp_rot.specs.Systems.{System, darts, edges, vertex_of, list_of, IsRotation}
 use Rattle.cp_faces.specs.Twins.{twin}
 use Rattle.cp_rot.specs.Tables.{system_of}
 use Rattle.cp_rot.specs.Rewrites.{values}
 use Rattle.cp_faces.proofs.Twins.{twin-twin, twin-below, twin_even, twin_odd}
-use Rattle.cp_rot.proofs.Functions.{next-follow}
 use Rattle.cp_rot.proofs.ListEdits.{length-values, values_at}
 use Rattle.cp_rot.proofs.ListSystems.{Listed, Listed-system, Listed-exact}
 use Rattle.cp_rotlaw.specs.Systems.{is_other, HasNoLoopAt}
@@ -17,7 +16,7 @@ use Rattle.cp_rotlaw.specs.Glue.{ArePartners, partner_of_first, partner_of_secon
 use Rattle.cp_rotlaw.specs.GlueTables.{old_vertex, glued_list, AreNumbers, AreVertices}
 use Rattle.cp_rotlaw.proofs.GluedNumbers.{is_other_yes, is_other_no, count_other-below, old_vertex-count, count-old_vertex, old_vertex-other, old_vertex-below}
 use Rattle.cp_rotlaw.proofs.GluedPairs.{partner_first, partner_second, passing, passing-is, count_before, count_before-apart}
-use Rattle.cp_lists.proofs.MappedLists.{Has-map_on, map_on-Has, follow-map_on, Distinct-map_on, map_agree_on}
+use Rattle.cp_lists.proofs.MappedLists.{Has-map_on, map_on-Has, Distinct-map_on, map_agree_on}
 
 -- an edge that has no dart at w
 avoids_both : (b : System) (w e : ℕ) → vertex_of b (2 * e) ≢ w → vertex_of b (2 * e + 1) ≢ w → edge_avoids b w e ≡ true

@@ -1,76 +1,42 @@
 -- Gluing two rotation systems of genus zero at vertices with reverse lists gives genus zero: their maps side by side
 -- are glued dart by dart.
-use Rattle.std.proofs.Common.{◌≡◌, ℕ, ◌+◌, ◌-◌, ◌*◌, ◌/◌, ◌%◌, ◌<◌, ◌≤◌, ◌≢◌, Bool, true, cond, eqb, ltb, List, [], ◌∷◌, ◌++◌, append_assoc, length, map, reverse, sym, refl, ap, ap₂, ◌∙◌, subst, inl, inr, ⊎_elim, arith}
-use Rattle.std.proofs.lemmas.Bool.{cases_eq, cases_lt, eq-eqb, ne_eqb, cond-true, cond-false, lt-ltb, le-ltb, false≢true}
+use Rattle.std.proofs.Common.{◌≡◌, ℕ, ◌+◌, ◌-◌, ◌*◌, ◌/◌, ◌%◌, ◌<◌, ◌≢◌, eqb, List, [], ◌∷◌, ◌++◌, append_assoc, length, map, reverse, sym, refl, ap, ap₂, ◌∙◌, subst, inl, inr, ⊎_elim, arith}
+use Rattle.std.proofs.lemmas.Bool.{cases_eq, eq-eqb, ne_eqb, cond-true, cond-false}
 use Rattle.std.proofs.lemmas.List.{map-append, reverse-reverse}
 use Rattle.cp_lists.specs.Count.{count}
-use Rattle.cp_lists.specs.CyclicLists.{Distinct, Has, Lacks, follow}
+use Rattle.cp_lists.specs.CyclicLists.{Has}
 use Rattle.cp_lists.specs.Rows.{flat}
 use Rattle.cp_lists.specs.Turns.{IsTurn}
 use Rattle.cp_lists.proofs.Counting.{count-le}
-use Rattle.cp_lists.proofs.DistinctLists.{Distinct-append, Has-append_cases, Has-append_left, Lacks-append_left, Lacks-append_right, Lacks-from, Has-append_right, has_lacks}
+use Rattle.cp_lists.proofs.DistinctLists.{Has-append_left}
 use Rattle.cp_lists.proofs.FlatLists.{flat-append, flat-map}
-use Rattle.cp_lists.proofs.MappedLists.{Distinct-map_on, Has-map_on, follow-map_on, map_agree_on, map_on-Has}
+use Rattle.cp_lists.proofs.MappedLists.{Has-map_on, map_agree_on, map_on-Has}
 use Rattle.cp_lists.proofs.ReversedLists.{Has-reverse, map-reverse, reverse-Has}
 use Rattle.cp_lists.proofs.TurnedLists.{turn-map, turn-sym}
 use Rattle.cp_orbits.specs.Classes.{labels}
-use Rattle.cp_orbits.proofs.ClassLabels.{same_labels}
-use Rattle.cp_orbits.proofs.OrbitLaws.{Respects-graph}
 use Rattle.cp_faces.specs.Faces.{on_edges}
 use Rattle.cp_faces.specs.Twins.{twin}
-use Rattle.cp_faces.proofs.Twins.{half_twin, twin-below, twin-twin, twin_even, twin_odd}
-use Rattle.cp_maps.specs.Genus.{Apart, CanBeFlat, IsFlat, linked}
+use Rattle.cp_faces.proofs.Twins.{twin-below, twin-twin}
+use Rattle.cp_maps.specs.Genus.{Apart, CanBeFlat, linked}
 use Rattle.cp_maps.specs.Gluings.{onto}
-use Rattle.cp_maps.specs.Maps.{IsMapOf, Rings}
-use Rattle.cp_maps.specs.Names.{Names}
-use Rattle.cp_maps.proofs.FlatMaps.{linked-from}
-use Rattle.cp_maps.proofs.FlatUnions.{IsFlat-union}
+use Rattle.cp_maps.specs.Maps.{IsMapOf}
 use Rattle.cp_maps.proofs.GluedVertices.{glued, maps_agree}
-use Rattle.cp_maps.proofs.ListFacts.{Below-from, below_item}
 use Rattle.cp_maps.proofs.MapLists.{IsMapOf-front, IsMapOf-swap, IsMapOf-turn}
 use Rattle.cp_maps.proofs.Mirrors.{twin-farther}
-use Rattle.cp_maps.proofs.Rings.{Rings-agree, Rings-append}
 use Rattle.cp_rot.specs.Genus.{HasGenusZero}
-use Rattle.cp_rot.specs.Systems.{IsRotation, System, darts, edges, list_of, next, vertex_of}
-use Rattle.cp_rot.proofs.Functions.{Turns-system}
+use Rattle.cp_rot.specs.Systems.{IsRotation, System, darts, edges, list_of, vertex_of}
 use Rattle.cp_rot.proofs.ListSystems.{Listed-system}
-use Rattle.cp_rot.proofs.Rotations.{next_stands}
 use Rattle.cp_maplaw.specs.Systems.{rows_of, rows_upto}
-use Rattle.cp_maplaw.proofs.Systems.{IsMapOf-system, system_flat, system_names}
+use Rattle.cp_maplaw.proofs.Systems.{system_names}
 use Rattle.cp_rotlaw.specs.Glue.{ArePartners, AreReversed, IsGlued, edge_avoids, partner_of_first, partner_of_second}
 use Rattle.cp_rotlaw.specs.GlueTables.{old_vertex}
 use Rattle.cp_rotlaw.specs.Systems.{HasNoLoopAt, is_other}
-use Rattle.cp_rotlaw.proofs.GluedDarts.{IsRotation-glued, avoids_dart, kept, number, number_joined, number_kept}
+use Rattle.cp_rotlaw.proofs.GluedDarts.{IsRotation-glued, avoids_dart, number, number_joined, number_kept}
 use Rattle.cp_rotlaw.proofs.GluedNumbers.{count-old_vertex, count_other-below, old_vertex-below, old_vertex-count, old_vertex-other}
-use Rattle.cp_rotlaw.proofs.GluedPairs.{count_before, count_before-apart, partner_first, partner_second, passing, passing-is}
+use Rattle.cp_rotlaw.proofs.GluedPairs.{partner_first, partner_second}
 use Rattle.cp_rotlaw.proofs.NumberedLists.{rows_upto-Has, rows_upto-among, rows_upto-map, rows_upto-more, rows_upto-names}
-
--- rings are rings under different names
-rings_named : (f g j : ℕ → ℕ) (rows : List (List ℕ)) → ((c d : ℕ) → j c ≡ j d → c ≡ d)
-    → ((d : ℕ) → Has d (flat rows) → g (j d) ≡ j (f d)) → Rings f rows → Rings g (map (map j) rows)
-rings_named f g j [] apart same rings = tt
-rings_named f g j (xs ∷ rows) apart same rings = (
-  record {
-    distinct = Distinct-map_on j xs (λ x y hx hy e. apart x y e) rings.0.distinct;
-    along = λ d h. let w = map_on-Has j d xs h in
-        ap g (sym w.2) ∙ same w.0 (Has-append_left w.0 xs (flat rows) w.1) ∙ ap j (rings.0.along w.0 w.1)
-        ∙ sym (follow-map_on j w.0 xs (λ x hx e. apart x w.0 e) w.1) ∙ ap (follow (map j xs)) w.2;
-  },
-  rings_named f g j rows apart (λ d h. same d (Has-append_right d xs (flat rows) h)) rings.1,
-)
-
--- new numbers of edges keep twins
-on_edges-twin : (p : ℕ → ℕ) (d : ℕ) → on_edges p (twin d) ≡ twin (on_edges p d)
-on_edges-twin p d = ⊎_elim
-    (λ even.
-    let bit : twin d % 2 ≡ 1 = omega (arith, twin_even d even) in
-    ap₂ (λ (x y : ℕ). 2 * p x + y) (half_twin d) bit
-    ∙ omega (arith, twin_even (2 * p (d / 2) + d % 2) (omega (arith, even)), even))
-    (λ odd.
-    let bit : twin d % 2 ≡ 0 = omega (arith, twin_odd d odd) in
-    ap₂ (λ (x y : ℕ). 2 * p x + y) (half_twin d) bit
-    ∙ omega (arith, twin_odd (2 * p (d / 2) + d % 2) (λ e. omega (arith, odd, e)), odd))
-    (cases_eq (d % 2) 0)
+use Rattle.cp_rotlaw.proofs.SideBySide.{apart_sides, side, side-IsFlat, side-IsMapOf}
+use Rattle.cp_rotlaw.proofs.GluedNames.{Names-glued, glued_name, glued_name_high, glued_name_low, pass, pass-rank}
 
 module _ (a b : System) (is_a : IsRotation a) (is_b : IsRotation b) (u w : ℕ) (ltu : u < a.vertices)
     (ltw : w < b.vertices) (pairs : List (ℕ × ℕ)) (partners : ArePartners a u b w pairs) where
@@ -94,94 +60,17 @@ module _ (a b : System) (is_a : IsRotation a) (is_b : IsRotation b) (u w : ℕ) 
   abbrev mate_back : ℕ → ℕ
   mate_back = partner_of_second pairs
 
-  -- a dart of both is one of a or one of b
-  either : (P : ℕ → Type 0) → ((d : ℕ) → d < n → P d) → ((d : ℕ) → d < 2 * edges b → P (n + d)) → (d : ℕ)
-      → d < 2 * all → P d
-  either P one two d lt =
-      ⊎_elim (one d)
-      (λ q. let whole : n + (d - n) ≡ d = omega arith in subst P whole (two (d - n) (omega arith))) (cases_lt d n)
-
-  -- the dart behind a dart, side by side
-  side : ℕ → ℕ
-  side d = cond (ltb d n) (next a d) (n + next b (d - n))
-
-  -- of a
-  side_low : (d : ℕ) → d < n → side d ≡ next a d
-  unfolding side
-  side_low d lt = cond-true (ltb d n) (next a d) (n + next b (d - n)) (lt-ltb d n lt)
-
-  -- of b
-  side_high : (d : ℕ) → side (n + d) ≡ n + next b d
-  unfolding side
-  side_high d =
-      let off : n + d - n ≡ d = omega arith in
-      cond-false (ltb (n + d) n) (next a (n + d)) (n + next b (n + d - n)) (le-ltb (n + d) n (omega arith))
-      ∙ ap (λ (y : ℕ). n + next b y) off
-
-  -- side by side they are flat
-  side-IsFlat : HasGenusZero a → HasGenusZero b → IsFlat all side
-  side-IsFlat zero_a zero_b =
-      IsFlat-union (edges a) (edges b) (next a) (next b) side (Turns-system a is_a).permutes
-      (Turns-system b is_b).permutes side_low (λ d lt. side_high d) ((system_flat a is_a).0 zero_a)
-      ((system_flat b is_b).0 zero_b)
-
-  -- a dart of a and one of b lie in different parts
-  apart_sides : (x y : ℕ) → x < n → labels (linked side (2 * all) all) x ≢ labels (linked side (2 * all) all) (n + y)
-  apart_sides x y lt same =
-      let keeps : ltb x n ≡ ltb (n + y) n = same_labels (λ d. ltb d n) (linked side (2 * all) all) x (n + y)
-      (linked-from (λ d. ltb d n) side (2 * all) all
-      (Respects-graph (λ d. ltb d n) side (2 * all) (either (λ d. ltb d n ≡ ltb (side d) n)
-      (λ d l. lt-ltb d n l ∙ sym (ap (λ z. ltb z n) (side_low d l)
-      ∙ lt-ltb (next a d) n (omega (arith, (next_stands a is_a d (omega (arith, is_a.paired))).0, is_a.paired))))
-      (λ d l. le-ltb (n + d) n (omega arith)
-      ∙ sym (ap (λ z. ltb z n) (side_high d) ∙ le-ltb (n + next b d) n (omega arith)))))
-      (λ i l. ⊎_elim
-      (λ below. lt-ltb (2 * i) n (omega arith) ∙ sym (lt-ltb (2 * i + 1) n (omega arith)))
-      (λ above. le-ltb (2 * i) n (omega arith) ∙ sym (le-ltb (2 * i + 1) n (omega arith)))
-      (cases_lt i (edges a)))) same in
-      false≢true (sym (le-ltb (n + y) n (omega arith)) ∙ sym keeps ∙ lt-ltb x n lt)
+  -- the dart behind a dart, sides by sides
+  abbrev sides : ℕ → ℕ
+  sides = side a b is_a is_b
 
   -- the lists of b under their names
   abbrev lists_b : List (List ℕ)
   lists_b = map (map name) (rows_of b)
 
-  -- side by side they have the lists of both
-  side-IsMapOf : IsMapOf (2 * all) side (lists_b ++ rows_of a)
-  side-IsMapOf = record {
-    once = subst Distinct (sym (flat-append lists_b (rows_of a)))
-        (Distinct-append (flat lists_b) (flat (rows_of a))
-        (subst Distinct (sym (flat-map name (rows_of b)))
-        (Distinct-map_on name (flat (rows_of b)) (λ x y hx hy e. omega (arith, e)) map_b.once)) map_a.once
-        (λ d h. Lacks-from d (flat (rows_of a)) (λ k. omega (arith, (high d h).2, low d k))));
-    below = Below-from (2 * all) (flat (lists_b ++ rows_of a)) (λ d h. ⊎_elim
-        (λ k. omega (arith, (high d k).1, (high d k).2))
-        (λ k. omega (arith, low d k))
-        (Has-append_cases d (flat lists_b) (flat (rows_of a)) (subst (Has d) (flat-append lists_b (rows_of a)) h)));
-    rings = Rings-append side lists_b (rows_of a)
-        (rings_named (next b) side name (rows_of b) (λ c d e. omega (arith, e)) (λ d h. side_high d) map_b.rings)
-        (Rings-agree (next a) side (rows_of a) (λ d h. sym (side_low d (low d h))) map_a.rings);
-    loose = λ d lt l. either (λ y. Lacks y (flat lists_b ++ flat (rows_of a)) → side y ≡ y)
-        (λ y ly k. side_low y ly ∙ map_a.loose y ly (Lacks-append_right y (flat lists_b) (flat (rows_of a)) k))
-        (λ y ly k. side_high y ∙ ap name (map_b.loose y ly (Lacks-from y (flat (rows_of b))
-        (λ h. has_lacks (name y) (flat lists_b)
-        (subst (Has (name y)) (sym (flat-map name (rows_of b))) (Has-map_on name y (flat (rows_of b)) h))
-        (Lacks-append_left (name y) (flat lists_b) (flat (rows_of a)) k)))))
-        d lt (subst (Lacks d) (flat-append lists_b (rows_of a)) l);
-  }
-    where
-      map_a : IsMapOf n (next a) (rows_of a)
-      map_a = IsMapOf-system a is_a
-
-      map_b : IsMapOf (2 * edges b) (next b) (rows_of b)
-      map_b = IsMapOf-system b is_b
-
-      low : (d : ℕ) → Has d (flat (rows_of a)) → d < n
-      low d h = below_item n d (flat (rows_of a)) map_a.below h
-
-      high : (d : ℕ) → Has d (flat lists_b) → (y : ℕ) × (y < 2 * edges b) × (n + y ≡ d)
-      high d h =
-          let m = map_on-Has name d (flat (rows_of b)) (subst (Has d) (flat-map name (rows_of b)) h) in
-          (m.0, below_item (2 * edges b) m.0 (flat (rows_of b)) map_b.below m.1, m.2)
+  -- the name of a dart of the result
+  abbrev j : ℕ → ℕ
+  j = glued_name a b w
 
   -- the lists of the other vertices of a
   abbrev rest_a : List (List ℕ)
@@ -192,7 +81,7 @@ module _ (a b : System) (is_a : IsRotation a) (is_b : IsRotation b) (u w : ℕ) 
   rest_b = map (map name) (rows_upto (λ x. list_of b (old_vertex w x)) (b.vertices - 1))
 
   -- the two vertices in front
-  front-IsMapOf : IsMapOf (2 * all) side (map name (list_of b w) ∷ list_of a u ∷ (rest_b ++ rest_a))
+  front-IsMapOf : IsMapOf (2 * all) sides (map name (list_of b w) ∷ list_of a u ∷ (rest_b ++ rest_a))
   front-IsMapOf =
       let in_a = rows_upto-among (list_of a) a.vertices u ltu in
       let in_b = rows_upto-among (list_of b) b.vertices w ltw in
@@ -204,18 +93,19 @@ module _ (a b : System) (is_a : IsRotation a) (is_b : IsRotation b) (u w : ℕ) 
       ap (map (map name)) in_b.2 ∙ map-append (map name) in_b.0 (list_of b w ∷ in_b.1) in
       let joined : before ++ behind ≡ rest_b =
       sym (map-append (map name) in_b.0 in_b.1) ∙ ap (map (map name)) (sym in_b.3) in
-      let one : IsMapOf (2 * all) side (ws ∷ (before ++ (behind ++ rows_of a))) =
-      IsMapOf-front (2 * all) side ws before (behind ++ rows_of a)
-      (subst (IsMapOf (2 * all) side)
-      (ap (λ zs. zs ++ rows_of a) parted ∙ append_assoc before (ws ∷ behind) (rows_of a)) side-IsMapOf) in
-      let two : IsMapOf (2 * all) side (ws ∷ ((rest_b ++ in_a.0) ++ us ∷ in_a.1)) =
-      subst (λ zs. IsMapOf (2 * all) side (ws ∷ zs))
+      let one : IsMapOf (2 * all) sides (ws ∷ (before ++ (behind ++ rows_of a))) =
+      IsMapOf-front (2 * all) sides ws before (behind ++ rows_of a)
+      (subst (IsMapOf (2 * all) sides)
+      (ap (λ zs. zs ++ rows_of a) parted ∙ append_assoc before (ws ∷ behind) (rows_of a))
+      (side-IsMapOf a b is_a is_b)) in
+      let two : IsMapOf (2 * all) sides (ws ∷ ((rest_b ++ in_a.0) ++ us ∷ in_a.1)) =
+      subst (λ zs. IsMapOf (2 * all) sides (ws ∷ zs))
       (sym (append_assoc before behind (rows_of a)) ∙ ap₂ (λ ys zs. ys ++ zs) joined in_a.2
       ∙ sym (append_assoc rest_b in_a.0 (us ∷ in_a.1))) one in
-      subst (λ zs. IsMapOf (2 * all) side (ws ∷ us ∷ zs))
+      subst (λ zs. IsMapOf (2 * all) sides (ws ∷ us ∷ zs))
       (append_assoc rest_b in_a.0 in_a.1 ∙ ap (λ zs. rest_b ++ zs) (sym in_a.3))
-      (IsMapOf-swap (2 * all) side us ws ((rest_b ++ in_a.0) ++ in_a.1)
-      (IsMapOf-front (2 * all) side us (ws ∷ (rest_b ++ in_a.0)) in_a.1 two))
+      (IsMapOf-swap (2 * all) sides us ws ((rest_b ++ in_a.0) ++ in_a.1)
+      (IsMapOf-front (2 * all) sides us (ws ∷ (rest_b ++ in_a.0)) in_a.1 two))
 
   -- a dart at u and its partner, which comes first
   abbrev glued_pair : ℕ → ℕ × ℕ
@@ -281,7 +171,7 @@ module _ (a b : System) (is_a : IsRotation a) (is_b : IsRotation b) (u w : ℕ) 
 
   -- the pairs, and all other lists
   pairs-IsMapOf : AreReversed a u b w pairs
-      → IsMapOf (2 * all) side (map (λ p. p.0) ps ∷ reverse (map (λ p. p.1) ps) ∷ (rest_b ++ rest_a))
+      → IsMapOf (2 * all) sides (map (λ p. p.0) ps ∷ reverse (map (λ p. p.1) ps) ∷ (rest_b ++ rest_a))
   pairs-IsMapOf reversed =
       let us : List ℕ = list_of a u in
       let firsts : map name (reverse (map mate us)) ≡ map (λ p. p.0) ps =
@@ -292,8 +182,8 @@ module _ (a b : System) (is_a : IsRotation a) (is_b : IsRotation b) (u w : ℕ) 
       let turned : IsTurn (map name (list_of b w)) (map (λ p. p.0) ps) =
       turn-sym (map (λ p. p.0) ps) (map name (list_of b w)) (subst (λ zs. IsTurn zs (map name (list_of b w))) firsts
       (turn-map name (reverse (map mate us)) (list_of b w) reversed)) in
-      subst (λ zs. IsMapOf (2 * all) side (map (λ p. p.0) ps ∷ zs ∷ (rest_b ++ rest_a))) seconds
-      (IsMapOf-turn (2 * all) side (map name (list_of b w)) (map (λ p. p.0) ps) (us ∷ (rest_b ++ rest_a)) turned
+      subst (λ zs. IsMapOf (2 * all) sides (map (λ p. p.0) ps ∷ zs ∷ (rest_b ++ rest_a))) seconds
+      (IsMapOf-turn (2 * all) sides (map name (list_of b w)) (map (λ p. p.0) ps) (us ∷ (rest_b ++ rest_a)) turned
       front-IsMapOf)
 
   -- a first dart of the pairs is a partner
@@ -305,13 +195,13 @@ module _ (a b : System) (is_a : IsRotation a) (is_b : IsRotation b) (u w : ℕ) 
       (m.0, reverse-Has m.0 (list_of a u) m.1, m.2)
 
   -- the two vertices are of different components
-  pairs-Apart : Apart all side (map (λ p. p.0) ps) (reverse (map (λ p. p.1) ps))
+  pairs-Apart : Apart all sides (map (λ p. p.0) ps) (reverse (map (λ p. p.1) ps))
   pairs-Apart c d hc hd one =
       let f = pair_first c hc in
       let k : Has d (list_of a u) = reverse-Has d (list_of a u)
       (subst (Has d) (pair_seconds (reverse (list_of a u))) (reverse-Has d (map (λ p. p.1) ps) hd)) in
-      apart_sides d (mate f.0) (at_first d k).0
-      (sym one ∙ ap (labels (linked side (2 * all) all)) (sym f.2))
+      apart_sides a b is_a is_b d (mate f.0) (at_first d k).0
+      (sym one ∙ ap (labels (linked sides (2 * all) all)) (sym f.2))
 
   -- the twins of the partners are in other lists
   twins_there : HasNoLoopAt b w → (d : ℕ) → Has d (map (λ p. p.0) ps) → Has (twin d) (flat (rest_b ++ rest_a))
@@ -333,73 +223,6 @@ module _ (a b : System) (is_a : IsRotation a) (is_b : IsRotation b) (u w : ℕ) 
       (Has-append_left (n + y) (flat rest_b) (flat rest_a)
       (subst (Has (n + y)) (sym (flat-map name rest)) (Has-map_on name y (flat rest) has))))
 
-  -- the edge of b that is number k of those that do not end at w
-  abbrev pass : ℕ → ℕ
-  pass = passing (edges b) (edge_avoids b w)
-
-  -- of the number of such an edge
-  pass-rank : (e : ℕ) → e < edges b → edge_avoids b w e ≡ true → pass (count e (edge_avoids b w)) ≡ e
-  pass-rank e lt t =
-      let k = passing-is (edges b) (edge_avoids b w) (count e (edge_avoids b w))
-      (count_before (edge_avoids b w) e (edges b) lt t) in
-      count_before-apart (edge_avoids b w) (pass (count e (edge_avoids b w))) e k.1 t k.2
-
-  -- the name of a dart of the result
-  j : ℕ → ℕ
-  j d = cond (ltb d n) d (n + on_edges pass (d - n))
-
-  -- of a
-  j_low : (d : ℕ) → d < n → j d ≡ d
-  unfolding j
-  j_low d lt = cond-true (ltb d n) d (n + on_edges pass (d - n)) (lt-ltb d n lt)
-
-  -- of b
-  j_high : (d : ℕ) → j (n + d) ≡ n + on_edges pass d
-  unfolding j
-  j_high d =
-      let off : n + d - n ≡ d = omega arith in
-      cond-false (ltb (n + d) n) (n + d) (n + on_edges pass (n + d - n)) (le-ltb (n + d) n (omega arith))
-      ∙ ap (λ (y : ℕ). n + on_edges pass y) off
-
-  -- how many edges of b stay
-  abbrev stay : ℕ
-  stay = count (edges b) (edge_avoids b w)
-
-  -- the names are different, and those of twins are twins
-  Names-glued : (m : ℕ) → m ≡ edges a + stay → Names m all j
-  Names-glued m size = record {
-    below = λ d lt. each (λ y. j y < 2 * all) (λ y l. omega (arith, j_low y l))
-        (λ k l. omega (arith, j_high k, (is_pass k l).0)) d lt;
-    apart = λ c d ltc ltd. each (λ x. j x ≡ j d → x ≡ d)
-        (λ x lx. each (λ y. j x ≡ j y → x ≡ y) (λ y ly e. sym (j_low x lx) ∙ e ∙ j_low y ly)
-        (λ k lk e. absurd (omega (arith, j_low x lx, j_high k, e, lx))) d ltd)
-        (λ k lk. each (λ y. j (n + k) ≡ j y → n + k ≡ y)
-        (λ y ly e. absurd (omega (arith, j_low y ly, j_high k, e, ly)))
-        (λ l ll e.
-        let half : pass (k / 2) ≡ pass (l / 2) = omega (arith, j_high k, j_high l, e) in
-        let same : k / 2 ≡ l / 2 =
-        sym (is_pass k lk).2 ∙ ap (λ z. count z (edge_avoids b w)) half ∙ (is_pass l ll).2 in
-        omega (arith, j_high k, j_high l, e, half, same))
-        d ltd)
-        c ltc;
-    twins = λ d lt. each (λ y. j (twin y) ≡ twin (j y))
-        (λ y l. j_low (twin y) (twin-below n y (omega arith) l) ∙ ap twin (sym (j_low y l)))
-        (λ k l. ap j (twin-farther (edges a) k) ∙ j_high (twin k) ∙ ap (λ (z : ℕ). n + z) (on_edges-twin pass k)
-        ∙ sym (twin-farther (edges a) (on_edges pass k)) ∙ ap twin (sym (j_high k)))
-        d lt;
-  }
-    where
-      each : (P : ℕ → Type 0) → ((d : ℕ) → d < n → P d) → ((k : ℕ) → k < 2 * stay → P (n + k)) → (d : ℕ) → d < 2 * m
-          → P d
-      each P one two d lt =
-          ⊎_elim (one d)
-          (λ q. let whole : n + (d - n) ≡ d = omega arith in subst P whole (two (d - n) (omega (arith, size))))
-          (cases_lt d n)
-
-      is_pass : (k : ℕ) → k < 2 * stay → (pass (k / 2) < edges b) × (edge_avoids b w (pass (k / 2)) ≡ true)
-          × (count (pass (k / 2)) (edge_avoids b w) ≡ k / 2)
-      is_pass k lt = passing-is (edges b) (edge_avoids b w) (k / 2) (omega arith)
-
   module _ (no_b : HasNoLoopAt b w) (s : System) (result : IsGlued a u b w pairs s) where
     -- the number of a dart of b
     abbrev num : ℕ → ℕ
@@ -412,7 +235,8 @@ module _ (a b : System) (is_a : IsRotation a) (is_b : IsRotation b) (u w : ℕ) 
         let lt_twin : twin d < darts b = twin-below (darts b) d is_b.paired lt in
         let q = partner_second a b u w pairs partners (twin d) lt_twin e in
         let own : Has (mate_back (twin d)) (list_of a u) =
-        subst (λ v. Has (mate_back (twin d)) (list_of a v)) q.1 ((Listed-system a is_a).own (mate_back (twin d)) q.0) in
+        subst (λ v. Has (mate_back (twin d)) (list_of a v)) q.1
+        ((Listed-system a is_a).own (mate_back (twin d)) q.0) in
         let partner_in : Has (twin d) (map mate (reverse (list_of a u))) =
         subst (λ y. Has y (map mate (reverse (list_of a u)))) q.2
         (Has-map_on mate (mate_back (twin d)) (reverse (list_of a u))
@@ -420,20 +244,22 @@ module _ (a b : System) (is_a : IsRotation a) (is_b : IsRotation b) (u w : ℕ) 
         ap (λ (y : ℕ). onto ps (n + y)) (sym (twin-twin d))
         ∙ onto_joined (reverse (list_of a u)) (twin d)
         (λ x h. (at_first x (reverse-Has x (list_of a u) h)).3) partner_in
-        ∙ sym (j_low (mate_back (twin d)) (omega (arith, q.0, is_a.paired)))
+        ∙ sym (glued_name_low a b w (mate_back (twin d)) (omega (arith, q.0, is_a.paired)))
         ∙ ap j (sym (number_joined a b is_a is_b u w pairs partners d e)))
         (λ nt.
         let rank : ℕ → ℕ = λ e. count e (edge_avoids b w) in
-        let back : pass (rank (d / 2)) ≡ d / 2 =
-        pass-rank (d / 2) (omega (arith, lt, is_b.paired)) (avoids_dart a b is_a is_b u w pairs partners d ne nt) in
+        let back : pass a b w (rank (d / 2)) ≡ d / 2 =
+        pass-rank a b w (d / 2) (omega (arith, lt, is_b.paired))
+        (avoids_dart a b is_a is_b u w pairs partners d ne nt) in
         let half : on_edges rank d / 2 ≡ rank (d / 2) = omega arith in
         let bit : on_edges rank d % 2 ≡ d % 2 = omega arith in
         let whole : 2 * (d / 2) + d % 2 ≡ d = omega arith in
         onto_kept (reverse (list_of a u)) d
         (λ x h e. nt (ap (vertex_of b) (sym e) ∙ (at_first x (reverse-Has x (list_of a u) h)).2))
-        ∙ ap (λ (z : ℕ). n + z) (sym whole ∙ sym (ap₂ (λ (x y : ℕ). 2 * pass x + y) half bit
+        ∙ ap (λ (z : ℕ). n + z) (sym whole ∙ sym (ap₂ (λ (x y : ℕ). 2 * pass a b w x + y) half bit
         ∙ ap (λ (z : ℕ). 2 * z + d % 2) back))
-        ∙ sym (j_high (on_edges rank d)) ∙ ap j (sym (number_kept a b is_a is_b u w pairs partners d nt)))
+        ∙ sym (glued_name_high a b w (on_edges rank d))
+        ∙ ap j (sym (number_kept a b is_a is_b u w pairs partners d nt)))
         (cases_eq (vertex_of b (twin d)) w)
 
     -- the lists that come from a are those of the result
@@ -444,7 +270,7 @@ module _ (a b : System) (is_a : IsRotation a) (is_b : IsRotation b) (u w : ℕ) 
         let ltv : v < a.vertices = old_vertex-below a.vertices u x ltu lt in
         map_agree_on (onto ps) j (list_of a v)
         (λ d h. let l : d < n = omega (arith, ((Listed-system a is_a).item v d ltv h).0, is_a.paired) in
-        onto_low (reverse (list_of a u)) d l ∙ sym (j_low d l))
+        onto_low (reverse (list_of a u)) d l ∙ sym (glued_name_low a b w d l))
         ∙ ap (map j) (sym (ap (list_of s) (sym (count-old_vertex u x))
         ∙ result.first_lists v ltv (old_vertex-other u x)))
 
@@ -480,9 +306,9 @@ module _ (a b : System) (is_a : IsRotation a) (is_b : IsRotation b) (u w : ℕ) 
       → (s : System) → IsGlued a u b w pairs s → darts s ≡ 2 * edges s → length s.lists ≡ s.vertices → HasGenusZero s
   glued-HasGenusZero no_b reversed zero_a zero_b s result even lists =
       let flat_map : CanBeFlat all (map (map (onto ps)) (rest_b ++ rest_a)) =
-      glued all side ps (rest_b ++ rest_a) (pairs-IsMapOf reversed) pairs-Apart (twins_there no_b)
-      (side-IsFlat zero_a zero_b) in
+      glued all sides ps (rest_b ++ rest_a) (pairs-IsMapOf reversed) pairs-Apart (twins_there no_b)
+      (side-IsFlat a b is_a is_b zero_a zero_b) in
       let is_s = IsRotation-glued a b is_a is_b u w pairs partners ltu ltw no_b s result even lists in
       (system_names s all j flat_map.0 is_s (omega (arith, result.size, count-le (edges b) (edge_avoids b w)))
-      (Names-glued (edges s) result.size)
+      (Names-glued a b w (edges s) result.size)
       (subst (IsMapOf (2 * all) flat_map.0) (rows_glued no_b s result) flat_map.1)).1 flat_map.2

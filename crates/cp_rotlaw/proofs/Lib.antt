@@ -1,6 +1,8 @@
 pub mod DipoleGenus
 pub mod GluedNumbers
 mod NumberedLists
+mod SideBySide
+mod GluedNames
 pub mod GluedPairs
 pub mod ListedPartners
 pub mod GluedDarts

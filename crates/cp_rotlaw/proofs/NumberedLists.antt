@@ -56,7 +56,8 @@ rows_upto-among lists (suc v) u lt = ⊎_elim
       rows_upto lists v,
       ap (λ ys. ys ∷ rows_upto lists v) (ap lists (sym e)),
       ap (rows_upto (λ x. lists (old_vertex u x))) less
-          ∙ rows_upto-agree (λ x. lists (old_vertex u x)) lists v (λ x ltx. ap lists (old_vertex_low u x (omega arith))),
+          ∙ rows_upto-agree (λ x. lists (old_vertex u x)) lists v
+          (λ x ltx. ap lists (old_vertex_low u x (omega arith))),
     ))
     (λ ne.
     let w = rows_upto-among lists v u (omega arith) in

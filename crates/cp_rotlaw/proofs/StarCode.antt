@@ -1,17 +1,15 @@
 -- Components without a vertex, the parts that its edges enter, and the rows of the parts, as the program finds them.
-use Rattle.std.proofs.Common.{◌≡◌, ◌≢◌, ℕ, suc, ◌+◌, ◌*◌, ◌/◌, ◌<◌, ◌≤◌, Bool, true, false, cond, eqb, List, [], ◌∷◌, ◌++◌, length, take, map, get_or, set, slice_index, slice_index_or, sym, refl, ap, ap₂, ◌∙◌, subst, subst₂, inl, inr, ⊎_elim, arith}
+use Rattle.std.proofs.Common.{◌≡◌, ◌≢◌, ℕ, ◌+◌, ◌*◌, ◌/◌, ◌<◌, Bool, true, false, cond, eqb, List, [], ◌∷◌, ◌++◌, length, take, map, get_or, set, slice_index, slice_index_or, sym, refl, ap, ap₂, ◌∙◌, subst, subst₂, inl, inr, ⊎_elim, arith}
 use Rattle.std.specs.Prelude.{replicate}
 use Rattle.std.specs.List.{Contains}
-use Rattle.std.proofs.lemmas.Bool.{cases_eq, cases_lt, cases_order, eq-eqb, ne_eqb, eqb-true, false≢true}
+use Rattle.std.proofs.lemmas.Bool.{cases_eq, cases_lt, eq-eqb, ne_eqb, eqb-true, false≢true}
 use Rattle.std.proofs.lemmas.List.{get_or-set_same, get_or-set_other, length-set, get_or-replicate, length-replicate, get_or_past, take_more, get_or_default, get_or-map, length-map}
 use Rattle.std.proofs.lemmas.List.Elements.{filter_more}
 use Rattle.cp_base.specs.Graphs.{AreWithin}
-use Rattle.cp_lists.specs.Count.{count, IsCount}
 use Rattle.cp_orbits.specs.Connected.{Connected}
-use Rattle.cp_lists.proofs.Counting.{IsCount-unique, IsCount-le, IsCount-next_yes, count_higher}
-use Rattle.cp_orbits.proofs.ClassLabels.{Connected-sym, Connected-trans, Connected-closed}
+use Rattle.cp_orbits.proofs.ClassLabels.{Connected-closed}
 use Rattle.cp_conn.specs.CutVertex.{avoids, without_vertex}
-use Rattle.cp_conn.specs.Numbering.{IsLeast, HasNumber, AreNumbered}
+use Rattle.cp_conn.specs.Numbering.{AreNumbered}
 use Rattle.cp_conn.proofs.CutVertices.{kept_pair, avoided}
 use Rattle.cp_conn.proofs.NumberedClasses.{connected_by_number, number_of_connected}
 use Rattle.cp_rot.specs.Systems.{System, darts, vertex_of, list_of, IsRotation}

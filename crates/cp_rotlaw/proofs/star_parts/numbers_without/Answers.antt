@@ -1,9 +1,8 @@
-use Rattle.std.proofs.Common.{◌≡◌, ℕ, false, true, set, subst, subst₂, sym, ◌∙◌, ap, ap₂}
+use Rattle.std.proofs.Common.{ℕ, false, true, set, subst, subst₂, sym, ◌∙◌, ap, ap₂}
 use Rattle.std.specs.Prelude.{replicate}
 use Rattle.std.proofs.lemmas.Result.{IfOk-weaker}
 use Rattle.cp_base.specs.Graphs.{AreWithin}
 use Rattle.cp_orbits.specs.Connected.{Connected}
-use Rattle.cp_conn.specs.CutVertex.{without_vertex}
 use Rattle.cp_conn.specs.Numbering.{AreNumbered}
 use Rattle.cp_conn.specs.Removed.{without_removed}
 use Rattle.cp_conn.proofs.Removed.{one_removed}
