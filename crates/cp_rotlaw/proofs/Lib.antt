@@ -8,6 +8,7 @@ pub mod ListedPartners
 pub mod GluedDarts
 pub mod GluedTables
 pub mod GluedGenus
+mod PartPlaces
 pub mod StarCode
 pub mod StarSystems
 pub mod StarGenus

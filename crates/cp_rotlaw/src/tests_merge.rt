@@ -75,7 +75,11 @@ fn vertices_of_different_components_are_merged(rt: HostRuntime) {
         (path, 0, 3, path, None),
     ];
     for (start, d, f, want, faces) in rows {
-        assert_eq!(rt; faces_merged(alloc, start, d, f, want), Ok(faces), "{start:?}");
+        assert_eq!(rt;
+            faces_merged(alloc, start, d, f, want),
+            Ok(faces),
+            "{start:?}"
+        );
     }
 }
 
