@@ -96,7 +96,8 @@ module _ (p : ℕ → Bool) (key : ℕ → ℕ) (size n : ℕ) (places : List �
       (λ some. omega (
         arith,
         (first_is (parts - 1) (omega arith)).0,
-        rising-ge first parts (λ i j lt ltj. a.grouped.by_least i j lt (omega (arith, a.counted))) (parts - 1) (omega arith),
+        rising-ge first parts (λ i j lt ltj. a.grouped.by_least i j lt (omega (arith, a.counted))) (parts - 1)
+            (omega arith),
       ))
       (cases_eq parts 0)
 
@@ -187,6 +188,10 @@ module _ (p : ℕ → Bool) (key : ℕ → ℕ) (size n : ℕ) (places : List �
             let q = place_of_number g ltg tg in
             ⊎_elim
             (λ e. omega (arith, q.3, ap first e))
-            (λ ne. omega (arith, q.3, a.grouped.by_least i q.0 (omega (arith, q.1, above, ne)) (omega (arith, q.2, a.counted))))
+            (λ ne. omega (
+              arith,
+              q.3,
+              a.grouped.by_least i q.0 (omega (arith, q.1, above, ne)) (omega (arith, q.2, a.counted)),
+            ))
             (cases_eq i q.0),
       )

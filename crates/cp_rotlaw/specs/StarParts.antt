@@ -13,8 +13,8 @@ use Rattle.cp_rotlaw.specs.Stars.{IsDartOf, EnterOne, star_vertex}
 abbrev pub far_key : System → List ℕ → ℕ → ℕ
 far_key r numbers d = slice_index numbers (vertex_of r (twin d))
 
--- the numbers below n that pass are in so many parts as parts tells, of one key each, by their first items; places tells
--- for each of size keys one more than the number of its part, and 0 for a key that no such number has
+-- the numbers below n that pass are in so many parts as parts tells, of one key each, by their first items; places
+-- tells for each of size keys one more than the number of its part, and 0 for a key that no such number has
 pub record ArePlaced (p : ℕ → Bool) (key : ℕ → ℕ) (size n : ℕ) (places : List ℕ) (parts : ℕ) : Type 0 where
   pub rows : List (List ℕ)
   pub counted : length rows ≡ parts
