@@ -1,0 +1,11 @@
+mod Lists
+mod MovedVertices
+mod ThreeVertices
+mod MiddleVertices
+mod Steps
+mod StepOrders
+mod PutVertices
+mod Splits
+mod Stages
+mod FirstStages
+mod Triangle

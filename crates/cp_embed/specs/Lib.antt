@@ -1,0 +1,3 @@
+pub mod Arrangements
+pub mod Steps
+pub mod Stages
