@@ -1,4 +1,5 @@
 mod Lists
+mod DartLists
 mod MovedVertices
 mod ThreeVertices
 mod MiddleVertices

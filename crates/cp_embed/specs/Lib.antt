@@ -1,3 +1,6 @@
 pub mod Arrangements
+pub mod Directions
 pub mod Steps
 pub mod Stages
+pub mod Sweeps
+pub mod Pairs

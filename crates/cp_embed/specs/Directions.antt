@@ -1,0 +1,14 @@
+-- Lists that are kept in either direction.
+use Rattle.std.specs.Prelude.{ℕ, Bool, true, false, Option, Some, None, List}
+use Rattle.std.proofs.Common.{reverse}
+use Rattle.cp_lists.specs.Turns.{IsTurn}
+
+-- the list in the direction of a bit
+abbrev pub directed : Bool → List ℕ → List ℕ
+directed false xs = xs
+directed true xs = reverse xs
+
+-- the cyclic list row is the given list in the direction of the bit, up to a turn; where none is given, each list is right
+abbrev pub KeepsDirection : Option (List ℕ) → Bool → List ℕ → Type 0
+KeepsDirection None bit row = Unit {0}
+KeepsDirection (Some list) bit row = IsTurn (directed bit list) row
