@@ -8,5 +8,7 @@ mod StepOrders
 mod PutVertices
 mod Splits
 mod Stages
+mod Arrangements
 mod FirstStages
+mod Sweeps
 mod Triangle

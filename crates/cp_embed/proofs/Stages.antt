@@ -1,6 +1,6 @@
 -- The stages of an embedding, with all that the lists of the prefix may be.
 use Rattle.std.proofs.Common.{◌≡◌, ℕ, ◌*◌, ◌⊎◌, ◌↔◌, List, [], ◌∷◌, ◌++◌, append_assoc, append-nil, sym, refl, ap, ◌∙◌, subst, inl, inr, ⊎_elim}
-use Rattle.cp_lists.specs.CyclicLists.{Distinct, Has}
+use Rattle.cp_lists.specs.CyclicLists.{Distinct, Has, Lacks}
 use Rattle.cp_lists.specs.Rows.{flat}
 use Rattle.cp_lists.specs.Turns.{IsTurn}
 use Rattle.cp_lists.proofs.DistinctLists.{Distinct-apart, Distinct-append, Distinct-append_left, Has-append_cases, Has-append_left, Has-append_right, Lacks-from, has_lacks}
@@ -65,19 +65,28 @@ module _ (e : ℕ) (r i o : ℕ) (ins outs all w : List ℕ) (may : List ℕ →
         ),
   )
 
-  -- and the prefix with the vertex is connected
-  pub IsPrefix-more : IsPrefix (all ++ (ins ++ outs)) (HasVertexMore may good (ins ++ outs))
-  IsPrefix-more = record {
-    grows = λ zs more s. subst (Grows zs) (sym s.2)
-        (grows_more zs s.0 s.1 (twin i) (pre.grows zs s.0 s.3) (((pre.darts zs s.0 s.3).items (twin i)).1 (of_ins i one)) (subst (λ y. Has y s.1) (sym (twin-twin i)) ((s.4.items i).1 (Has-append_left i ins outs one))));
-    darts = λ zs more s.
-        let a : IsArrangementOf (zs ++ flat s.0) all = pre.darts zs s.0 s.3 in
-        let whole : (zs ++ flat s.0) ++ s.1 ≡ zs ++ flat more = append_assoc zs (flat s.0) s.1 ∙ ap (λ us. zs ++ (flat s.0 ++ us)) (sym (append-nil s.1)) ∙ ap (λ us. zs ++ us) (sym (flat-append s.0 (s.1 ∷ []))) ∙ ap (λ gs. zs ++ flat gs) (sym s.2) in
-        subst (λ us. IsArrangementOf us (all ++ (ins ++ outs))) whole (record {
-          distinct = Distinct-append (zs ++ flat s.0) s.1 a.distinct s.4.distinct (λ d h. Lacks-from d s.1 (λ k. has_lacks d all ((a.items d).0 h) (Distinct-apart d outside all dis (Has-append_left d (ins ++ outs) (r ∷ w) ((s.4.items d).0 k)))));
-          items = λ d. (
-            λ k. ⊎_elim (λ l. Has-append_left d all (ins ++ outs) ((a.items d).0 l)) (λ l. Has-append_right d all (ins ++ outs) ((s.4.items d).0 l)) (Has-append_cases d (zs ++ flat s.0) s.1 k),
-            λ k. ⊎_elim (λ l. Has-append_left d (zs ++ flat s.0) s.1 ((a.items d).1 l)) (λ l. Has-append_right d (zs ++ flat s.0) s.1 ((s.4.items d).1 l)) (Has-append_cases d all (ins ++ outs) k),
-          );
-        });
-  }
+-- and a prefix with a vertex more is connected
+pub IsPrefix-more : (i : ℕ) (items all : List ℕ) (may : List ℕ → List (List ℕ) → Type 0) (good : List ℕ → Type 0)
+    → IsPrefix all may → Has i items → Has (twin i) all → ((d : ℕ) → Has d all → Lacks d items)
+    → IsPrefix (all ++ items) (HasVertexMore may good items)
+IsPrefix-more i items all may good pre one joined apart = record {
+  grows = λ zs more s. subst (Grows zs) (sym s.2)
+      (grows_more zs s.0 s.1 (twin i) (pre.grows zs s.0 s.3) (((pre.darts zs s.0 s.3).items (twin i)).1 joined)
+      (subst (λ y. Has y s.1) (sym (twin-twin i)) ((s.4.items i).1 one)));
+  darts = λ zs more s.
+      let a : IsArrangementOf (zs ++ flat s.0) all = pre.darts zs s.0 s.3 in
+      let whole : (zs ++ flat s.0) ++ s.1 ≡ zs ++ flat more =
+      append_assoc zs (flat s.0) s.1 ∙ ap (λ us. zs ++ (flat s.0 ++ us)) (sym (append-nil s.1))
+      ∙ ap (λ us. zs ++ us) (sym (flat-append s.0 (s.1 ∷ []))) ∙ ap (λ gs. zs ++ flat gs) (sym s.2)
+      in
+      subst (λ us. IsArrangementOf us (all ++ items)) whole (record {
+        distinct = Distinct-append (zs ++ flat s.0) s.1 a.distinct s.4.distinct
+            (λ d h. Lacks-from d s.1 (λ k. has_lacks d items ((s.4.items d).0 k) (apart d ((a.items d).0 h))));
+        items = λ d. (
+          λ k. ⊎_elim (λ l. Has-append_left d all items ((a.items d).0 l)) (λ l. Has-append_right d all items ((s.4.items d).0 l))
+              (Has-append_cases d (zs ++ flat s.0) s.1 k),
+          λ k. ⊎_elim (λ l. Has-append_left d (zs ++ flat s.0) s.1 ((a.items d).1 l))
+              (λ l. Has-append_right d (zs ++ flat s.0) s.1 ((s.4.items d).1 l)) (Has-append_cases d all items k),
+        );
+      });
+}
