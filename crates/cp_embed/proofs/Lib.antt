@@ -11,4 +11,6 @@ mod Stages
 mod Arrangements
 mod FirstStages
 mod Sweeps
+mod Directions
+mod StagePairs
 mod Triangle

@@ -1,5 +1,6 @@
 -- Sets of pairs of a word of edges and bits, and what the calls on an order tree make of them (Booth, Lueker 1976).
 use Rattle.std.specs.Prelude.{◌≡◌, ℕ, Bool, List, ◌++◌, ◌↔◌}
+use Rattle.std.proofs.Common.{reverse}
 use Rattle.cp_embed.specs.Arrangements.{IsArrangementOf}
 use Rattle.cp_embed.specs.Directions.{directed}
 
@@ -44,3 +45,16 @@ pub record IsRunExchanged (row new : List ℕ) (v : ℕ) (pairs : Pairs) (word :
 -- both sets have the same pairs
 abbrev pub SamePairs : Pairs → Pairs → Type 0
 SamePairs pairs others = (word : List ℕ) (bit : ℕ → Bool) → pairs word bit ↔ others word bit
+
+-- a word behind a step of a sweep: in a word before, a run us of the edges of ins is exchanged for the reverse of a row of
+-- the edges of outs, and the two are the list of the vertex that is taken
+pub record IsStepWord (ins outs : List ℕ) (kept before : List ℕ → Type 0) (word : List ℕ) : Type 0 where
+  pub us : List ℕ
+  pub vs : List ℕ
+  pub front : List ℕ
+  pub behind : List ℕ
+  pub us_is : IsArrangementOf us ins
+  pub vs_is : IsArrangementOf vs outs
+  pub list_kept : kept (us ++ vs)
+  pub word_is : word ≡ front ++ (reverse vs ++ behind)
+  pub taken_from : before (front ++ (us ++ behind))
