@@ -13,4 +13,6 @@ mod FirstStages
 mod Sweeps
 mod Directions
 mod StagePairs
+mod DirectedSplits
+mod PairSteps
 mod Triangle

@@ -4,3 +4,4 @@ pub mod Steps
 pub mod Stages
 pub mod Sweeps
 pub mod Pairs
+pub mod Splits
