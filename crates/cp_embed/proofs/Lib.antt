@@ -15,4 +15,5 @@ mod Directions
 mod StagePairs
 mod DirectedSplits
 mod PairSteps
+mod VertexLists
 mod Triangle

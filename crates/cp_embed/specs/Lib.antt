@@ -5,3 +5,4 @@ pub mod Stages
 pub mod Sweeps
 pub mod Pairs
 pub mod Splits
+pub mod Realisations
