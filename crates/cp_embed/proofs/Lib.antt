@@ -16,4 +16,6 @@ mod StagePairs
 mod DirectedSplits
 mod PairSteps
 mod VertexLists
+mod LastStages
+mod RealisedOrders
 mod Triangle
