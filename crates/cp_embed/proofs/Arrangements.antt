@@ -1,5 +1,5 @@
 -- Arrangements under a map, in reverse, and with one run exchanged for another.
-use Rattle.std.proofs.Common.{◌≡◌, ℕ, ◌⊎◌, ◌↔◌, List, [], ◌∷◌, ◌++◌, map, reverse, drop, append_assoc, sym, refl, ap, ap₂, ◌∙◌, subst, inl, inr, ⊎_elim}
+use Rattle.std.proofs.Common.{◌≡◌, ℕ, ◌⊎◌, ◌↔◌, List, [], ◌∷◌, ◌++◌, map, reverse, drop, append-nil, sym, refl, ap, ap₂, ◌∙◌, subst, inl, inr, ⊎_elim}
 use Rattle.cp_lists.specs.CyclicLists.{Has, Lacks, Distinct, head_or}
 use Rattle.cp_lists.proofs.DistinctLists.{has_lacks, Lacks-from, Has-append_left, Has-append_right, Has-append_cases, Distinct-append, Distinct-append_left, Distinct-append_right, Distinct-apart}
 use Rattle.cp_lists.proofs.MappedLists.{Has-map_on, map_on-Has, Distinct-map_on}
@@ -123,3 +123,22 @@ exchanged_run P Q fs us ms bs dis_ms new_in new_out gone stay back dis all = (
 
     of_bs : (d : ℕ) → Has d bs → Has d (fs ++ (us ++ bs))
     of_bs d h = Has-append_right d fs (us ++ bs) (Has-append_right d us bs h)
+
+-- a list without items is empty
+empty_list : (xs : List ℕ) → ((d : ℕ) → Has d xs → ⊥) → xs ≡ []
+empty_list [] none = refl
+empty_list (x ∷ xs) none = absurd (none x (inl refl))
+
+-- a run that has all items of an arrangement is the whole of it
+pub whole_run : (front run behind items : List ℕ) → IsArrangementOf (front ++ (run ++ behind)) items → IsArrangementOf run items
+    → front ++ (run ++ behind) ≡ run
+whole_run front run behind items a b =
+    let rest : Distinct (run ++ behind) = Distinct-append_right front (run ++ behind) a.distinct in
+    ap₂ (λ us vs. us ++ (run ++ vs))
+    (empty_list front (λ d h. has_lacks d (run ++ behind)
+    (Has-append_left d run behind ((b.items d).1 ((a.items d).0 (Has-append_left d front (run ++ behind) h))))
+    (Distinct-apart d front (run ++ behind) a.distinct h)))
+    (empty_list behind (λ d h. has_lacks d behind h
+    (Distinct-apart d run behind rest
+    ((b.items d).1 ((a.items d).0 (Has-append_right d front (run ++ behind) (Has-append_right d run behind h)))))))
+    ∙ append-nil run

@@ -9,8 +9,10 @@ use Rattle.cp_lists.proofs.TurnedLists.{turn-trans}
 use Rattle.cp_faces.specs.Twins.{twin}
 use Rattle.cp_faces.proofs.Twins.{half_twin}
 use Rattle.cp_maps.specs.Mirrors.{mirror}
+use Rattle.cp_embed.specs.Arrangements.{IsArrangementOf}
 use Rattle.cp_embed.specs.Directions.{directed, KeepsDirection}
 use Rattle.cp_embed.specs.Sweeps.{edge_of}
+use Rattle.cp_embed.proofs.Arrangements.{IsArrangementOf-reverse}
 
 -- a list that is kept is kept by each turn
 pub KeepsDirection-turn : (list : Option (List ℕ)) (bit : Bool) (us vs : List ℕ) → IsTurn us vs → KeepsDirection list bit us
@@ -19,7 +21,7 @@ KeepsDirection-turn None bit us vs turn kept = tt
 KeepsDirection-turn (Some list) bit us vs turn kept = turn-trans (directed bit list) us vs kept turn
 
 -- the edges of the twins are those of the darts
-map_twin : (xs : List ℕ) → map edge_of (map twin xs) ≡ map edge_of xs
+pub map_twin : (xs : List ℕ) → map edge_of (map twin xs) ≡ map edge_of xs
 map_twin [] = refl
 map_twin (x ∷ xs) = ap₂ (λ y ys. y ∷ ys) (half_twin x) (map_twin xs)
 
@@ -41,3 +43,8 @@ directed-reverse true xs = refl
 pub Distinct-directed : (bit : Bool) (xs : List ℕ) → Distinct xs → Distinct (directed bit xs)
 Distinct-directed false xs dis = dis
 Distinct-directed true xs dis = Distinct-reverse xs dis
+
+-- an arrangement in a direction
+pub IsArrangementOf-directed : (bit : Bool) (xs ys : List ℕ) → IsArrangementOf xs ys → IsArrangementOf (directed bit xs) ys
+IsArrangementOf-directed false xs ys a = a
+IsArrangementOf-directed true xs ys a = IsArrangementOf-reverse xs ys a

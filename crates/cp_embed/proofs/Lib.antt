@@ -15,6 +15,7 @@ mod Directions
 mod StagePairs
 mod DirectedSplits
 mod PairSteps
+mod FirstPairs
 mod VertexLists
 mod LastStages
 mod RealisedOrders
