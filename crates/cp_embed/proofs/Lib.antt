@@ -19,4 +19,5 @@ mod FirstPairs
 mod VertexLists
 mod LastStages
 mod RealisedOrders
+mod BipolarSweeps
 mod Triangle
