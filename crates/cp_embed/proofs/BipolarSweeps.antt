@@ -15,11 +15,13 @@ use Rattle.cp_conn.specs.Darts.{start, finish}
 use Rattle.cp_conn.proofs.BlockSteps.{start_twin}
 use Rattle.cp_conn.proofs.DartChains.{start_even, start_odd, finish_even, finish_odd, start_within, dart_of}
 use Rattle.cp_ears.specs.Bipolar.{AreAdjacent, IsBipolar}
+use Rattle.cp_embed.specs.Directions.{KeepsDirection}
 use Rattle.cp_embed.specs.Realisations.{IsRealised, edges_round}
 use Rattle.cp_embed.specs.Sweeps.{edge_of, ins_of, outs_of, IsStagePair, IsNext, IsSweep}
 use Rattle.cp_embed.proofs.DartLists.{ins_of-Has, outs_of-Has}
 use Rattle.cp_embed.proofs.LastStages.{AreDrawn, IsStagePair-AreDrawn}
 use Rattle.cp_embed.proofs.RealisedOrders.{AreDrawn-IsRealised}
+use Rattle.cp_embed.proofs.StagePairs.{IsStagePair-step}
 
 -- one item more of a list
 take_more : (xs : List ℕ) (k : ℕ) → k < length xs → take (suc k) xs ≡ take k xs ++ slice_index xs k ∷ []
@@ -207,6 +209,34 @@ module _ (g : PlainGraph) (within : AreWithin g.vertices g.ends) (none : HaveNoL
       let two = AreDrawn-IsRealised g psi t lt_t (edge_of r ∷ word) bit in
       ((λ p. two.0 (one.0 p)), (λ z. one.1 (two.1 z)))
 
+  -- where a stage has no pair, the next one has none
+  none_next : (psi : ℕ → Option (List ℕ)) (bit : ℕ → Bool) (taken : List ℕ) (x : ℕ) → IsSweep at e r (x ∷ taken) → (taken ≡ [] → ⊥)
+      → ((word : List ℕ) → IsStagePair at e psi r taken word bit → ⊥) → (word : List ℕ)
+      → IsStagePair at e psi r (x ∷ taken) word bit → ⊥
+  none_next psi bit [] x sweep some none_here word p = some refl
+  none_next psi bit (y ∷ taken) x sweep some none_here word p =
+      let w = (IsStagePair-step at e r psi darts_differ x y taken sweep word bit).0 p in
+      none_here (w.front ++ (w.us ++ w.behind)) w.taken_from
+
+  -- the stage up to a place has a vertex
+  upto_some : (k : ℕ) → k < length order → upto (suc k) ≡ [] → ⊥
+  upto_some k lt same = absurd (subst (Has (slice_index order k)) (sym (upto_more k lt) ∙ same) (inl refl))
+
+  -- where the stage up to a place has no pair with some bits, no order is realised with them
+  pub none_later : (psi : ℕ → Option (List ℕ)) (bit : ℕ → Bool) (m k : ℕ) → suc (k + m) + 1 ≡ length order
+      → ((word : List ℕ) → IsStagePair at e psi r (upto (suc k)) word bit → ⊥) → (word : List ℕ)
+      → IsRealised g psi t (edge_of r ∷ word) bit → ⊥
+  none_later psi bit zero k place none_here word z =
+      let same : suc k ≡ length order - 1 = omega (arith, place) in
+      none_here word (subst (λ i. IsStagePair at e psi r (upto i) word bit) (sym same) ((last_stage-IsRealised psi word bit).1 z))
+  none_later psi bit (suc m) k place none_here word z =
+      none_later psi bit m (suc k) (omega (arith, place))
+      (λ v p. none_next psi bit (upto (suc k)) (slice_index order (suc k))
+      (subst (IsSweep at e r) (upto_more (suc k) (omega (arith, place))) (bipolar-IsSweep (suc k) (omega (arith, place))))
+      (upto_some k (omega (arith, place))) none_here v
+      (subst (λ us. IsStagePair at e psi r us v bit) (upto_more (suc k) (omega (arith, place))) p))
+      word z
+
 -- a cyclic order is realised with each of its turns
 pub IsRealised-turn : (g : PlainGraph) (psi : ℕ → Option (List ℕ)) (t : ℕ) (order turned : List ℕ) (bit : ℕ → Bool)
     → IsTurn order turned → IsRealised g psi t order bit → IsRealised g psi t turned bit
@@ -217,5 +247,18 @@ IsRealised-turn g psi t order turned bit turn z = (
     plane = z.1.plane;
     order_is = turn-trans turned order (edges_round z.0 t) (turn-sym order turned turn) z.1.order_is;
     lists_kept = z.1.lists_kept;
+  },
+)
+
+-- what is realised with some bits is so with others that agree on all vertices but t
+pub IsRealised-bits : (g : PlainGraph) (psi : ℕ → Option (List ℕ)) (t : ℕ) (order : List ℕ) (bit other : ℕ → Bool)
+    → ((v : ℕ) → v < g.vertices → v ≢ t → bit v ≡ other v) → IsRealised g psi t order bit → IsRealised g psi t order other
+IsRealised-bits g psi t order bit other same z = (
+  z.0,
+  record {
+    of_graph = z.1.of_graph;
+    plane = z.1.plane;
+    order_is = z.1.order_is;
+    lists_kept = λ v lt nt. subst (λ b. KeepsDirection (psi v) b (edges_round z.0 v)) (same v lt nt) (z.1.lists_kept v lt nt);
   },
 )

@@ -20,4 +20,5 @@ mod VertexLists
 mod LastStages
 mod RealisedOrders
 mod BipolarSweeps
+mod Unwinding
 mod Triangle
