@@ -1,6 +1,6 @@
 -- Arrangements under a map, in reverse, and with one run exchanged for another.
 use Rattle.std.proofs.Common.{◌≡◌, ℕ, ◌⊎◌, ◌↔◌, List, [], ◌∷◌, ◌++◌, map, reverse, drop, append-nil, sym, refl, ap, ap₂, ◌∙◌, subst, inl, inr, ⊎_elim}
-use Rattle.cp_lists.specs.CyclicLists.{Has, Lacks, Distinct, head_or}
+use Rattle.cp_lists.specs.CyclicLists.{Has, Distinct, head_or}
 use Rattle.cp_lists.proofs.DistinctLists.{has_lacks, Lacks-from, Has-append_left, Has-append_right, Has-append_cases, Distinct-append, Distinct-append_left, Distinct-append_right, Distinct-apart}
 use Rattle.cp_lists.proofs.MappedLists.{Has-map_on, map_on-Has, Distinct-map_on}
 use Rattle.cp_lists.proofs.ReversedLists.{Has-reverse, reverse-Has, Distinct-reverse}
@@ -56,8 +56,10 @@ module _ (f : ℕ → ℕ) (items : List ℕ) where
   IsArrangementOf-map xs apart a = record {
     distinct = Distinct-map_on f xs (λ c d hc hd e. apart c d ((a.items c).0 hc) ((a.items d).0 hd) e) a.distinct;
     items = λ k. (
-      λ h. let c = map_on-Has f k xs h in subst (λ y. Has y (map f items)) c.2 (Has-map_on f c.0 items ((a.items c.0).0 c.1)),
-      λ h. let c = map_on-Has f k items h in subst (λ y. Has y (map f xs)) c.2 (Has-map_on f c.0 xs ((a.items c.0).1 c.1)),
+      λ h. let c = map_on-Has f k xs h in subst (λ y. Has y (map f items)) c.2
+          (Has-map_on f c.0 items ((a.items c.0).0 c.1)),
+      λ h. let c = map_on-Has f k items h in subst (λ y. Has y (map f xs)) c.2
+          (Has-map_on f c.0 xs ((a.items c.0).1 c.1)),
     );
   }
 
@@ -78,11 +80,15 @@ module _ (f : ℕ → ℕ) (items : List ℕ) where
   pub arrangement_unmapped : (ws : List ℕ) → ((c d : ℕ) → Has c items → Has d items → f c ≡ f d → c ≡ d)
       → IsArrangementOf ws (map f items) → (xs : List ℕ) × (map f xs ≡ ws) × IsArrangementOf xs items
   arrangement_unmapped ws apart a =
-      let r = map_chosen f items ws (λ k h. (a.items k).0 h) in
-      (r.0, r.1, IsArrangementOf-unmap r.0 (λ c d hc hd e. apart c d hc (r.2 d hd) e)
-      (subst (λ us. IsArrangementOf us (map f items)) (sym r.1) a))
+      let r = map_chosen f items ws (λ k h. (a.items k).0 h) in (
+        r.0,
+        r.1,
+        IsArrangementOf-unmap r.0 (λ c d hc hd e. apart c d hc (r.2 d hd) e)
+            (subst (λ us. IsArrangementOf us (map f items)) (sym r.1) a),
+      )
 
--- a list that has exactly the items with P, with a run exchanged: where what goes has not Q, what comes has Q and not P, and
+-- a list that has exactly the items with P, with a run exchanged: where what goes has not Q, what comes has Q and not
+-- P, and
 -- all others have both or none, it then has exactly the items with Q
 pub exchanged_run : (P Q : ℕ → Type 0) (fs us ms bs : List ℕ) → Distinct ms → ((d : ℕ) → Has d ms → Q d)
     → ((d : ℕ) → Has d ms → P d → ⊥) → ((d : ℕ) → Has d us → Q d → ⊥) → ((d : ℕ) → P d → Has d us ⊎ Q d)
@@ -98,10 +104,12 @@ exchanged_run P Q fs us ms bs dis_ms new_in new_out gone stay back dis all = (
       (Has-append_cases d ms bs k))),
   λ d. (
     λ h. ⊎_elim
-        (λ k. ⊎_elim (λ u. absurd (has_lacks d (us ++ bs) (Has-append_left d us bs u) (Distinct-apart d fs (us ++ bs) dis k))) (λ q. q)
+        (λ k. ⊎_elim (λ u. absurd (has_lacks d (us ++ bs) (Has-append_left d us bs u)
+        (Distinct-apart d fs (us ++ bs) dis k))) (λ q. q)
         (stay d ((all d).0 (of_fs d k))))
         (λ k. ⊎_elim (λ m. new_in d m)
-        (λ b. ⊎_elim (λ u. absurd (has_lacks d bs b (Distinct-apart d us bs rest u))) (λ q. q) (stay d ((all d).0 (of_bs d b))))
+        (λ b. ⊎_elim (λ u. absurd (has_lacks d bs b (Distinct-apart d us bs rest u))) (λ q. q)
+        (stay d ((all d).0 (of_bs d b))))
         (Has-append_cases d ms bs k))
         (Has-append_cases d fs (ms ++ bs) h),
     λ q. ⊎_elim
@@ -130,7 +138,8 @@ empty_list [] none = refl
 empty_list (x ∷ xs) none = absurd (none x (inl refl))
 
 -- a run that has all items of an arrangement is the whole of it
-pub whole_run : (front run behind items : List ℕ) → IsArrangementOf (front ++ (run ++ behind)) items → IsArrangementOf run items
+pub whole_run : (front run behind items : List ℕ) → IsArrangementOf (front ++ (run ++ behind)) items
+    → IsArrangementOf run items
     → front ++ (run ++ behind) ≡ run
 whole_run front run behind items a b =
     let rest : Distinct (run ++ behind) = Distinct-append_right front (run ++ behind) a.distinct in

@@ -1,25 +1,24 @@
 -- A bipolar order is a sweep: up to each of its vertices but the last, and up to that one all others are taken.
-use Rattle.std.proofs.Common.{◌≡◌, ◌≢◌, ℕ, zero, suc, ◌+◌, ◌-◌, ◌*◌, ◌/◌, ◌%◌, ◌<◌, ◌≤◌, ◌⊎◌, ◌↔◌, Bool, true, Option, List, [], ◌∷◌, ◌++◌, length, slice_index, slice_index_or, take, drop, reverse, take-append-drop, sym, refl, ap, ◌∙◌, subst, inl, inr, ⊎_elim, arith}
+use Rattle.std.proofs.Common.{◌≡◌, ◌≢◌, ℕ, zero, suc, ◌+◌, ◌-◌, ◌*◌, ◌/◌, ◌%◌, ◌<◌, ◌≤◌, ◌↔◌, Bool, true, Option, List, [], ◌∷◌, ◌++◌, length, slice_index, take, drop, reverse, take-append-drop, sym, refl, ap, ◌∙◌, subst, inl, inr, ⊎_elim, arith}
 use Rattle.std.proofs.lemmas.Bool.{cases_eq}
 use Rattle.std.proofs.lemmas.List.{reverse-append}
 use Rattle.cp_lists.specs.CyclicLists.{Has, Lacks, Distinct}
 use Rattle.cp_lists.specs.Turns.{IsTurn}
-use Rattle.cp_lists.proofs.DistinctLists.{has_lacks, Lacks-from, Has_at, Has-append_left, Has-append_right, Has-append_cases, Distinct-apart, Exactly-Distinct, Exactly-Has}
+use Rattle.cp_lists.proofs.DistinctLists.{has_lacks, Lacks-from, Has_at, Has-append_left, Has-append_cases, Distinct-apart, Exactly-Distinct, Exactly-Has}
 use Rattle.cp_lists.proofs.ReversedLists.{Has-reverse, reverse-Has}
 use Rattle.cp_lists.proofs.TurnedLists.{turn-sym, turn-trans}
 use Rattle.cp_faces.specs.Twins.{twin}
-use Rattle.cp_faces.proofs.Twins.{twin-below}
 use Rattle.cp_base.specs.Graphs.{PlainGraph, AreWithin}
 use Rattle.cp_conn.specs.Blocks.{HaveNoLoop}
-use Rattle.cp_conn.specs.Darts.{start, finish}
+use Rattle.cp_conn.specs.Darts.{start}
 use Rattle.cp_conn.proofs.BlockSteps.{start_twin}
 use Rattle.cp_conn.proofs.DartChains.{start_even, start_odd, finish_even, finish_odd, start_within, dart_of}
 use Rattle.cp_ears.specs.Bipolar.{AreAdjacent, IsBipolar}
-use Rattle.cp_embed.specs.Directions.{KeepsDirection}
+use Rattle.cp_embed.specs.Directions.{KeepsDirection, edge_of}
 use Rattle.cp_embed.specs.Realisations.{IsRealised, edges_round}
-use Rattle.cp_embed.specs.Sweeps.{edge_of, ins_of, outs_of, IsStagePair, IsNext, IsSweep}
+use Rattle.cp_embed.specs.Sweeps.{IsStagePair, IsNext, IsSweep}
 use Rattle.cp_embed.proofs.DartLists.{ins_of-Has, outs_of-Has}
-use Rattle.cp_embed.proofs.LastStages.{AreDrawn, IsStagePair-AreDrawn}
+use Rattle.cp_embed.proofs.LastStages.{IsStagePair-AreDrawn}
 use Rattle.cp_embed.proofs.RealisedOrders.{AreDrawn-IsRealised}
 use Rattle.cp_embed.proofs.StagePairs.{IsStagePair-step}
 
@@ -123,7 +122,8 @@ module _ (g : PlainGraph) (within : AreWithin g.vertices g.ends) (none : HaveNoL
             down.1,
             down.2,
             subst (λ v. Has v (upto k)) (sym down.3)
-                (Has-reverse (slice_index order lower.0) (take k order) (Has-take order lower.0 k lower.1 (omega (arith, lower.1)))),
+                (Has-reverse (slice_index order lower.0) (take k order)
+                (Has-take order lower.0 k lower.1 (omega (arith, lower.1)))),
           ),
         );
         leaves = (
@@ -140,7 +140,8 @@ module _ (g : PlainGraph) (within : AreWithin g.vertices g.ends) (none : HaveNoL
 
   -- the vertices up to the next place
   upto_more : (k : ℕ) → k < length order → upto (suc k) ≡ slice_index order k ∷ upto k
-  upto_more k lt = ap (λ xs. reverse xs) (take_more order k lt) ∙ reverse-append (take k order) (slice_index order k ∷ [])
+  upto_more k lt = ap (λ xs. reverse xs) (take_more order k lt)
+      ∙ reverse-append (take k order) (slice_index order k ∷ [])
 
   -- up to each place but the last the order is a sweep
   pub bipolar-IsSweep : (k : ℕ) → suc k < length order → IsSweep at e r (upto (suc k))
@@ -157,7 +158,8 @@ module _ (g : PlainGraph) (within : AreWithin g.vertices g.ends) (none : HaveNoL
   order_long = at_least (length order) refl
     where
       at_least : (m : ℕ) → length order ≡ m → 1 < length order
-      at_least zero same = absurd (none_of order same (at r) ((order_all (at r)).1 (start_within g.vertices g.ends r within lt_r)))
+      at_least zero same = absurd (none_of order same (at r)
+          ((order_all (at r)).1 (start_within g.vertices g.ends r within lt_r)))
         where
           none_of : (xs : List ℕ) → length xs ≡ 0 → (v : ℕ) → Has v xs → ⊥
           none_of [] z v h = h
@@ -187,7 +189,8 @@ module _ (g : PlainGraph) (within : AreWithin g.vertices g.ends) (none : HaveNoL
       sym (take_whole order) ∙ ap (λ k. take k order) (sym suc_m) ∙ take_more order m (omega (arith, order_long))
       in (
         λ h. (
-          (order_all v).0 (subst (Has v) (sym whole) (Has-append_left v (take m order) (slice_index order m ∷ []) (reverse-Has v (take m order) h))),
+          (order_all v).0 (subst (Has v) (sym whole)
+              (Has-append_left v (take m order) (slice_index order m ∷ []) (reverse-Has v (take m order) h))),
           λ same. parted m v h (subst (λ u. Has u (drop m order)) (bipolar.last ∙ sym same)
               (Has-drop order m m (omega arith) (omega (arith, order_long)))),
         ),
@@ -197,20 +200,23 @@ module _ (g : PlainGraph) (within : AreWithin g.vertices g.ends) (none : HaveNoL
             (Has-append_cases v (take m order) (slice_index order m ∷ []) (subst (Has v) whole ((order_all v).1 w.0))),
       )
 
-  -- the pairs of the last stage are the cyclic orders of the edges of t, written from the edge of r on, that are realised
+  -- the pairs of the last stage are the cyclic orders of the edges of t, written from the edge of r on, that are
+  -- realised
   -- with the bits
   pub last_stage-IsRealised : (psi : ℕ → Option (List ℕ)) (word : List ℕ) (bit : ℕ → Bool)
       → IsStagePair at e psi r last_taken word bit ↔ IsRealised g psi t (edge_of r ∷ word) bit
   last_stage-IsRealised psi word bit =
       let lt_t : t < g.vertices = subst (λ v. v < g.vertices) at_t (start_within g.vertices g.ends r within lt_r) in
-      let one = IsStagePair-AreDrawn g.vertices e at r t psi (λ d lt. start_within g.vertices g.ends d within lt) darts_differ
+      let one = IsStagePair-AreDrawn g.vertices e at r t psi (λ d lt. start_within g.vertices g.ends d within lt)
+      darts_differ
       lt_r at_t last_taken last-IsSweep last_taken-Has word bit
       in
       let two = AreDrawn-IsRealised g psi t lt_t (edge_of r ∷ word) bit in
       ((λ p. two.0 (one.0 p)), (λ z. one.1 (two.1 z)))
 
   -- where a stage has no pair, the next one has none
-  none_next : (psi : ℕ → Option (List ℕ)) (bit : ℕ → Bool) (taken : List ℕ) (x : ℕ) → IsSweep at e r (x ∷ taken) → (taken ≡ [] → ⊥)
+  none_next : (psi : ℕ → Option (List ℕ)) (bit : ℕ → Bool) (taken : List ℕ) (x : ℕ) → IsSweep at e r (x ∷ taken)
+      → (taken ≡ [] → ⊥)
       → ((word : List ℕ) → IsStagePair at e psi r taken word bit → ⊥) → (word : List ℕ)
       → IsStagePair at e psi r (x ∷ taken) word bit → ⊥
   none_next psi bit [] x sweep some none_here word p = some refl
@@ -228,11 +234,13 @@ module _ (g : PlainGraph) (within : AreWithin g.vertices g.ends) (none : HaveNoL
       → IsRealised g psi t (edge_of r ∷ word) bit → ⊥
   none_later psi bit zero k place none_here word z =
       let same : suc k ≡ length order - 1 = omega (arith, place) in
-      none_here word (subst (λ i. IsStagePair at e psi r (upto i) word bit) (sym same) ((last_stage-IsRealised psi word bit).1 z))
+      none_here word (subst (λ i. IsStagePair at e psi r (upto i) word bit) (sym same)
+      ((last_stage-IsRealised psi word bit).1 z))
   none_later psi bit (suc m) k place none_here word z =
       none_later psi bit m (suc k) (omega (arith, place))
       (λ v p. none_next psi bit (upto (suc k)) (slice_index order (suc k))
-      (subst (IsSweep at e r) (upto_more (suc k) (omega (arith, place))) (bipolar-IsSweep (suc k) (omega (arith, place))))
+      (subst (IsSweep at e r) (upto_more (suc k) (omega (arith, place)))
+      (bipolar-IsSweep (suc k) (omega (arith, place))))
       (upto_some k (omega (arith, place))) none_here v
       (subst (λ us. IsStagePair at e psi r us v bit) (upto_more (suc k) (omega (arith, place))) p))
       word z
@@ -252,13 +260,15 @@ IsRealised-turn g psi t order turned bit turn z = (
 
 -- what is realised with some bits is so with others that agree on all vertices but t
 pub IsRealised-bits : (g : PlainGraph) (psi : ℕ → Option (List ℕ)) (t : ℕ) (order : List ℕ) (bit other : ℕ → Bool)
-    → ((v : ℕ) → v < g.vertices → v ≢ t → bit v ≡ other v) → IsRealised g psi t order bit → IsRealised g psi t order other
+    → ((v : ℕ) → v < g.vertices → v ≢ t → bit v ≡ other v) → IsRealised g psi t order bit
+    → IsRealised g psi t order other
 IsRealised-bits g psi t order bit other same z = (
   z.0,
   record {
     of_graph = z.1.of_graph;
     plane = z.1.plane;
     order_is = z.1.order_is;
-    lists_kept = λ v lt nt. subst (λ b. KeepsDirection (psi v) b (edges_round z.0 v)) (same v lt nt) (z.1.lists_kept v lt nt);
+    lists_kept = λ v lt nt. subst (λ b. KeepsDirection (psi v) b (edges_round z.0 v)) (same v lt nt)
+        (z.1.lists_kept v lt nt);
   },
 )

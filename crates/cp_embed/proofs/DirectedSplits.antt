@@ -1,9 +1,8 @@
 -- Splits of a given list in either direction.
-use Rattle.std.proofs.Common.{◌≡◌, ℕ, ◌↔◌, Bool, true, false, List, [], ◌∷◌, ◌++◌, reverse, sym, refl, ap, ap₂, ◌∙◌, subst}
+use Rattle.std.proofs.Common.{◌≡◌, ℕ, ◌↔◌, Bool, true, false, List, ◌++◌, reverse, subst}
 use Rattle.std.proofs.lemmas.List.{reverse-append, reverse-reverse}
 use Rattle.cp_lists.specs.CyclicLists.{Has, Distinct}
 use Rattle.cp_lists.specs.Turns.{IsTurn}
-use Rattle.cp_lists.proofs.ReversedLists.{Has-reverse, Distinct-reverse}
 use Rattle.cp_lists.proofs.TurnedLists.{turn-trans, turn-reverse, turn_parts}
 use Rattle.cp_embed.specs.Arrangements.{IsArrangementOf}
 use Rattle.cp_embed.specs.Directions.{directed}
@@ -32,9 +31,12 @@ IsSplit-directed true list ins outs first second s = IsSplit-reverse list ins ou
 pub directed-IsSplit : (bit : Bool) (list ins outs us vs : List ℕ) → IsSplit (directed bit list) ins outs us vs
     → (first : List ℕ) × (second : List ℕ) × IsSplit list ins outs first second
 directed-IsSplit false list ins outs us vs s = (us, vs, s)
-directed-IsSplit true list ins outs us vs s =
-    (reverse us, reverse vs, subst (λ ws. IsSplit ws ins outs (reverse us) (reverse vs)) (reverse-reverse list)
-    (IsSplit-reverse (reverse list) ins outs us vs s))
+directed-IsSplit true list ins outs us vs s = (
+  reverse us,
+  reverse vs,
+  subst (λ ws. IsSplit ws ins outs (reverse us) (reverse vs)) (reverse-reverse list)
+      (IsSplit-reverse (reverse list) ins outs us vs s),
+)
 
 -- arrangements are the list in a direction exactly where they are the split in that direction
 pub IsSplit-unique : (bit : Bool) (list ins outs first second us vs : List ℕ) (i o : ℕ) → Distinct (directed bit list)

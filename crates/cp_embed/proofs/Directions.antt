@@ -1,21 +1,20 @@
 -- Lists that are kept in a direction, and the edges of mirrored lists.
-use Rattle.std.proofs.Common.{◌≡◌, ℕ, ◌/◌, Bool, true, false, Option, Some, None, List, [], ◌∷◌, map, reverse, refl, ap, ap₂, ◌∙◌}
+use Rattle.std.proofs.Common.{◌≡◌, ℕ, Bool, true, false, Option, Some, None, List, [], ◌∷◌, map, reverse, refl, ap, ap₂, ◌∙◌}
 use Rattle.std.proofs.lemmas.List.{reverse-reverse}
-use Rattle.cp_lists.specs.CyclicLists.{Has, Distinct}
+use Rattle.cp_lists.specs.CyclicLists.{Distinct}
 use Rattle.cp_lists.specs.Turns.{IsTurn}
-use Rattle.cp_lists.proofs.MappedLists.{map_agree_on}
 use Rattle.cp_lists.proofs.ReversedLists.{map-reverse, Distinct-reverse}
 use Rattle.cp_lists.proofs.TurnedLists.{turn-trans}
 use Rattle.cp_faces.specs.Twins.{twin}
 use Rattle.cp_faces.proofs.Twins.{half_twin}
 use Rattle.cp_maps.specs.Mirrors.{mirror}
 use Rattle.cp_embed.specs.Arrangements.{IsArrangementOf}
-use Rattle.cp_embed.specs.Directions.{directed, KeepsDirection}
-use Rattle.cp_embed.specs.Sweeps.{edge_of}
+use Rattle.cp_embed.specs.Directions.{directed, KeepsDirection, edge_of}
 use Rattle.cp_embed.proofs.Arrangements.{IsArrangementOf-reverse}
 
 -- a list that is kept is kept by each turn
-pub KeepsDirection-turn : (list : Option (List ℕ)) (bit : Bool) (us vs : List ℕ) → IsTurn us vs → KeepsDirection list bit us
+pub KeepsDirection-turn : (list : Option (List ℕ)) (bit : Bool) (us vs : List ℕ) → IsTurn us vs
+    → KeepsDirection list bit us
     → KeepsDirection list bit vs
 KeepsDirection-turn None bit us vs turn kept = tt
 KeepsDirection-turn (Some list) bit us vs turn kept = turn-trans (directed bit list) us vs kept turn
@@ -45,6 +44,7 @@ Distinct-directed false xs dis = dis
 Distinct-directed true xs dis = Distinct-reverse xs dis
 
 -- an arrangement in a direction
-pub IsArrangementOf-directed : (bit : Bool) (xs ys : List ℕ) → IsArrangementOf xs ys → IsArrangementOf (directed bit xs) ys
+pub IsArrangementOf-directed : (bit : Bool) (xs ys : List ℕ) → IsArrangementOf xs ys
+    → IsArrangementOf (directed bit xs) ys
 IsArrangementOf-directed false xs ys a = a
 IsArrangementOf-directed true xs ys a = IsArrangementOf-reverse xs ys a

@@ -1,13 +1,12 @@
 -- The last stage of a sweep: where all vertices but the last are taken, its pairs are the orders that are realised.
-use Rattle.std.proofs.Common.{◌≡◌, ◌≢◌, ℕ, ◌*◌, ◌<◌, ◌⊎◌, ◌↔◌, Bool, Option, List, [], ◌∷◌, ◌++◌, map, reverse, eqb, cond, length, sym, refl, ap, ap₂, ◌∙◌, subst, inl, inr, ⊎_elim, arith}
+use Rattle.std.proofs.Common.{◌≡◌, ◌≢◌, ℕ, ◌*◌, ◌<◌, ◌↔◌, Bool, Option, List, [], ◌∷◌, map, reverse, eqb, cond, sym, refl, ap, ap₂, ◌∙◌, subst, inl, inr, ⊎_elim}
 use Rattle.std.proofs.lemmas.Bool.{cases_eq, eq-eqb, ne_eqb}
-use Rattle.cp_lists.specs.CyclicLists.{Has, Lacks, Distinct, follow}
+use Rattle.cp_lists.specs.CyclicLists.{Has, Distinct}
 use Rattle.cp_lists.specs.Turns.{IsTurn}
 use Rattle.cp_lists.proofs.DistinctLists.{has_lacks, Lacks-from}
 use Rattle.cp_lists.proofs.MappedLists.{Distinct-map_on}
 use Rattle.cp_lists.proofs.ReversedLists.{Has-reverse, reverse-Has, Distinct-reverse}
 use Rattle.cp_lists.proofs.TurnedLists.{turn-map, turn-refl, turn-sym, turn-Has, Has-of_turn, turn-Distinct, turn_to_item, turn_to_item-unique}
-use Rattle.cp_orbits.specs.Orbits.{Permutes}
 use Rattle.cp_faces.specs.Twins.{twin}
 use Rattle.cp_faces.proofs.Twins.{same_half}
 use Rattle.cp_maps.specs.Genus.{CanBeFlat, IsFlat}
@@ -16,13 +15,15 @@ use Rattle.cp_maps.proofs.FewerDarts.{CanBeFlat-IsFlat}
 use Rattle.cp_maps.proofs.ListFacts.{map-agree}
 use Rattle.cp_maps.proofs.MapLists.{IsMapOf-turn}
 use Rattle.cp_rot.proofs.ListSystems.{Listed, turn}
+use Rattle.cp_embed.specs.Directions.{edge_of}
 use Rattle.cp_embed.specs.Arrangements.{IsArrangementOf}
-use Rattle.cp_embed.specs.Sweeps.{edge_of, darts_at, KeepsList, AreListsOf, LeadsInto, IsStagePair, IsSweep}
+use Rattle.cp_embed.specs.Sweeps.{darts_at, KeepsList, AreListsOf, LeadsInto, IsStagePair, IsSweep}
 use Rattle.cp_embed.proofs.DartLists.{darts_at-Has}
 use Rattle.cp_embed.proofs.Sweeps.{twin_within}
 use Rattle.cp_embed.proofs.VertexLists.{IsMapOf-names, AreListsOf-names, names-AreListsOf}
 
--- lists of darts of all vertices that make a map in the plane, have the cyclic order of edges at t and keep the given lists
+-- lists of darts of all vertices that make a map in the plane, have the cyclic order of edges at t and keep the given
+-- lists
 pub record AreDrawn (n e : ℕ) (at : ℕ → ℕ) (psi : ℕ → Option (List ℕ)) (t : ℕ) (order : List ℕ) (bit : ℕ → Bool)
     (lists : ℕ → List ℕ) : Type 0 where
   pub listed : Listed n (2 * e) at lists
@@ -138,13 +139,15 @@ module _ (n e : ℕ) (at : ℕ → ℕ) (r t : ℕ) (psi : ℕ → Option (List 
       plane = CanBeFlat-IsFlat e (turn at lists) (map lists names)
           (IsMapOf-names n (2 * e) at lists all_listed names names_once names_all)
           (subst (CanBeFlat e) rows_are p.drawn.3);
-      order_is = subst (IsTurn (edge_of r ∷ word)) (ap (λ ws. edge_of r ∷ ws) p.word_is ∙ ap (map edge_of) (sym (lists_t t refl)))
+      order_is = subst (IsTurn (edge_of r ∷ word))
+          (ap (λ ws. edge_of r ∷ ws) p.word_is ∙ ap (map edge_of) (sym (lists_t t refl)))
           (turn-refl (edge_of r ∷ word));
       kept = λ v lt nh. subst (KeepsList psi bit v) (sym (lists_other v nh)) (named.2 v ((all v).1 (lt, nh))).1;
     }
 
   -- what is drawn is a pair of the stage
-  module _ (word : List ℕ) (bit : ℕ → Bool) (lists : ℕ → List ℕ) (drawn : AreDrawn n e at psi t (edge_of r ∷ word) bit lists) where
+  module _ (word : List ℕ) (bit : ℕ → Bool) (lists : ℕ → List ℕ)
+      (drawn : AreDrawn n e at psi t (edge_of r ∷ word) bit lists) where
     -- the list of t, from r on
     from_root : (row : List ℕ) × IsTurn (lists t) (r ∷ row)
     from_root = turn_to_item r (lists t) (subst (λ v. Has r (lists v)) root (drawn.listed.own r lt_r))
@@ -181,7 +184,8 @@ module _ (n e : ℕ) (at : ℕ → ℕ) (r t : ℕ) (psi : ℕ → Option (List 
 
     -- the map with the list of t from r on
     drawn_map : IsMapOf (2 * e) (turn at lists) ((r ∷ from_root.0) ∷ prefix_lists.0 ∷ prefix_lists.1)
-    drawn_map = IsMapOf-turn (2 * e) (turn at lists) (lists t) (r ∷ from_root.0) (prefix_lists.0 ∷ prefix_lists.1) from_root.1
+    drawn_map = IsMapOf-turn (2 * e) (turn at lists) (lists t) (r ∷ from_root.0)
+        (prefix_lists.0 ∷ prefix_lists.1) from_root.1
         (subst (λ rows. IsMapOf (2 * e) (turn at lists) (lists t ∷ rows)) (sym prefix_lists.2)
         (IsMapOf-names n (2 * e) at lists drawn.listed names names_once names_all))
 
@@ -192,7 +196,8 @@ module _ (n e : ℕ) (at : ℕ → ℕ) (r t : ℕ) (psi : ℕ → Option (List 
       word_is = word_edges;
       once = turn-Distinct (lists t) (r ∷ from_root.0) from_root.1 (drawn.listed.distinct t lt_t);
       all = λ d. (
-        λ h. let w = drawn.listed.item t d lt_t (Has-of_turn (lists t) (r ∷ from_root.0) d from_root.1 h) in from_t d w.0 w.1,
+        λ h. let w = drawn.listed.item t d lt_t (Has-of_turn (lists t) (r ∷ from_root.0) d from_root.1 h) in from_t d
+            w.0 w.1,
         λ q. turn-Has (lists t) (r ∷ from_root.0) d from_root.1
             (subst (λ v. Has d (lists v)) (at_t d q) (drawn.listed.own d q.within)),
       );

@@ -19,18 +19,25 @@ use Rattle.cp_embed.proofs.Lists.{filter_none, mirror-Has, mirror-append}
 use Rattle.cp_embed.proofs.ThreeVertices.{seen_vertex-IsTurn}
 
 -- three vertices, where ws and the third are joined by an edge, and ws and row too
-module _ (e : ℕ) (f : ℕ → ℕ) (r i : ℕ) (ws row w : List ℕ) (is : IsMapOf (2 * e) f (ws ∷ row ∷ (r ∷ w) ∷ [])) (root : Has (twin r) ws) (one : Has i row) (one_in : Has (twin i) ws) (of_row : (d : ℕ) → Has d row → Has (twin d) ws ⊎ Has (twin d) w) (of_w : (d : ℕ) → Has d w → Has (twin d) ws ⊎ Has (twin d) row) (z : IsFlat e f) where
+module _ (e : ℕ) (f : ℕ → ℕ) (r i : ℕ) (ws row w : List ℕ) (is : IsMapOf (2 * e) f (ws ∷ row ∷ (r ∷ w) ∷ []))
+    (root : Has (twin r) ws) (one : Has i row) (one_in : Has (twin i) ws)
+    (of_row : (d : ℕ) → Has d row → Has (twin d) ws ⊎ Has (twin d) w)
+    (of_w : (d : ℕ) → Has d w → Has (twin d) ws ⊎ Has (twin d) row) (z : IsFlat e f) where
   -- the lists have no item in common
   ws_row : (d : ℕ) → Has d ws → Has d row → ⊥
-  ws_row d h k = has_lacks d row k (Lacks-append_left d row ((r ∷ w) ++ []) (Distinct-apart d ws (row ++ ((r ∷ w) ++ [])) is.once h))
+  ws_row d h k = has_lacks d row k
+      (Lacks-append_left d row ((r ∷ w) ++ []) (Distinct-apart d ws (row ++ ((r ∷ w) ++ [])) is.once h))
 
   -- also the first and the third
   ws_rest : (d : ℕ) → Has d ws → Has d (r ∷ w) → ⊥
-  ws_rest d h k = has_lacks d (row ++ ((r ∷ w) ++ [])) (Has-append_right d row ((r ∷ w) ++ []) (Has-append_left d (r ∷ w) [] k)) (Distinct-apart d ws (row ++ ((r ∷ w) ++ [])) is.once h)
+  ws_rest d h k = has_lacks d (row ++ ((r ∷ w) ++ []))
+      (Has-append_right d row ((r ∷ w) ++ []) (Has-append_left d (r ∷ w) [] k))
+      (Distinct-apart d ws (row ++ ((r ∷ w) ++ [])) is.once h)
 
   -- also the second and the third
   row_rest : (d : ℕ) → Has d row → Has d (r ∷ w) → ⊥
-  row_rest d h k = has_lacks d ((r ∷ w) ++ []) (Has-append_left d (r ∷ w) [] k) (Distinct-apart d row ((r ∷ w) ++ []) (Distinct-append_right ws (row ++ ((r ∷ w) ++ [])) is.once) h)
+  row_rest d h k = has_lacks d ((r ∷ w) ++ []) (Has-append_left d (r ∷ w) [] k)
+      (Distinct-apart d row ((r ∷ w) ++ []) (Distinct-append_right ws (row ++ ((r ∷ w) ++ [])) is.once) h)
 
   -- twins of one dart
   twins_same : (c d : ℕ) → twin c ≡ twin d → c ≡ d
@@ -42,7 +49,8 @@ module _ (e : ℕ) (f : ℕ → ℕ) (r i : ℕ) (ws row w : List ℕ) (is : IsM
 
   -- and those of the third list
   rest_distinct : Distinct (r ∷ w)
-  rest_distinct = Distinct-append_left (r ∷ w) [] (Distinct-append_right row ((r ∷ w) ++ []) (Distinct-append_right ws (row ++ ((r ∷ w) ++ [])) is.once))
+  rest_distinct = Distinct-append_left (r ∷ w) []
+      (Distinct-append_right row ((r ∷ w) ++ []) (Distinct-append_right ws (row ++ ((r ∷ w) ++ [])) is.once))
 
   -- ws from the root
   at_root : (us : List ℕ) × (vs : List ℕ) × (ws ≡ us ++ twin r ∷ vs)
@@ -67,12 +75,15 @@ module _ (e : ℕ) (f : ℕ → ℕ) (r i : ℕ) (ws row w : List ℕ) (is : IsM
   -- the map in the order of the first use
   is_root : IsMapOf (2 * e) f ((twin r ∷ past_root) ∷ (twin (twin r) ∷ w) ∷ row ∷ [])
   is_root = subst (λ y. IsMapOf (2 * e) f ((twin r ∷ past_root) ∷ (y ∷ w) ∷ row ∷ [])) (sym (twin-twin r))
-      (IsMapOf-turn (2 * e) f (at_root.0 ++ twin r ∷ at_root.1) (twin r ∷ past_root) ((r ∷ w) ∷ row ∷ []) (turn_parts at_root.0 (twin r ∷ at_root.1))
-      (subst (λ us. IsMapOf (2 * e) f (us ∷ (r ∷ w) ∷ row ∷ [])) at_root.2 (IsMapOf-swap (2 * e) f (r ∷ w) ws (row ∷ []) (IsMapOf-third (2 * e) f ws row (r ∷ w) [] is))))
+      (IsMapOf-turn (2 * e) f (at_root.0 ++ twin r ∷ at_root.1) (twin r ∷ past_root) ((r ∷ w) ∷ row ∷ [])
+      (turn_parts at_root.0 (twin r ∷ at_root.1))
+      (subst (λ us. IsMapOf (2 * e) f (us ∷ (r ∷ w) ∷ row ∷ [])) at_root.2
+      (IsMapOf-swap (2 * e) f (r ∷ w) ws (row ∷ []) (IsMapOf-third (2 * e) f ws row (r ∷ w) [] is))))
 
   -- row reads its edges to w, then those to ws
   row_reads : IsTurn row (outs ++ ins)
-  row_reads = subst (IsTurn row) (ap mirror (filter-append to_row past_root w) ∙ mirror-append (filter to_row past_root) (filter to_row w))
+  row_reads = subst (IsTurn row) (ap mirror (filter-append to_row past_root w)
+      ∙ mirror-append (filter to_row past_root) (filter to_row w))
       (seen_vertex-IsTurn e f (twin r) past_root w row is_root (λ d h. ⊎_elim
       (λ k. ⊎_elim
       (λ same. absurd (row_rest d h (inl (twins_same r d same))))
@@ -87,7 +98,8 @@ module _ (e : ℕ) (f : ℕ → ℕ) (r i : ℕ) (ws row w : List ℕ) (is : IsM
 
   -- those in ins lead to ws
   lead_in : (d : ℕ) → Has d ins → Has (twin d) ws
-  lead_in d h = its_item (twin d) (twin r) ws at_root.0 at_root.1 at_root.2 (filter-Has to_row (twin d) past_root (mirror-Has d (filter to_row past_root) h)).0
+  lead_in d h = its_item (twin d) (twin r) ws at_root.0 at_root.1 at_root.2
+      (filter-Has to_row (twin d) past_root (mirror-Has d (filter to_row past_root) h)).0
 
   -- those in outs lead to w
   lead_out : (d : ℕ) → Has d outs → Has (twin d) w
@@ -95,7 +107,8 @@ module _ (e : ℕ) (f : ℕ → ℕ) (r i : ℕ) (ws row w : List ℕ) (is : IsM
 
   -- the given edge is among the first
   one_ins : Has i ins
-  one_ins = ⊎_elim (λ k. k) (λ k. absurd (ws_rest (twin i) one_in (inr (lead_out i k)))) (Has-append_cases i ins outs (turn-Has row (ins ++ outs) i turned one))
+  one_ins = ⊎_elim (λ k. k) (λ k. absurd (ws_rest (twin i) one_in (inr (lead_out i k))))
+      (Has-append_cases i ins outs (turn-Has row (ins ++ outs) i turned one))
 
   -- around it
   at_one : (us : List ℕ) × (vs : List ℕ) × (ins ≡ us ++ i ∷ vs)
@@ -122,9 +135,12 @@ module _ (e : ℕ) (f : ℕ → ℕ) (r i : ℕ) (ws row w : List ℕ) (is : IsM
   -- the map in the order of the second use
   is_one : IsMapOf (2 * e) f ((twin i ∷ past_end) ∷ (twin (twin i) ∷ past_one) ∷ (r ∷ w) ∷ [])
   is_one = subst (λ y. IsMapOf (2 * e) f ((twin i ∷ past_end) ∷ (y ∷ past_one) ∷ (r ∷ w) ∷ [])) (sym (twin-twin i))
-      (IsMapOf-turn (2 * e) f (at_end.0 ++ twin i ∷ at_end.1) (twin i ∷ past_end) ((i ∷ past_one) ∷ (r ∷ w) ∷ []) (turn_parts at_end.0 (twin i ∷ at_end.1))
+      (IsMapOf-turn (2 * e) f (at_end.0 ++ twin i ∷ at_end.1) (twin i ∷ past_end) ((i ∷ past_one) ∷ (r ∷ w) ∷ [])
+      (turn_parts at_end.0 (twin i ∷ at_end.1))
       (subst (λ us. IsMapOf (2 * e) f (us ∷ (i ∷ past_one) ∷ (r ∷ w) ∷ [])) at_end.2
-      (IsMapOf-swap (2 * e) f (i ∷ past_one) ws ((r ∷ w) ∷ []) (IsMapOf-turn (2 * e) f row (i ∷ past_one) (ws ∷ (r ∷ w) ∷ []) from_one (IsMapOf-swap (2 * e) f ws row ((r ∷ w) ∷ []) is)))))
+      (IsMapOf-swap (2 * e) f (i ∷ past_one) ws ((r ∷ w) ∷ [])
+      (IsMapOf-turn (2 * e) f row (i ∷ past_one) (ws ∷ (r ∷ w) ∷ []) from_one
+      (IsMapOf-swap (2 * e) f ws row ((r ∷ w) ∷ []) is)))))
 
   -- the test that is used then
   abbrev to_rest : ℕ → Bool
@@ -139,9 +155,11 @@ module _ (e : ℕ) (f : ℕ → ℕ) (r i : ℕ) (ws row w : List ℕ) (is : IsM
   passes = filter-append to_rest (at_one.1 ++ outs) at_one.0
       ∙ ap₂ (λ us vs. us ++ vs)
       (filter-append to_rest at_one.1 outs ∙ ap₂ (λ us vs. us ++ vs)
-      (filter_none to_rest at_one.1 (λ d h. fails d (subst (Has d) (sym at_one.2) (Has-append_right d at_one.0 (i ∷ at_one.1) (inr h)))))
+      (filter_none to_rest at_one.1 (λ d h. fails d
+      (subst (Has d) (sym at_one.2) (Has-append_right d at_one.0 (i ∷ at_one.1) (inr h)))))
       (filter_all to_rest outs (λ d h. has_yes (twin d) (r ∷ w) (inr (lead_out d h)))))
-      (filter_none to_rest at_one.0 (λ d h. fails d (subst (Has d) (sym at_one.2) (Has-append_left d at_one.0 (i ∷ at_one.1) h))))
+      (filter_none to_rest at_one.0 (λ d h. fails d
+      (subst (Has d) (sym at_one.2) (Has-append_left d at_one.0 (i ∷ at_one.1) h))))
       ∙ append-nil outs
 
   -- a dart of ws is the end of that edge, or one of the others
@@ -157,7 +175,9 @@ module _ (e : ℕ) (f : ℕ → ℕ) (r i : ℕ) (ws row w : List ℕ) (is : IsM
 
   -- the third list
   rest_reads : IsTurn (r ∷ w) (mirror outs ++ through)
-  rest_reads = subst (IsTurn (r ∷ w)) (ap mirror (filter-append to_rest past_end past_one ∙ ap (λ us. filter to_rest past_end ++ us) passes) ∙ mirror-append (filter to_rest past_end) outs)
+  rest_reads = subst (IsTurn (r ∷ w))
+      (ap mirror (filter-append to_rest past_end past_one ∙ ap (λ us. filter to_rest past_end ++ us) passes)
+      ∙ mirror-append (filter to_rest past_end) outs)
       (seen_vertex-IsTurn e f (twin i) past_end past_one (r ∷ w) is_one (λ d h. ⊎_elim
       (λ same. ends d h (subst (λ y. Has (twin y) ws) same root))
       (λ k. ⊎_elim
@@ -172,7 +192,8 @@ module _ (e : ℕ) (f : ℕ → ℕ) (r i : ℕ) (ws row w : List ℕ) (is : IsM
   -- the root is not in the run
   root_through : Has r through
   root_through = ⊎_elim
-      (λ k. absurd (ws_row (twin r) root (Has-of_turn row (ins ++ outs) (twin r) turned (Has-append_right (twin r) ins outs (mirror-Has r outs k)))))
+      (λ k. absurd (ws_row (twin r) root
+      (Has-of_turn row (ins ++ outs) (twin r) turned (Has-append_right (twin r) ins outs (mirror-Has r outs k)))))
       (λ k. k)
       (Has-append_cases r (mirror outs) through (turn-Has (r ∷ w) (mirror outs ++ through) r rest_reads (inl refl)))
 
@@ -189,8 +210,10 @@ module _ (e : ℕ) (f : ℕ → ℕ) (r i : ℕ) (ws row w : List ℕ) (is : IsM
     behind = at_through.0;
     turn = turned;
     whole = turn_same r w (at_through.1 ++ (mirror outs ++ at_through.0)) rest_distinct.0
-        (turn-trans (r ∷ w) ((mirror outs ++ at_through.0) ++ r ∷ at_through.1) (r ∷ (at_through.1 ++ (mirror outs ++ at_through.0)))
-        (subst (IsTurn (r ∷ w)) (ap (λ us. mirror outs ++ us) at_through.2 ∙ sym (append_assoc (mirror outs) at_through.0 (r ∷ at_through.1))) rest_reads)
+        (turn-trans (r ∷ w) ((mirror outs ++ at_through.0) ++ r ∷ at_through.1)
+        (r ∷ (at_through.1 ++ (mirror outs ++ at_through.0)))
+        (subst (IsTurn (r ∷ w)) (ap (λ us. mirror outs ++ us) at_through.2
+        ∙ sym (append_assoc (mirror outs) at_through.0 (r ∷ at_through.1))) rest_reads)
         (turn_parts (mirror outs ++ at_through.0) (r ∷ at_through.1)));
     into = lead_in;
   }

@@ -1,21 +1,21 @@
 -- A step of a sweep as what the calls on an order tree make of its pairs.
-use Rattle.std.proofs.Common.{◌≡◌, ◌≢◌, ℕ, ◌*◌, ◌<◌, ◌↔◌, Bool, Option, Some, None, List, [], ◌∷◌, ◌++◌, map, reverse, sym, refl, ap, ◌∙◌, subst}
+use Rattle.std.proofs.Common.{◌≡◌, ◌≢◌, ℕ, ◌*◌, ◌<◌, ◌↔◌, Bool, Option, Some, None, List, ◌∷◌, ◌++◌, map, reverse, sym, refl, ap, ◌∙◌, subst}
 use Rattle.std.proofs.lemmas.List.{reverse-reverse}
-use Rattle.cp_lists.specs.CyclicLists.{Has, Distinct}
-use Rattle.cp_lists.specs.Turns.{IsTurn}
+use Rattle.cp_lists.specs.CyclicLists.{Distinct}
 use Rattle.cp_lists.proofs.MappedLists.{Has-map_on}
 use Rattle.cp_faces.specs.Twins.{twin}
 use Rattle.cp_embed.specs.Arrangements.{IsArrangementOf}
-use Rattle.cp_embed.specs.Directions.{directed, KeepsDirection}
+use Rattle.cp_embed.specs.Directions.{directed, KeepsDirection, edge_of}
 use Rattle.cp_embed.specs.Pairs.{Pairs, HasTogether, IsExchanged, HasRun, IsRunExchanged, SamePairs, IsStepWord}
 use Rattle.cp_embed.specs.Splits.{IsSplit}
-use Rattle.cp_embed.specs.Sweeps.{edge_of, ins_of, outs_of, IsStagePair, IsSweep}
+use Rattle.cp_embed.specs.Sweeps.{ins_of, outs_of, IsStagePair, IsSweep}
 use Rattle.cp_embed.proofs.Arrangements.{IsArrangementOf-reverse}
 use Rattle.cp_embed.proofs.DirectedSplits.{IsSplit-directed, directed-IsSplit, IsSplit-unique}
 use Rattle.cp_embed.proofs.Directions.{directed-reverse, Distinct-directed}
 use Rattle.cp_embed.proofs.StagePairs.{IsStagePair-step}
 
--- a map of darts without loops, given lists, and a vertex x that is taken next behind y and others; the pairs of an order
+-- a map of darts without loops, given lists, and a vertex x that is taken next behind y and others; the pairs of an
+-- order
 -- tree are those of the stage before
 module _ (at : ℕ → ℕ) (e r : ℕ) (psi : ℕ → Option (List ℕ))
     (no_loop : (d : ℕ) → d < 2 * e → at (twin d) ≢ at d) (x y : ℕ) (others : List ℕ)
@@ -38,7 +38,8 @@ module _ (at : ℕ → ℕ) (e r : ℕ) (psi : ℕ → Option (List ℕ))
       ↔ IsStepWord ins outs (KeepsDirection (psi x) (bit x)) (λ v. IsStagePair at e psi r (y ∷ others) v bit) word
   step = IsStagePair-step at e r psi no_loop x y others sweep
 
-  -- a vertex without a given list: the pairs in which its edges to what is taken are consecutive, with these exchanged for
+  -- a vertex without a given list: the pairs in which its edges to what is taken are consecutive, with these
+  -- exchanged for
   -- its other edges in any order
   pub free_step-SamePairs : psi x ≡ None → SamePairs (IsExchanged ins outs (HasTogether ins pairs)) after
   free_step-SamePairs none word bit = (
@@ -90,10 +91,12 @@ module _ (at : ℕ → ℕ) (e r : ℕ) (psi : ℕ → Option (List ℕ))
         (bit : ℕ → Bool) → after word bit → ⊥
     unsplit_step-none none word bit q =
         let w = (step word bit).0 q in
-        let s = directed-IsSplit (bit x) list ins outs w.us w.vs (step_split bit w.us w.vs w.us_is w.vs_is w.list_kept) in
+        let s = directed-IsSplit (bit x) list ins outs w.us w.vs
+        (step_split bit w.us w.vs w.us_is w.vs_is w.list_kept) in
         none s.0 s.1 s.2
 
-    -- where it is, the pairs are those with the first part as a run, with that exchanged for the second part in reverse,
+    -- where it is, the pairs are those with the first part as a run, with that exchanged for the second part in
+    -- reverse,
     -- both by the bit of x
     pub listed_step-SamePairs : (first second : List ℕ) → Distinct list → IsSplit list ins outs first second
         → SamePairs (IsRunExchanged first (reverse second) x (HasRun first x pairs)) after
@@ -107,13 +110,15 @@ module _ (at : ℕ → ℕ) (e r : ℕ) (psi : ℕ → Option (List ℕ))
             behind = p.behind;
             us_is = s.first_is;
             vs_is = s.second_is;
-            list_kept = subst (λ l. KeepsDirection l (bit x) (directed (bit x) first ++ directed (bit x) second)) (sym given) s.turn;
+            list_kept = subst (λ l. KeepsDirection l (bit x) (directed (bit x) first ++ directed (bit x) second))
+                (sym given) s.turn;
             word_is = p.word_is ∙ ap (λ ws. p.front ++ (ws ++ p.behind)) (directed-reverse (bit x) second);
             taken_from = (same (p.front ++ (directed (bit x) first ++ p.behind)) bit).0 p.pair.pair;
           }),
       λ q.
           let w = (step word bit).0 q in
-          let t = (IsSplit-unique (bit x) list ins outs first second w.us w.vs (edge_of sweep.0.enters.0) (edge_of sweep.0.leaves.0)
+          let t = (IsSplit-unique (bit x) list ins outs first second w.us w.vs (edge_of sweep.0.enters.0)
+          (edge_of sweep.0.leaves.0)
           (Distinct-directed (bit x) list dis)
           (Has-map_on edge_of sweep.0.enters.0 (ins_of at e (y ∷ others) x) sweep.0.enters.1)
           (Has-map_on edge_of sweep.0.leaves.0 (outs_of at e (y ∷ others) x) sweep.0.leaves.1)
@@ -121,12 +126,14 @@ module _ (at : ℕ → ℕ) (e r : ℕ) (psi : ℕ → Option (List ℕ))
           record {
             front = w.front;
             behind = w.behind;
-            word_is = w.word_is ∙ ap (λ ws. w.front ++ (ws ++ w.behind)) (ap reverse t.1 ∙ sym (directed-reverse (bit x) second));
+            word_is = w.word_is ∙ ap (λ ws. w.front ++ (ws ++ w.behind))
+                (ap reverse t.1 ∙ sym (directed-reverse (bit x) second));
             pair = record {
               front = w.front;
               behind = w.behind;
               word_is = refl;
-              pair = subst (λ ws. pairs (w.front ++ (ws ++ w.behind)) bit) t.0 ((same (w.front ++ (w.us ++ w.behind)) bit).1 w.taken_from);
+              pair = subst (λ ws. pairs (w.front ++ (ws ++ w.behind)) bit) t.0
+                  ((same (w.front ++ (w.us ++ w.behind)) bit).1 w.taken_from);
             };
           },
     )

@@ -27,16 +27,24 @@ pub record Fresh (n : ℕ) (os old : List ℕ) : Type 0 where
   pub apart : (d : ℕ) → Has d os → Has (twin d) os → ⊥
 
 -- darts put in front of a list
-put_front : (n : ℕ) (f : ℕ → ℕ) (os xs : List ℕ) (rows : List (List ℕ)) → IsMapOf n f (xs ∷ rows) → Distinct os → ((d : ℕ) → Has d os → d < n) → ((d : ℕ) → Has d os → Has d (flat (xs ∷ rows)) → ⊥) → IsMapOf n (next_by ((os ++ xs) ∷ rows)) ((os ++ xs) ∷ rows)
+put_front : (n : ℕ) (f : ℕ → ℕ) (os xs : List ℕ) (rows : List (List ℕ)) → IsMapOf n f (xs ∷ rows) → Distinct os
+    → ((d : ℕ) → Has d os → d < n) → ((d : ℕ) → Has d os → Has d (flat (xs ∷ rows)) → ⊥)
+    → IsMapOf n (next_by ((os ++ xs) ∷ rows)) ((os ++ xs) ∷ rows)
 put_front n f os xs rows is dis below far =
     let regroup : (os ++ xs) ++ flat rows ≡ os ++ flat (xs ∷ rows) = append_assoc os xs (flat rows) in
     IsMapOf-by n ((os ++ xs) ∷ rows)
-    (subst Distinct (sym regroup) (Distinct-append os (flat (xs ∷ rows)) dis is.once (λ d h. Lacks-from d (flat (xs ∷ rows)) (far d h))))
-    (subst (Below n) (sym regroup) (Below-from n (os ++ flat (xs ∷ rows)) (λ d h. ⊎_elim (below d) (λ k. below_item n d (flat (xs ∷ rows)) is.below k) (Has-append_cases d os (flat (xs ∷ rows)) h))))
+    (subst Distinct (sym regroup) (Distinct-append os (flat (xs ∷ rows)) dis is.once
+    (λ d h. Lacks-from d (flat (xs ∷ rows)) (far d h))))
+    (subst (Below n) (sym regroup) (Below-from n (os ++ flat (xs ∷ rows))
+    (λ d h. ⊎_elim (below d) (λ k. below_item n d (flat (xs ∷ rows)) is.below k)
+    (Has-append_cases d os (flat (xs ∷ rows)) h))))
 
 -- a run exchanged for new edges out of a vertex of its own: the genus stays
-pub run_put-Becomes : (e : ℕ) (g : ℕ → ℕ) (o : ℕ) (os is us vs : List ℕ) (rows : List (List ℕ)) → IsMapOf (2 * e) g ((us ++ (is ++ vs)) ∷ rows) → Fresh (2 * e) (o ∷ os) (flat ((us ++ (is ++ vs)) ∷ rows)) → Becomes e g ((is ++ o ∷ os) ∷ (us ++ (mirror (o ∷ os) ++ vs)) ∷ rows)
-run_put-Becomes e g o os is us vs rows is_g fresh = (f, is_f, SameGenus-sym e f g (run_exchanged-SameGenus e f g o os is (is ++ o ∷ os) us vs rows same is_f is_g))
+pub run_put-Becomes : (e : ℕ) (g : ℕ → ℕ) (o : ℕ) (os is us vs : List ℕ) (rows : List (List ℕ))
+    → IsMapOf (2 * e) g ((us ++ (is ++ vs)) ∷ rows) → Fresh (2 * e) (o ∷ os) (flat ((us ++ (is ++ vs)) ∷ rows))
+    → Becomes e g ((is ++ o ∷ os) ∷ (us ++ (mirror (o ∷ os) ++ vs)) ∷ rows)
+run_put-Becomes e g o os is us vs rows is_g fresh =
+    (f, is_f, SameGenus-sym e f g (run_exchanged-SameGenus e f g o os is (is ++ o ∷ os) us vs rows same is_f is_g))
   where
     n : ℕ
     n = 2 * e
@@ -51,7 +59,8 @@ run_put-Becomes e g o os is us vs rows is_g fresh = (f, is_f, SameGenus-sym e f 
     same = (0, omega arith, sym (append-nil (is ++ outs)))
 
     turned : IsMapOf n g ((is ++ (vs ++ us)) ∷ rows)
-    turned = subst (λ ws. IsMapOf n g (ws ∷ rows)) (append_assoc is vs us) (IsMapOf-turn n g (us ++ (is ++ vs)) ((is ++ vs) ++ us) rows (turn_parts us (is ++ vs)) is_g)
+    turned = subst (λ ws. IsMapOf n g (ws ∷ rows)) (append_assoc is vs us)
+        (IsMapOf-turn n g (us ++ (is ++ vs)) ((is ++ vs) ++ us) rows (turn_parts us (is ++ vs)) is_g)
 
     regroup : (is ++ (vs ++ us)) ++ flat rows ≡ is ++ flat ((vs ++ us) ∷ rows)
     regroup = append_assoc is (vs ++ us) (flat rows)
@@ -59,24 +68,32 @@ run_put-Becomes e g o os is us vs rows is_g fresh = (f, is_f, SameGenus-sym e f 
     -- the darts are the old ones
     old : (d : ℕ) → Has d (flat (is ∷ (vs ++ us) ∷ rows)) → Has d (flat ((us ++ (is ++ vs)) ∷ rows))
     old d h = ⊎_elim
-        (λ k. Has-append_left d (us ++ (is ++ vs)) (flat rows) (Has-of_turn (us ++ (is ++ vs)) ((is ++ vs) ++ us) d (turn_parts us (is ++ vs)) (subst (Has d) (sym (append_assoc is vs us)) k)))
+        (λ k. Has-append_left d (us ++ (is ++ vs)) (flat rows)
+        (Has-of_turn (us ++ (is ++ vs)) ((is ++ vs) ++ us) d (turn_parts us (is ++ vs))
+        (subst (Has d) (sym (append_assoc is vs us)) k)))
         (λ k. Has-append_right d (us ++ (is ++ vs)) (flat rows) k)
         (Has-append_cases d (is ++ (vs ++ us)) (flat rows) (subst (Has d) (sym regroup) h))
 
     two : IsMapOf n (next_by (is ∷ (vs ++ us) ∷ rows)) (is ∷ (vs ++ us) ∷ rows)
-    two = IsMapOf-by n (is ∷ (vs ++ us) ∷ rows) (subst Distinct regroup turned.once) (subst (Below n) regroup turned.below)
+    two = IsMapOf-by n (is ∷ (vs ++ us) ∷ rows) (subst Distinct regroup turned.once)
+        (subst (Below n) regroup turned.below)
 
     three : IsMapOf n (next_by ((outs ++ is) ∷ (vs ++ us) ∷ rows)) ((outs ++ is) ∷ (vs ++ us) ∷ rows)
-    three = put_front n (next_by (is ∷ (vs ++ us) ∷ rows)) outs is ((vs ++ us) ∷ rows) two fresh.distinct fresh.below (λ d h k. fresh.far d h (old d k))
+    three = put_front n (next_by (is ∷ (vs ++ us) ∷ rows)) outs is ((vs ++ us) ∷ rows) two fresh.distinct fresh.below
+        (λ d h k. fresh.far d h (old d k))
 
     four : IsMapOf n (next_by ((outs ++ is) ∷ (vs ++ us) ∷ rows)) ((vs ++ us) ∷ (is ++ outs) ∷ rows)
-    four = IsMapOf-swap n (next_by ((outs ++ is) ∷ (vs ++ us) ∷ rows)) (is ++ outs) (vs ++ us) rows (IsMapOf-turn n (next_by ((outs ++ is) ∷ (vs ++ us) ∷ rows)) (outs ++ is) (is ++ outs) ((vs ++ us) ∷ rows) (turn_parts outs is) three)
+    four = IsMapOf-swap n (next_by ((outs ++ is) ∷ (vs ++ us) ∷ rows)) (is ++ outs) (vs ++ us) rows
+        (IsMapOf-turn n (next_by ((outs ++ is) ∷ (vs ++ us) ∷ rows)) (outs ++ is) (is ++ outs) ((vs ++ us) ∷ rows)
+        (turn_parts outs is) three)
 
     -- no twin is there yet
     new : (d : ℕ) → Has d back → Has d (flat ((vs ++ us) ∷ (is ++ outs) ∷ rows)) → ⊥
     new d h k =
         let t : Has (twin d) outs = mirror-Has d outs h in
-        let stays : Has d (flat (is ∷ (vs ++ us) ∷ rows)) → ⊥ = λ l. fresh.far_twin (twin d) t (subst (λ y. Has y (flat ((us ++ (is ++ vs)) ∷ rows))) (sym (twin-twin d)) (old d l)) in
+        let stays : Has d (flat (is ∷ (vs ++ us) ∷ rows))
+        → ⊥ = λ l. fresh.far_twin (twin d) t
+        (subst (λ y. Has y (flat ((us ++ (is ++ vs)) ∷ rows))) (sym (twin-twin d)) (old d l)) in
         ⊎_elim
         (λ l. stays (Has-append_right d is (flat ((vs ++ us) ∷ rows)) (Has-append_left d (vs ++ us) (flat rows) l)))
         (λ l. ⊎_elim
@@ -97,5 +114,6 @@ run_put-Becomes e g o os is us vs rows is_g fresh = (f, is_f, SameGenus-sym e f 
         (subst (λ ws. IsMapOf n f (ws ∷ (is ++ outs) ∷ rows)) (sym (append_assoc back vs us))
         (put_front n (next_by ((outs ++ is) ∷ (vs ++ us) ∷ rows)) back (vs ++ us) ((is ++ outs) ∷ rows) four
         (Distinct-reverse (map twin outs) (Distinct-map twin twin-twin outs fresh.distinct))
-        (λ d h. subst (λ y. y < n) (twin-twin d) (twin-below n (twin d) (omega arith) (fresh.below (twin d) (mirror-Has d outs h))))
+        (λ d h. subst (λ y. y < n) (twin-twin d)
+        (twin-below n (twin d) (omega arith) (fresh.below (twin d) (mirror-Has d outs h))))
         new)))

@@ -1,11 +1,10 @@
 -- Rotation systems of a graph by the lists of darts of its vertices.
-use Rattle.std.proofs.Common.{◌≡◌, ◌≢◌, ℕ, ◌*◌, ◌<◌, ◌↔◌, Bool, Option, List, [], ◌∷◌, map, length, sym, refl, ap, ◌∙◌, subst, arith}
+use Rattle.std.proofs.Common.{◌≡◌, ℕ, ◌*◌, ◌<◌, ◌↔◌, Bool, Option, List, map, length, sym, refl, ap, ◌∙◌, subst, arith}
 use Rattle.cp_lists.specs.CyclicLists.{follow}
 use Rattle.cp_lists.specs.Turns.{IsTurn}
 use Rattle.cp_orbits.specs.Orbits.{Permutes}
 use Rattle.cp_base.specs.Graphs.{PlainGraph}
 use Rattle.cp_conn.specs.Darts.{start}
-use Rattle.cp_rot.specs.Genus.{HasGenusZero}
 use Rattle.cp_rot.specs.Rewrites.{system}
 use Rattle.cp_rot.specs.Systems.{System, IsRotation, darts, edges, next, vertex_of, list_of}
 use Rattle.cp_rot.proofs.Functions.{Turns-system, next-follow}
@@ -14,12 +13,14 @@ use Rattle.cp_rot.proofs.ListSystems.{Listed, Listed-agree, Listed-edges, IsRota
 use Rattle.cp_maps.specs.Genus.{IsFlat}
 use Rattle.cp_maps.proofs.FlatMaps.{IsFlat-agree}
 use Rattle.cp_maplaw.proofs.Systems.{system_flat}
-use Rattle.cp_embed.specs.Realisations.{IsRotationOfGraph, Realises, IsRealised, edges_round}
-use Rattle.cp_embed.specs.Sweeps.{edge_of, KeepsList}
+use Rattle.cp_embed.specs.Directions.{edge_of}
+use Rattle.cp_embed.specs.Realisations.{Realises, IsRealised}
+use Rattle.cp_embed.specs.Sweeps.{KeepsList}
 use Rattle.cp_embed.proofs.LastStages.{AreDrawn}
 
 -- a graph, given lists, and a vertex t
-module _ (g : PlainGraph) (psi : ℕ → Option (List ℕ)) (t : ℕ) (lt_t : t < g.vertices) (order : List ℕ) (bit : ℕ → Bool) where
+module _ (g : PlainGraph) (psi : ℕ → Option (List ℕ)) (t : ℕ) (lt_t : t < g.vertices) (order : List ℕ)
+    (bit : ℕ → Bool) where
   -- how many edges it has
   abbrev e : ℕ
   e = length g.ends
@@ -68,8 +69,10 @@ module _ (g : PlainGraph) (psi : ℕ → Option (List ℕ)) (t : ℕ) (lt_t : t 
       };
       plane = (system_flat made made_rotation).1 (subst (λ n. IsFlat n (next made)) (sym made_edges)
           (IsFlat-agree e (turn at lists) (next made) lists_permute (λ x lt. sym (made_next x lt)) d.plane));
-      order_is = subst (λ ws. IsTurn order (map edge_of ws)) (sym (system_list g.vertices e at lists t lt_t)) d.order_is;
-      lists_kept = λ v lt nh. subst (KeepsList psi bit v) (sym (system_list g.vertices e at lists v lt)) (d.kept v lt nh);
+      order_is = subst (λ ws. IsTurn order (map edge_of ws)) (sym (system_list g.vertices e at lists t lt_t))
+          d.order_is;
+      lists_kept = λ v lt nh. subst (KeepsList psi bit v) (sym (system_list g.vertices e at lists v lt))
+          (d.kept v lt nh);
     }
 
   -- a system that realises the order has lists that are drawn

@@ -1,10 +1,10 @@
--- The step of a sweep, in words of edges: the pairs of a stage are those of the stage before with the edges into what is
+-- The step of a sweep, in words of edges: the pairs of a stage are those of the stage before with the edges into what
+-- is
 -- taken exchanged for the others.
-use Rattle.std.proofs.Common.{◌≡◌, ◌≢◌, ℕ, ◌*◌, ◌<◌, ◌⊎◌, ◌↔◌, Bool, Option, List, [], ◌∷◌, ◌++◌, map, reverse, append_assoc, sym, refl, ap, ap₂, ◌∙◌, subst, inl, inr, ⊎_elim, arith}
+use Rattle.std.proofs.Common.{◌≡◌, ◌≢◌, ℕ, ◌*◌, ◌<◌, ◌⊎◌, ◌↔◌, Bool, Option, List, ◌∷◌, ◌++◌, map, reverse, sym, refl, ap, ap₂, ◌∙◌, subst, inl, inr, ⊎_elim}
 use Rattle.std.proofs.lemmas.List.{map-append}
 use Rattle.cp_lists.specs.CyclicLists.{Has, Lacks, Distinct}
-use Rattle.cp_lists.specs.Turns.{IsTurn}
-use Rattle.cp_lists.proofs.DistinctLists.{has_lacks, Lacks-from, Has-append_left, Has-append_right, Has-append_cases, Distinct-append, Distinct-append_left, Distinct-append_right}
+use Rattle.cp_lists.proofs.DistinctLists.{has_lacks, Lacks-from, Has-append_left, Has-append_right, Has-append_cases, Distinct-append}
 use Rattle.cp_lists.proofs.MappedLists.{Distinct-map_on}
 use Rattle.cp_lists.proofs.ReversedLists.{Distinct-reverse}
 use Rattle.cp_lists.proofs.TurnedLists.{turn-map}
@@ -14,10 +14,10 @@ use Rattle.cp_maps.specs.Maps.{Below}
 use Rattle.cp_maps.specs.Mirrors.{mirror}
 use Rattle.cp_maps.proofs.ListFacts.{Below-from}
 use Rattle.cp_embed.specs.Arrangements.{IsArrangementOf}
-use Rattle.cp_embed.specs.Directions.{KeepsDirection}
+use Rattle.cp_embed.specs.Directions.{KeepsDirection, edge_of}
 use Rattle.cp_embed.specs.Pairs.{IsStepWord}
-use Rattle.cp_embed.specs.Stages.{IsStageOrder, HasVertexMore, IsPrefix}
-use Rattle.cp_embed.specs.Sweeps.{edge_of, ins_of, outs_of, KeepsList, AreListsOf, LeadsInto, IsStagePair, IsNext, IsSweep}
+use Rattle.cp_embed.specs.Stages.{IsStageOrder}
+use Rattle.cp_embed.specs.Sweeps.{ins_of, outs_of, KeepsList, AreListsOf, LeadsInto, IsStagePair, IsSweep}
 use Rattle.cp_embed.proofs.Arrangements.{IsArrangementOf-map, IsArrangementOf-unmap, arrangement_unmapped, map_parts, exchanged_run}
 use Rattle.cp_embed.proofs.DartLists.{ins_of-Has, outs_of-Has, ins_outs-Distinct, ins_outs-Has}
 use Rattle.cp_embed.proofs.Directions.{KeepsDirection-turn, mirror-edges}
@@ -79,7 +79,8 @@ module _ (at : ℕ → ℕ) (e r : ℕ) (psi : ℕ → Option (List ℕ))
     -- of those that lead in
     twins_in : (d : ℕ) → Has d ins → Has (twin d) (taken_darts at e r taken)
     twins_in d h =
-        let v = (ins_of-Has at e taken x d).0 h in (taken_darts-Has at e r taken (twin d)).1 (twin_within at e r d v.0, v.2)
+        let v = (ins_of-Has at e taken x d).0 h in (taken_darts-Has at e r taken (twin d)).1
+        (twin_within at e r d v.0, v.2)
 
     -- and of those of the list
     twins_back : (d : ℕ) → Has d w → Has (twin d) (taken_darts at e r taken) ⊎ Has (twin d) outs
@@ -123,7 +124,8 @@ module _ (at : ℕ → ℕ) (e r : ℕ) (psi : ℕ → Option (List ℕ))
         ((taken_darts-Has at e r taken (twin r)).1
         (twin_within at e r r ((all r).0 (inl refl)).within, (IsSweep-root at e r taken sweep.1).1))
         sweep.0.enters.1 sweep.0.leaves.1 twins_in twins_out twins_back
-        (λ us vs turn. KeepsDirection-turn (psi x) (bit x) (map edge_of us) (map edge_of vs) (turn-map edge_of us vs turn))
+        (λ us vs turn. KeepsDirection-turn (psi x) (bit x) (map edge_of us) (map edge_of vs)
+        (turn-map edge_of us vs turn))
 
   -- the edges of a list with a run
   run_edges : (front us behind : List ℕ)
@@ -159,7 +161,8 @@ module _ (at : ℕ → ℕ) (e r : ℕ) (psi : ℕ → Option (List ℕ))
     -- and from that before to that after
     run_on : (fs bs : List ℕ) → Distinct (fs ++ (us ++ bs))
         → ((d : ℕ) → Has d (fs ++ (us ++ bs)) ↔ LeadsInto at e taken d)
-        → Distinct (fs ++ (mirror vs ++ bs)) × ((d : ℕ) → Has d (fs ++ (mirror vs ++ bs)) ↔ LeadsInto at e (x ∷ taken) d)
+        → Distinct (fs ++ (mirror vs ++ bs)) ×
+        ((d : ℕ) → Has d (fs ++ (mirror vs ++ bs)) ↔ LeadsInto at e (x ∷ taken) d)
     run_on fs bs = exchanged_run (LeadsInto at e taken) (LeadsInto at e (x ∷ taken)) fs us (mirror vs) bs mirror_once
         (λ d h. outs-LeadsInto at e r no_loop taken x new d (of_mirror d h))
         (λ d h. outs-not_before at e r no_loop taken x new d (of_mirror d h))
@@ -231,8 +234,14 @@ module _ (at : ℕ → ℕ) (e r : ℕ) (psi : ℕ → Option (List ℕ))
         once = s.0;
         all = s.1;
         drawn = (list_step (fs ++ (mirror vs ++ bs)) s.0 s.1 bit).1 (
-          us, vs, fs, bs, a, v.2,
-          subst (KeepsDirection (psi x) (bit x)) (ap₂ (λ ks ls. ks ++ ls) (sym two.3) (sym v.1) ∙ sym (map-append edge_of us vs)) w.list_kept,
+          us,
+          vs,
+          fs,
+          bs,
+          a,
+          v.2,
+          subst (KeepsDirection (psi x) (bit x))
+              (ap₂ (λ ks ls. ks ++ ls) (sym two.3) (sym v.1) ∙ sym (map-append edge_of us vs)) w.list_kept,
           refl,
           subst (IsStageOrder e r (AreListsOf at e psi bit taken)) row_is p.drawn,
         );

@@ -1,17 +1,15 @@
 -- Sweeps: what the vertices that are taken have, and what leads into them.
-use Rattle.std.proofs.Common.{◌≡◌, ◌≢◌, ℕ, ◌*◌, ◌/◌, ◌<◌, ◌⊎◌, ◌↔◌, Bool, Option, List, [], ◌∷◌, ◌++◌, sym, refl, ap, ◌∙◌, subst, inl, inr, ⊎_elim, arith}
+use Rattle.std.proofs.Common.{◌≡◌, ◌≢◌, ℕ, ◌*◌, ◌<◌, ◌⊎◌, ◌↔◌, Bool, Option, List, [], ◌∷◌, ◌++◌, sym, ◌∙◌, subst, inl, inr, ⊎_elim, arith}
 use Rattle.std.proofs.lemmas.Bool.{cases_eq}
 use Rattle.cp_lists.specs.CyclicLists.{Has, Lacks, Distinct}
 use Rattle.cp_lists.proofs.DistinctLists.{has_lacks, Lacks-from, Has-append_left, Has-append_right, Has-append_cases, Distinct-append}
 use Rattle.cp_faces.specs.Twins.{twin}
 use Rattle.cp_faces.proofs.Twins.{twin-twin, twin-below, same_half}
-use Rattle.cp_maps.specs.Mirrors.{mirror}
-use Rattle.cp_embed.specs.Arrangements.{IsArrangementOf}
+use Rattle.cp_embed.specs.Directions.{edge_of}
 use Rattle.cp_embed.specs.Stages.{IsPrefix}
-use Rattle.cp_embed.specs.Sweeps.{edge_of, darts_at, ins_of, outs_of, KeepsList, AreListsOf, LeadsInto, IsNext, IsSweep}
+use Rattle.cp_embed.specs.Sweeps.{darts_at, ins_of, outs_of, KeepsList, AreListsOf, LeadsInto, IsSweep}
 use Rattle.cp_embed.proofs.DartLists.{darts_at-Has, darts_at-Distinct, ins_of-Has, outs_of-Has, ins_outs-Distinct, ins_outs-Has}
 use Rattle.cp_embed.proofs.FirstStages.{IsPrefix-first}
-use Rattle.cp_embed.proofs.Lists.{Has-mirror, mirror-Has}
 use Rattle.cp_embed.proofs.Stages.{IsPrefix-more}
 
 -- a map of darts of e edges, and the dart r of the edge that joins the first vertex and the last
@@ -28,7 +26,8 @@ module _ (at : ℕ → ℕ) (e r : ℕ) where
       let w = IsSweep-root (y ∷ taken) sweep.1 in (((λ h. sweep.0.not_last (sym h)), w.0), inr w.1)
 
   -- two darts of one edge that lead into what is taken are equal
-  pub LeadsInto-edge : (taken : List ℕ) (c d : ℕ) → LeadsInto at e taken c → LeadsInto at e taken d → edge_of c ≡ edge_of d
+  pub LeadsInto-edge : (taken : List ℕ) (c d : ℕ) → LeadsInto at e taken c → LeadsInto at e taken d
+      → edge_of c ≡ edge_of d
       → c ≡ d
   LeadsInto-edge taken c d p q same = ⊎_elim
       (λ h. h)
@@ -63,7 +62,8 @@ module _ (at : ℕ → ℕ) (e r : ℕ) where
 
   -- those of a new vertex are none of them
   pub taken_darts-apart : (taken : List ℕ) (x d : ℕ) → Lacks x taken → Has d (taken_darts taken) → at d ≡ x → ⊥
-  taken_darts-apart taken x d new h same = has_lacks x taken (subst (λ y. Has y taken) same ((taken_darts-Has taken d).0 h).1) new
+  taken_darts-apart taken x d new h same = has_lacks x taken
+      (subst (λ y. Has y taken) same ((taken_darts-Has taken d).0 h).1) new
 
   -- no dart stands among them twice
   pub taken_darts-Distinct : (taken : List ℕ) → IsSweep at e r taken → Distinct (taken_darts taken)
@@ -71,8 +71,10 @@ module _ (at : ℕ → ℕ) (e r : ℕ) where
   taken_darts-Distinct (s ∷ []) sweep = darts_at-Distinct at e s
   taken_darts-Distinct (x ∷ y ∷ taken) sweep =
       let items : List ℕ = ins_of at e (y ∷ taken) x ++ outs_of at e (y ∷ taken) x in
-      Distinct-append (taken_darts (y ∷ taken)) items (taken_darts-Distinct (y ∷ taken) sweep.1) (ins_outs-Distinct at e (y ∷ taken) x)
-      (λ d h. Lacks-from d items (λ k. taken_darts-apart (y ∷ taken) x d sweep.0.new h ((ins_outs-Has at e (y ∷ taken) x d).0 k).1))
+      Distinct-append (taken_darts (y ∷ taken)) items (taken_darts-Distinct (y ∷ taken) sweep.1)
+      (ins_outs-Distinct at e (y ∷ taken) x)
+      (λ d h. Lacks-from d items (λ k. taken_darts-apart (y ∷ taken) x d sweep.0.new h
+      ((ins_outs-Has at e (y ∷ taken) x d).0 k).1))
 
   -- the lists of the vertices that are taken are a connected prefix of these darts
   pub AreListsOf-IsPrefix : (psi : ℕ → Option (List ℕ)) (bit : ℕ → Bool) (taken : List ℕ) → IsSweep at e r taken
@@ -88,7 +90,8 @@ module _ (at : ℕ → ℕ) (e r : ℕ) where
       (AreListsOf-IsPrefix psi bit (y ∷ taken) sweep.1)
       (Has-append_left i.0 (ins_of at e before x) (outs_of at e before x) i.1)
       ((taken_darts-Has before (twin i.0)).1 (twin_within i.0 w.0, w.2))
-      (λ d h. Lacks-from d items (λ k. taken_darts-apart before x d sweep.0.new h ((ins_outs-Has at e before x d).0 k).1))
+      (λ d h. Lacks-from d items (λ k. taken_darts-apart before x d sweep.0.new h
+      ((ins_outs-Has at e before x d).0 k).1))
 
   -- a vertex that is taken next, in a map without loops: what then leads into the vertices that are taken
   module _ (no_loop : (d : ℕ) → d < 2 * e → at (twin d) ≢ at d) (taken : List ℕ) (x : ℕ) (new : Lacks x taken) where
@@ -115,7 +118,8 @@ module _ (at : ℕ → ℕ) (e r : ℕ) where
 
     -- and not before
     pub outs-not_before : (d : ℕ) → Has (twin d) (outs_of at e taken x) → LeadsInto at e taken d → ⊥
-    outs-not_before d h p = has_lacks x taken (subst (λ y. Has y taken) ((outs_of-Has at e taken x (twin d)).0 h).1 p.into) new
+    outs-not_before d h p = has_lacks x taken
+        (subst (λ y. Has y taken) ((outs_of-Has at e taken x (twin d)).0 h).1 p.into) new
 
     -- what leads into what is taken does so afterwards, or is one of its darts into it
     pub LeadsInto-after : (d : ℕ) → LeadsInto at e taken d → Has d (ins_of at e taken x) ⊎ LeadsInto at e (x ∷ taken) d
@@ -125,7 +129,8 @@ module _ (at : ℕ → ℕ) (e r : ℕ) where
         (cases_eq (at d) x)
 
     -- what does so afterwards did so before, or is the twin of one of its other darts
-    pub LeadsInto-before : (d : ℕ) → LeadsInto at e (x ∷ taken) d → Has (twin d) (outs_of at e taken x) ⊎ LeadsInto at e taken d
+    pub LeadsInto-before : (d : ℕ) → LeadsInto at e (x ∷ taken) d
+        → Has (twin d) (outs_of at e taken x) ⊎ LeadsInto at e taken d
     LeadsInto-before d q = ⊎_elim
         (λ h. inl ((outs_of-Has at e taken x (twin d)).1
         (twin_within d q.within, sym h, subst (λ y. Lacks (at y) taken) (sym (twin-twin d)) q.outside.1)))

@@ -13,7 +13,8 @@ use Rattle.cp_embed.proofs.Stages.{stage_step}
 use Rattle.cp_embed.proofs.StepOrders.{step_orders}
 
 -- the prefix has the darts 1 and 3, the rest 0 and 5, and the vertex 2 and 4
-triangle_lists : IsMapOf 6 (next_by ((2 ∷ 4 ∷ []) ∷ (0 ∷ 5 ∷ []) ∷ (1 ∷ 3 ∷ []) ∷ [])) ((2 ∷ 4 ∷ []) ∷ (0 ∷ 5 ∷ []) ∷ (1 ∷ 3 ∷ []) ∷ [])
+triangle_lists : IsMapOf 6 (next_by ((2 ∷ 4 ∷ []) ∷ (0 ∷ 5 ∷ []) ∷ (1 ∷ 3 ∷ []) ∷ []))
+    ((2 ∷ 4 ∷ []) ∷ (0 ∷ 5 ∷ []) ∷ (1 ∷ 3 ∷ []) ∷ [])
 triangle_lists = IsMapOf-by 6 ((2 ∷ 4 ∷ []) ∷ (0 ∷ 5 ∷ []) ∷ (1 ∷ 3 ∷ []) ∷ []) (
   ((λ h. omega arith), ((λ h. omega arith), ((λ h. omega arith), ((λ h. omega arith), ((λ h. omega arith), tt))))),
   (
@@ -45,17 +46,35 @@ alone : (d : ℕ) → IsArrangementOf (d ∷ []) (d ∷ [])
 alone d = record { distinct = (tt, tt); items = λ x. ((λ h. h), (λ h. h)) }
 
 -- the triangle has a flat map
-triangle : (row : List ℕ) × IsArrangementOf row (2 ∷ 4 ∷ []) × Unit {0} × CanBeFlat 3 (row ∷ (0 ∷ 5 ∷ []) ∷ (1 ∷ 3 ∷ []) ∷ [])
-triangle = (step_orders 3 (next_by ((2 ∷ 4 ∷ []) ∷ (0 ∷ 5 ∷ []) ∷ (1 ∷ 3 ∷ []) ∷ [])) 0 2 4 (2 ∷ []) (4 ∷ []) (1 ∷ 3 ∷ []) [] (5 ∷ []) triangle_lists tt (inl refl) (inl refl) (inl refl)
+triangle : (row : List ℕ) × IsArrangementOf row (2 ∷ 4 ∷ []) × Unit {0} × CanBeFlat 3
+    (row ∷ (0 ∷ 5 ∷ []) ∷ (1 ∷ 3 ∷ []) ∷ [])
+triangle = (step_orders 3 (next_by ((2 ∷ 4 ∷ []) ∷ (0 ∷ 5 ∷ []) ∷ (1 ∷ 3 ∷ []) ∷ [])) 0 2 4 (2 ∷ []) (4 ∷ [])
+    (1 ∷ 3 ∷ []) [] (5 ∷ []) triangle_lists tt (inl refl) (inl refl) (inl refl)
     (λ d h. ⊎_elim (λ e. subst (λ y. Has (twin y) (1 ∷ 3 ∷ [])) e (inr (inl refl))) (λ k. absurd k) h)
     (λ d h. ⊎_elim (λ e. subst (λ y. Has (twin y) (5 ∷ [])) e (inl refl)) (λ k. absurd k) h)
     (λ d h. inr (⊎_elim (λ e. subst (λ y. Has (twin y) (4 ∷ [])) e (inl refl)) (λ k. absurd k) h))
-    (λ row. Unit {0}) (λ us vs t g. tt)).1
-    (2 ∷ [], 4 ∷ [], [], [], alone 2, alone 4, tt, refl, (next_by ((0 ∷ 2 ∷ []) ∷ (1 ∷ 3 ∷ []) ∷ []), before_lists, mirrored_dipole-IsFlat 3 (next_by ((0 ∷ 2 ∷ []) ∷ (1 ∷ 3 ∷ []) ∷ [])) 0 (2 ∷ []) before_lists))
+    (λ row. Unit {0}) (λ us vs t g. tt)).1 (
+      2 ∷ [],
+      4 ∷ [],
+      [],
+      [],
+      alone 2,
+      alone 4,
+      tt,
+      refl,
+      (
+        next_by ((0 ∷ 2 ∷ []) ∷ (1 ∷ 3 ∷ []) ∷ []),
+        before_lists,
+        mirrored_dipole-IsFlat 3
+            (next_by ((0 ∷ 2 ∷ []) ∷ (1 ∷ 3 ∷ []) ∷ [])) 0 (2 ∷ []) before_lists,
+      ),
+    )
 
 -- the same by the stages, from the first on
-triangle_stage : IsStageOrder 3 0 (HasVertexMore (IsFirstVertex (λ us. Unit {0}) (1 ∷ 3 ∷ [])) (λ us. Unit {0}) (2 ∷ 4 ∷ [])) (5 ∷ [])
-triangle_stage = (stage_step 3 0 2 4 (2 ∷ []) (4 ∷ []) (1 ∷ 3 ∷ []) (5 ∷ []) (IsFirstVertex (λ us. Unit {0}) (1 ∷ 3 ∷ [])) (λ us. Unit {0}) (IsPrefix-first (λ us. Unit {0}) (1 ∷ 3 ∷ []))
+triangle_stage : IsStageOrder 3 0
+    (HasVertexMore (IsFirstVertex (λ us. Unit {0}) (1 ∷ 3 ∷ [])) (λ us. Unit {0}) (2 ∷ 4 ∷ [])) (5 ∷ [])
+triangle_stage = (stage_step 3 0 2 4 (2 ∷ []) (4 ∷ []) (1 ∷ 3 ∷ []) (5 ∷ [])
+    (IsFirstVertex (λ us. Unit {0}) (1 ∷ 3 ∷ [])) (λ us. Unit {0}) (IsPrefix-first (λ us. Unit {0}) (1 ∷ 3 ∷ []))
     triangle_lists.once triangle_lists.below (inl refl) (inl refl) (inl refl)
     (λ d h. ⊎_elim (λ e. subst (λ y. Has (twin y) (1 ∷ 3 ∷ [])) e (inr (inl refl))) (λ k. absurd k) h)
     (λ d h. ⊎_elim (λ e. subst (λ y. Has (twin y) (5 ∷ [])) e (inl refl)) (λ k. absurd k) h)
@@ -70,7 +89,8 @@ triangle_stage = (stage_step 3 0 2 4 (2 ∷ []) (4 ∷ []) (1 ∷ 3 ∷ []) (5 �
       tt,
       refl,
       (first_stage 3 0 (1 ∷ 3 ∷ []) (2 ∷ []) (λ us. Unit {0}) before_lists.once before_lists.below (inl refl)
-          (λ d h. ⊎_elim (λ e. subst (λ y. Has (twin y) (0 ∷ 2 ∷ [])) e (inl refl)) (λ k. ⊎_elim (λ e. subst (λ y. Has (twin y) (0 ∷ 2 ∷ [])) e (inr (inl refl))) (λ l. absurd l) k) h)
+          (λ d h. ⊎_elim (λ e. subst (λ y. Has (twin y) (0 ∷ 2 ∷ [])) e (inl refl))
+          (λ k. ⊎_elim (λ e. subst (λ y. Has (twin y) (0 ∷ 2 ∷ [])) e (inr (inl refl))) (λ l. absurd l) k) h)
           (λ d h. ⊎_elim (λ e. subst (λ y. Has (twin y) (1 ∷ 3 ∷ [])) e (inr (inl refl))) (λ k. absurd k) h)
           (λ us vs t g. tt)).1 tt,
     )

@@ -1,12 +1,13 @@
--- From a pair of the last stage back to lists: where each vertex gets its list in a step, the pairs are those of these lists.
-use Rattle.std.proofs.Common.{◌≡◌, ◌≢◌, ℕ, ◌*◌, ◌<◌, ◌↔◌, Bool, false, Option, Some, List, [], ◌∷◌, ◌++◌, map, reverse, sym, refl, ap, ◌∙◌, subst}
+-- From a pair of the last stage back to lists: where each vertex gets its list in a step, the pairs are those of
+-- these lists.
+use Rattle.std.proofs.Common.{◌≡◌, ◌≢◌, ℕ, ◌*◌, ◌<◌, Bool, false, Option, Some, List, [], ◌∷◌, ◌++◌, map, reverse, sym, refl, subst}
 use Rattle.cp_lists.specs.CyclicLists.{but}
 use Rattle.cp_lists.specs.Turns.{IsTurn}
 use Rattle.cp_lists.proofs.TurnedLists.{turn-refl}
 use Rattle.cp_faces.specs.Twins.{twin}
 use Rattle.cp_embed.specs.Arrangements.{IsArrangementOf}
-use Rattle.cp_embed.specs.Directions.{directed}
-use Rattle.cp_embed.specs.Sweeps.{edge_of, darts_at, ins_of, outs_of, IsStagePair, IsSweep}
+use Rattle.cp_embed.specs.Directions.{directed, edge_of}
+use Rattle.cp_embed.specs.Sweeps.{darts_at, ins_of, outs_of, IsStagePair, IsSweep}
 use Rattle.cp_embed.proofs.FirstPairs.{IsStagePair-first}
 use Rattle.cp_embed.proofs.StagePairs.{IsStagePair-step}
 
@@ -21,11 +22,12 @@ module _ (at : ℕ → ℕ) (e r : ℕ) (lists : ℕ → List ℕ) (bit : ℕ �
   pub unwound-first : (s : ℕ) → r < 2 * e → IsSweep at e r (s ∷ []) → (word : List ℕ)
       → IsArrangementOf word (map edge_of (but (twin r) (darts_at at e s))) → lists s ≡ edge_of r ∷ reverse word
       → IsStagePair at e (all_given lists) r (s ∷ []) word bit
-  unwound-first s lt_r sweep word a list_is = (IsStagePair-first at e r (all_given lists) no_loop lt_r s sweep word bit).1 (
-    a,
-    subst (λ b. IsTurn (directed b (lists s)) (edge_of r ∷ reverse word)) (sym (forward s))
-        (subst (λ ws. IsTurn ws (edge_of r ∷ reverse word)) (sym list_is) (turn-refl (edge_of r ∷ reverse word))),
-  )
+  unwound-first s lt_r sweep word a list_is =
+      (IsStagePair-first at e r (all_given lists) no_loop lt_r s sweep word bit).1 (
+        a,
+        subst (λ b. IsTurn (directed b (lists s)) (edge_of r ∷ reverse word)) (sym (forward s))
+            (subst (λ ws. IsTurn ws (edge_of r ∷ reverse word)) (sym list_is) (turn-refl (edge_of r ∷ reverse word))),
+      )
 
   -- each further vertex has the run of its edges to what is taken, and behind it that of its others in reverse
   pub unwound-step : (x y : ℕ) (others : List ℕ) → IsSweep at e r (x ∷ y ∷ others) → (front us vs behind : List ℕ)
@@ -34,7 +36,8 @@ module _ (at : ℕ → ℕ) (e r : ℕ) (lists : ℕ → List ℕ) (bit : ℕ �
       → IsStagePair at e (all_given lists) r (y ∷ others) (front ++ (us ++ behind)) bit
       → IsStagePair at e (all_given lists) r (x ∷ y ∷ others) (front ++ (reverse vs ++ behind)) bit
   unwound-step x y others sweep front us vs behind a b list_is pair =
-      (IsStagePair-step at e r (all_given lists) no_loop x y others sweep (front ++ (reverse vs ++ behind)) bit).1 (record {
+      (IsStagePair-step at e r (all_given lists) no_loop x y others sweep (front ++ (reverse vs ++ behind)) bit).1
+      (record {
         us = us;
         vs = vs;
         front = front;

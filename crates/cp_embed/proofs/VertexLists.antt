@@ -1,12 +1,12 @@
 -- Lists of all vertices of a map of darts, under their names, and the lists of a sweep.
-use Rattle.std.proofs.Common.{◌≡◌, ◌≢◌, ℕ, ◌*◌, ◌<◌, ◌⊎◌, ◌↔◌, Bool, Option, List, [], ◌∷◌, ◌++◌, map, reverse, eqb, cond, sym, refl, ap, ap₂, ◌∙◌, subst, inl, inr, ⊎_elim, arith}
-use Rattle.std.proofs.lemmas.Bool.{cases_eq, eq-eqb, ne_eqb}
+use Rattle.std.proofs.Common.{◌≡◌, ◌≢◌, ℕ, ◌<◌, ◌↔◌, Bool, Option, List, [], ◌∷◌, ◌++◌, map, reverse, eqb, cond, sym, refl, ap, ◌∙◌, subst, inl, inr, ⊎_elim}
+use Rattle.std.proofs.lemmas.Bool.{eq-eqb, ne_eqb}
 use Rattle.std.proofs.lemmas.List.{map-append}
-use Rattle.cp_lists.specs.CyclicLists.{Has, Lacks, Distinct, follow}
+use Rattle.cp_lists.specs.CyclicLists.{Has, Distinct, follow}
 use Rattle.cp_lists.specs.Rows.{flat}
-use Rattle.cp_lists.proofs.DistinctLists.{has_lacks, Lacks-from, Has-append_left, Has-append_right, Has-append_cases, Distinct-append}
-use Rattle.cp_lists.proofs.ReversedLists.{reverse-cons, Has-reverse, reverse-Has}
-use Rattle.cp_maps.specs.Maps.{IsMapOf, Ring, Rings}
+use Rattle.cp_lists.proofs.DistinctLists.{has_lacks, Lacks-from, Has-append_cases, Distinct-append}
+use Rattle.cp_lists.proofs.ReversedLists.{reverse-cons, reverse-Has}
+use Rattle.cp_maps.specs.Maps.{IsMapOf, Rings}
 use Rattle.cp_maps.proofs.ListFacts.{Below-from, map-agree}
 use Rattle.cp_maps.proofs.NamedLists.{named_item}
 use Rattle.cp_rot.proofs.ListSystems.{Listed, turn}
@@ -71,7 +71,8 @@ module _ (at : ℕ → ℕ) (e r : ℕ) (psi : ℕ → Option (List ℕ)) (bit :
   AreListsOf-names (s ∷ []) zs group sweep p = (
     λ v. zs,
     ap (λ gs. zs ∷ gs) p.0,
-    λ v h. ⊎_elim (λ k. subst (λ y. IsArrangementOf zs (darts_at at e y) × KeepsList psi bit y zs) k (p.1, p.2)) (λ k. absurd k) h,
+    λ v h. ⊎_elim (λ k. subst (λ y. IsArrangementOf zs (darts_at at e y) × KeepsList psi bit y zs) k (p.1, p.2))
+        (λ k. absurd k) h,
   )
   AreListsOf-names (x ∷ y ∷ taken) zs group sweep p =
       let w = AreListsOf-names (y ∷ taken) zs p.0 sweep.1 p.3 in
@@ -98,11 +99,13 @@ module _ (at : ℕ → ℕ) (e r : ℕ) (psi : ℕ → Option (List ℕ)) (bit :
                   )),
               p.5,
             )))
-            (λ k. subst (λ ws. IsArrangementOf ws (darts_at at e v) × KeepsList psi bit v ws) (sym (at_other v (other v k))) (w.2 v k))
+            (λ k. subst (λ ws. IsArrangementOf ws (darts_at at e v) × KeepsList psi bit v ws)
+            (sym (at_other v (other v k))) (w.2 v k))
             h,
       )
 
-  -- lists under the names of the vertices are lists of the vertices that are taken, in the order in which they were taken
+  -- lists under the names of the vertices are lists of the vertices that are taken, in the order in which they were
+  -- taken
   pub names-AreListsOf : (lists : ℕ → List ℕ) (taken : List ℕ) → IsSweep at e r taken
       → ((v : ℕ) → Has v taken → IsArrangementOf (lists v) (darts_at at e v) × KeepsList psi bit v (lists v))
       → (zs : List ℕ) × (group : List (List ℕ)) × (zs ∷ group ≡ map lists (reverse taken))
@@ -123,7 +126,8 @@ module _ (at : ℕ → ℕ) (e r : ℕ) (psi : ℕ → Option (List ℕ)) (bit :
           lists x,
           refl,
           w.3,
-          IsArrangementOf-items (lists x) (darts_at at e x) (ins_of at e (y ∷ taken) x ++ outs_of at e (y ∷ taken) x) of_x.0
+          IsArrangementOf-items (lists x) (darts_at at e x) (ins_of at e (y ∷ taken) x ++ outs_of at e (y ∷ taken) x)
+              of_x.0
               (λ d. (
                 λ m. (ins_outs-Has at e (y ∷ taken) x d).1 ((darts_at-Has at e d x).0 m),
                 λ m. (darts_at-Has at e d x).1 ((ins_outs-Has at e (y ∷ taken) x d).0 m),

@@ -46,7 +46,8 @@ pub record IsRunExchanged (row new : List ℕ) (v : ℕ) (pairs : Pairs) (word :
 abbrev pub SamePairs : Pairs → Pairs → Type 0
 SamePairs pairs others = (word : List ℕ) (bit : ℕ → Bool) → pairs word bit ↔ others word bit
 
--- a word behind a step of a sweep: in a word before, a run us of the edges of ins is exchanged for the reverse of a row of
+-- a word behind a step of a sweep: in a word before, a run us of the edges of ins is exchanged for the reverse of a
+-- row of
 -- the edges of outs, and the two are the list of the vertex that is taken
 pub record IsStepWord (ins outs : List ℕ) (kept before : List ℕ → Type 0) (word : List ℕ) : Type 0 where
   pub us : List ℕ

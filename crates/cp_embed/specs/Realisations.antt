@@ -1,12 +1,12 @@
--- Rotation systems of a graph in the plane that have a given cyclic order at one vertex, and keep given lists at the others.
+-- Rotation systems of a graph in the plane that have a given cyclic order at one vertex, and keep given lists at the
+-- others.
 use Rattle.std.specs.Prelude.{◌≡◌, ◌≢◌, ℕ, ◌<◌, Bool, Option, List, length, map}
 use Rattle.cp_lists.specs.Turns.{IsTurn}
 use Rattle.cp_base.specs.Graphs.{PlainGraph}
 use Rattle.cp_conn.specs.Darts.{start}
 use Rattle.cp_rot.specs.Genus.{HasGenusZero}
 use Rattle.cp_rot.specs.Systems.{System, IsRotation, darts, edges, vertex_of, list_of}
-use Rattle.cp_embed.specs.Directions.{KeepsDirection}
-use Rattle.cp_embed.specs.Sweeps.{edge_of}
+use Rattle.cp_embed.specs.Directions.{KeepsDirection, edge_of}
 
 -- the edges round a vertex of a rotation system, counterclockwise
 abbrev pub edges_round : System → ℕ → List ℕ
@@ -19,9 +19,11 @@ pub record IsRotationOfGraph (g : PlainGraph) (r : System) : Type 0 where
   pub edges_are : edges r ≡ length g.ends
   pub at_ends : (d : ℕ) → d < darts r → vertex_of r d ≡ start g.ends d
 
--- the system is one of the graph in the plane, the edges round t have the cyclic order, and each other vertex with a given
+-- the system is one of the graph in the plane, the edges round t have the cyclic order, and each other vertex with a
+-- given
 -- list keeps it in the direction of its bit
-pub record Realises (g : PlainGraph) (psi : ℕ → Option (List ℕ)) (t : ℕ) (order : List ℕ) (bit : ℕ → Bool) (r : System) : Type 0 where
+pub record Realises (g : PlainGraph) (psi : ℕ → Option (List ℕ)) (t : ℕ) (order : List ℕ) (bit : ℕ → Bool)
+    (r : System) : Type 0 where
   pub of_graph : IsRotationOfGraph g r
   pub plane : HasGenusZero r
   pub order_is : IsTurn order (edges_round r t)

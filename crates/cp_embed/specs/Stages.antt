@@ -1,5 +1,5 @@
 -- The stages of an embedding: the first vertices of an order, each with its list, and all others as one vertex.
-use Rattle.std.specs.Prelude.{◌≡◌, ℕ, ◌*◌, List, [], ◌∷◌, ◌++◌}
+use Rattle.std.specs.Prelude.{◌≡◌, ℕ, List, [], ◌∷◌, ◌++◌}
 use Rattle.cp_lists.specs.Rows.{flat}
 use Rattle.cp_maps.specs.Genus.{CanBeFlat}
 use Rattle.cp_maps.specs.Gluings.{Grows}
@@ -14,8 +14,10 @@ abbrev pub IsFirstVertex : (List ℕ → Type 0) → List ℕ → List ℕ → L
 IsFirstVertex good items zs group = (group ≡ []) × IsArrangementOf zs items × good zs
 
 -- a prefix that may be, with one vertex more at the end, whose list has these darts and is good
-abbrev pub HasVertexMore : (List ℕ → List (List ℕ) → Type 0) → (List ℕ → Type 0) → List ℕ → List ℕ → List (List ℕ) → Type 0
-HasVertexMore may good items zs more = (group : List (List ℕ)) × (row : List ℕ) × (more ≡ group ++ row ∷ []) × may zs group
+abbrev pub HasVertexMore : (List ℕ → List (List ℕ) → Type 0) → (List ℕ → Type 0) → List ℕ → List ℕ → List (List ℕ)
+    → Type 0
+HasVertexMore may good items zs more = (group : List (List ℕ)) × (row : List ℕ) ×
+    (more ≡ group ++ row ∷ []) × may zs group
     × IsArrangementOf row items × good row
 
 -- the prefixes that may be are connected, and have the darts all

@@ -6,12 +6,8 @@ use Rattle.std.specs.List.{filter, range_with_len}
 use Rattle.cp_lists.specs.CyclicLists.{Has, Lacks, Distinct}
 use Rattle.cp_faces.specs.Twins.{twin}
 use Rattle.cp_maps.specs.Maps.{has}
-use Rattle.cp_embed.specs.Directions.{KeepsDirection}
+use Rattle.cp_embed.specs.Directions.{KeepsDirection, edge_of}
 use Rattle.cp_embed.specs.Stages.{IsStageOrder, IsFirstVertex, HasVertexMore}
-
--- the edge of a dart
-abbrev pub edge_of : ℕ → ℕ
-edge_of d = d / 2
 
 -- the darts at a vertex, of e edges
 abbrev pub darts_at : (ℕ → ℕ) → ℕ → ℕ → List ℕ
@@ -48,9 +44,11 @@ pub record LeadsInto (at : ℕ → ℕ) (e : ℕ) (taken : List ℕ) (d : ℕ) :
   pub outside : Lacks (at d) taken
   pub into : Has (at (twin d)) taken
 
--- a cyclic order of edges, written behind the edge of dart r, and bits are a pair of the stage: some map in the plane of
+-- a cyclic order of edges, written behind the edge of dart r, and bits are a pair of the stage: some map in the plane
+-- of
 -- the vertices that are taken and the rest has the order at the rest, and keeps each given list by its bit
-pub record IsStagePair (at : ℕ → ℕ) (e : ℕ) (psi : ℕ → Option (List ℕ)) (r : ℕ) (taken : List ℕ) (word : List ℕ) (bit : ℕ → Bool) : Type 0 where
+pub record IsStagePair (at : ℕ → ℕ) (e : ℕ) (psi : ℕ → Option (List ℕ)) (r : ℕ) (taken : List ℕ) (word : List ℕ)
+    (bit : ℕ → Bool) : Type 0 where
   pub row : List ℕ
   pub word_is : word ≡ map edge_of row
   pub once : Distinct (r ∷ row)
