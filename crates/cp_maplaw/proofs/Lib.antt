@@ -4,3 +4,5 @@ pub mod Matches
 pub mod NamedRests
 pub mod BondedPoles
 pub mod NamedBlocks
+-- examples
+mod Rows
