@@ -21,4 +21,5 @@ mod LastStages
 mod RealisedOrders
 mod BipolarSweeps
 mod Unwinding
+mod TreePairs
 mod Triangle

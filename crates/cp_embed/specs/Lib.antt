@@ -8,3 +8,4 @@ pub mod Stages
 pub mod Sweeps
 pub mod Pairs
 pub mod Splits
+pub mod TreePairs
