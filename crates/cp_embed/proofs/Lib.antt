@@ -22,4 +22,5 @@ mod RealisedOrders
 mod BipolarSweeps
 mod Unwinding
 mod TreePairs
+mod ReplacedPairs
 mod Triangle
