@@ -1,7 +1,9 @@
 -- What replacing a part of an order tree makes of its set of pairs.
 use Rattle.std.proofs.Common.{◌≡◌, ◌≢◌, ℕ, ◌<◌, ◌≤◌, ◌⊎◌, ◌↔◌, Bool, List, [], ◌∷◌, ◌++◌, length, drop, append-nil, sym, refl, ap, ap₂, ◌∙◌, subst, inl, inr, ⊎_elim}
+use Rattle.std.specs.List.Sorted.{IsPermutation}
+use Rattle.std.proofs.lemmas.List.Sorted.{Contains-permutation, IsPermutation-sym}
 use Rattle.cp_lists.specs.CyclicLists.{Has, Lacks, Distinct, head_or}
-use Rattle.cp_lists.proofs.DistinctLists.{has_lacks, Has-append_left, Has-append_right, Distinct-apart, Distinct-append_left, Distinct-append_right}
+use Rattle.cp_lists.proofs.DistinctLists.{has_lacks, Has-append_left, Has-append_right, Has-Contains, Distinct-apart, Distinct-append_left, Distinct-append_right}
 use Rattle.cp_lists.proofs.TurnedLists.{cut_twice}
 use Rattle.cp_pq.specs.declared.node.Node.{Node}
 use Rattle.cp_pq.specs.declared.part.Part.{Part}
@@ -64,10 +66,19 @@ same_run fs bs cs xs ys zs i dis whole one same = ⊎_elim
     (sym (w.1 ∙ ap (λ es. fs ++ es) none ∙ append-nil fs), rest.0, rest.1))
     (cut_twice fs (bs ++ cs) xs (ys ++ zs) whole)
 
--- a tree of which the part that a set with an item fills is replaced by a node
+-- a permutation has the same items
+IsPermutation-Has : (xs ys : List ℕ) (d : ℕ) → IsPermutation xs ys → Has d xs ↔ Has d ys
+IsPermutation-Has xs ys d p = (
+  λ h. (Has-Contains d ys).1 (Contains-permutation xs ys d p ((Has-Contains d xs).0 h)),
+  λ h. (Has-Contains d xs).1 (Contains-permutation ys xs d (IsPermutation-sym xs ys p) ((Has-Contains d ys).0 h)),
+)
+
+-- a tree of which the part that a set with an item fills is replaced by a node: all readings of the part by the same bits
+-- have the same items, and no old pair has an item twice
 module _ (n : ℕ) (set : List ℕ) (node : Node) (old new : PQTree) (part : Part) (replaced : IsReplaced set node old new part)
     (i : ℕ) (one : Has i set) (root_out : Has old.root set → ⊥)
-    (part_reads : (bits : List Bool) (word : List ℕ) → ReadsPart (given bits) part word → IsArrangementOf word set)
+    (part_same : (bits : List Bool) (us vs : List ℕ) (d : ℕ) → ReadsPart (given bits) part us
+    → ReadsPart (given bits) part vs → Has d us → Has d vs)
     (words : (word : List ℕ) (bit : ℕ → Bool) → pairs_of n old word bit → Distinct (old.root ∷ word)) where
   -- a new pair, with what was taken in place of the reading of the node
   pub record IsPutBack (word : List ℕ) (bit : ℕ → Bool) : Type 0 where
@@ -82,6 +93,22 @@ module _ (n : ℕ) (set : List ℕ) (node : Node) (old new : PQTree) (part : Par
     pub reads : Reads (given bits) node run
     pub taken_is : IsArrangementOf taken set
     pub pair : IsPair old (old.root ∷ (front ++ (taken ++ behind))) bits
+
+  -- a reading of the part in an old pair is an arrangement of the set
+  part_arranges : (front word behind : List ℕ) (bit : ℕ → Bool) → (p : pairs_of n old (front ++ (word ++ behind)) bit)
+      → ReadsPart (given p.0) part word → IsArrangementOf word set
+  part_arranges front word behind bit p reads =
+      let h : HasPart set old new part node (old.root ∷ (front ++ (word ++ behind))) p.0 =
+      replaced.keeps (old.root ∷ (front ++ (word ++ behind))) p.0 p.1
+      in
+      record {
+        distinct = Distinct-append_left word behind (Distinct-append_right front (word ++ behind)
+            (words (front ++ (word ++ behind)) bit p).1);
+        items = λ d. (
+          λ k. (IsPermutation-Has set h.run d h.run_is).1 (part_same p.0 word h.run d reads h.reads k),
+          λ k. part_same p.0 h.run word d h.reads reads ((IsPermutation-Has set h.run d h.run_is).0 k),
+        );
+      }
 
   -- each new pair is of this kind, where the root is in no reading of the node, and none is empty
   put_back : ((bits : List Bool) (run : List ℕ) → Reads (given bits) node run → (Has old.root run → ⊥) × (run ≢ []))
@@ -106,10 +133,13 @@ module _ (n : ℕ) (set : List ℕ) (node : Node) (old new : PQTree) (part : Par
         count = taken.2.bits_count;
         word_is = ap (drop 1) whole;
         reads = reads;
-        taken_is = part_reads p.0 taken.0 taken.1;
-        pair = subst (λ root. IsPair old (root ∷ (front ++ (taken.0 ++ after))) p.0)
-            (sym (ap (head_or b) whole) ∙ replaced.root) taken.2;
+        taken_is = part_arranges front taken.0 after bit (p.0, old_pair, p.2) taken.1;
+        pair = old_pair;
       }
+        where
+          old_pair : IsPair old (old.root ∷ (front ++ (taken.0 ++ after))) p.0
+          old_pair = subst (λ root. IsPair old (root ∷ (front ++ (taken.0 ++ after))) p.0)
+              (sym (ap (head_or b) whole) ∙ replaced.root) taken.2
 
   -- and in an old pair a run of the items of the set can be exchanged for a reading of the node
   put_in : (front taken behind run : List ℕ) (bit : ℕ → Bool) → (p : pairs_of n old (front ++ (taken ++ behind)) bit)
@@ -118,10 +148,12 @@ module _ (n : ℕ) (set : List ℕ) (node : Node) (old new : PQTree) (part : Par
       let h : HasPart set old new part node (old.root ∷ (front ++ (taken ++ behind))) p.0 =
       replaced.keeps (old.root ∷ (front ++ (taken ++ behind))) p.0 p.1
       in
-      let filled : IsArrangementOf h.run set = part_reads p.0 h.run h.reads in
       let same = same_run (old.root ∷ front) taken behind h.before h.run h.after i
       (words (front ++ (taken ++ behind)) bit p) h.order_is ((taken_is.items i).1 one)
-      (λ d. ((λ k. (filled.items d).1 ((taken_is.items d).0 k)), (λ k. (taken_is.items d).1 ((filled.items d).0 k))))
+      (λ d. (
+        (λ k. (IsPermutation-Has set h.run d h.run_is).0 ((taken_is.items d).0 k)),
+        (λ k. (taken_is.items d).1 ((IsPermutation-Has set h.run d h.run_is).1 k)),
+      ))
       in (
         p.0,
         subst (λ root. IsPair new (root ∷ (front ++ (run ++ behind))) p.0) (sym replaced.root)
