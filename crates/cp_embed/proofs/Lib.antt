@@ -23,4 +23,5 @@ mod BipolarSweeps
 mod Unwinding
 mod TreePairs
 mod ReplacedPairs
+mod TreeSteps
 mod Triangle

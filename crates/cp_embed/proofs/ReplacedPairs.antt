@@ -188,14 +188,14 @@ module _ (n : ℕ) (set : List ℕ) (node : Node) (old new : PQTree) (part : Par
 
   -- a node that reads the new row in the direction of the bit of v, in place of the row of the set in that direction: the
   -- pairs with the row exchanged for the new row
-  pub replaced_run-SamePairs : (row new_row : List ℕ) (v : ℕ) → v < n → n ≤ old.vars
+  pub replaced_run-SamePairs : (row new_row : List ℕ) (v : ℕ) → v < n
       → ((b : Bool) → IsArrangementOf (directed b row) set)
       → ((b : Bool) → (Has old.root (directed b new_row) → ⊥) × (directed b new_row ≢ []))
       → ((bits : List Bool) (word : List ℕ) → Reads (given bits) node word → word ≡ directed (bit_of bits v) new_row)
       → ((bits : List Bool) → length bits ≡ old.vars → Reads (given bits) node (directed (bit_of bits v) new_row))
       → ((word : List ℕ) (bit : ℕ → Bool) → pairs_of n old word bit → HasRun row v (pairs_of n old) word bit)
       → SamePairs (pairs_of n new) (IsRunExchanged row new_row v (pairs_of n old))
-  replaced_run-SamePairs row new_row v lt le row_is new_out reads_only reads_all runs word bit = (
+  replaced_run-SamePairs row new_row v lt row_is new_out reads_only reads_all runs word bit = (
     λ p.
         let w : IsPutBack word bit = put_back (λ bits run reads.
         let same : directed (bit_of bits v) new_row ≡ run = sym (reads_only bits run reads) in
