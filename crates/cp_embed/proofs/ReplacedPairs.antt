@@ -1,8 +1,8 @@
 -- What replacing a part of an order tree makes of its set of pairs.
-use Rattle.std.proofs.Common.{◌≡◌, ◌≢◌, ℕ, ◌<◌, ◌≤◌, ◌⊎◌, ◌↔◌, Bool, List, [], ◌∷◌, ◌++◌, length, drop, append-nil, sym, refl, ap, ap₂, ◌∙◌, subst, inl, inr, ⊎_elim}
+use Rattle.std.proofs.Common.{◌≡◌, ◌≢◌, ℕ, ◌<◌, ◌↔◌, Bool, List, [], ◌∷◌, ◌++◌, length, drop, append-nil, sym, refl, ap, ap₂, ◌∙◌, subst, inl, ⊎_elim}
 use Rattle.std.specs.List.Sorted.{IsPermutation}
 use Rattle.std.proofs.lemmas.List.Sorted.{Contains-permutation, IsPermutation-sym}
-use Rattle.cp_lists.specs.CyclicLists.{Has, Lacks, Distinct, head_or}
+use Rattle.cp_lists.specs.CyclicLists.{Has, Distinct, head_or}
 use Rattle.cp_lists.proofs.DistinctLists.{has_lacks, Has-append_left, Has-append_right, Has-Contains, Distinct-apart, Distinct-append_left, Distinct-append_right}
 use Rattle.cp_lists.proofs.TurnedLists.{cut_twice}
 use Rattle.cp_pq.specs.declared.node.Node.{Node}
@@ -13,14 +13,15 @@ use Rattle.cp_pq.specs.Readings.{Reads, given}
 use Rattle.cp_pq.specs.Trees.{PQTree, IsPair}
 use Rattle.cp_embed.specs.Arrangements.{IsArrangementOf}
 use Rattle.cp_embed.specs.Directions.{directed}
-use Rattle.cp_embed.specs.Pairs.{Pairs, IsExchanged, HasRun, IsRunExchanged, SamePairs}
+use Rattle.cp_embed.specs.Pairs.{IsExchanged, HasRun, IsRunExchanged, SamePairs}
 use Rattle.cp_embed.specs.TreePairs.{pairs_of}
 
 -- of two lists that make one distinct list together with others the one with more items has one that the other has not
 longer_none : (bs es : List ℕ) → Distinct (bs ++ es) → ((d : ℕ) → Has d (bs ++ es) → Has d bs) → es ≡ []
 longer_none bs [] dis all = refl
 longer_none bs (e ∷ es) dis all =
-    absurd (has_lacks e (e ∷ es) (inl refl) (Distinct-apart e bs (e ∷ es) dis (all e (Has-append_right e bs (e ∷ es) (inl refl)))))
+    absurd (has_lacks e (e ∷ es) (inl refl)
+    (Distinct-apart e bs (e ∷ es) dis (all e (Has-append_right e bs (e ∷ es) (inl refl)))))
 
 -- two starts of one list with the same items are equal
 same_start : (bs cs ys zs : List ℕ) → Distinct (bs ++ cs) → bs ++ cs ≡ ys ++ zs → ((d : ℕ) → Has d bs ↔ Has d ys)
@@ -40,7 +41,8 @@ same_start bs cs ys zs dis whole same = ⊎_elim
     (cut_twice bs cs ys zs whole)
 
 -- a list with an item is no empty one in front of which others stand
-late_run : (es ys zs vs : List ℕ) (i : ℕ) → Has i ys → ys ++ zs ≡ es ++ vs → ((d : ℕ) → Has d es → Has d ys → ⊥) → es ≡ []
+late_run : (es ys zs vs : List ℕ) (i : ℕ) → Has i ys → ys ++ zs ≡ es ++ vs → ((d : ℕ) → Has d es → Has d ys → ⊥)
+    → es ≡ []
 late_run [] ys zs vs i h whole apart = refl
 late_run (e ∷ es) [] zs vs i h whole apart = absurd h
 late_run (e ∷ es) (y ∷ ys) zs vs i h whole apart = absurd (apart e (inl refl) (inl (ap (head_or y) whole)))
@@ -54,7 +56,8 @@ same_run fs bs cs xs ys zs i dis whole one same = ⊎_elim
     (λ d h k. has_lacks d (bs ++ cs) (Has-append_left d bs cs ((same d).1 k))
     (Distinct-apart d fs (bs ++ cs) dis (subst (Has d) (sym w.1) (Has-append_right d xs w.0 h))))
     in
-    let rest = same_start bs cs ys zs (Distinct-append_right fs (bs ++ cs) dis) (sym (w.2 ∙ ap (λ es. es ++ (bs ++ cs)) none)) same in
+    let rest = same_start bs cs ys zs (Distinct-append_right fs (bs ++ cs) dis)
+    (sym (w.2 ∙ ap (λ es. es ++ (bs ++ cs)) none)) same in
     (w.1 ∙ ap (λ es. xs ++ es) none ∙ append-nil xs, rest.0, rest.1))
     (λ w.
     let dis' : Distinct (xs ++ (ys ++ zs)) = subst Distinct whole dis in
@@ -62,7 +65,8 @@ same_run fs bs cs xs ys zs i dis whole one same = ⊎_elim
     (λ d h k. has_lacks d (ys ++ zs) (Has-append_left d ys zs ((same d).0 k))
     (Distinct-apart d xs (ys ++ zs) dis' (subst (Has d) (sym w.1) (Has-append_right d fs w.0 h))))
     in
-    let rest = same_start bs cs ys zs (Distinct-append_right fs (bs ++ cs) dis) (w.2 ∙ ap (λ es. es ++ (ys ++ zs)) none) same in
+    let rest = same_start bs cs ys zs (Distinct-append_right fs (bs ++ cs) dis)
+    (w.2 ∙ ap (λ es. es ++ (ys ++ zs)) none) same in
     (sym (w.1 ∙ ap (λ es. fs ++ es) none ∙ append-nil fs), rest.0, rest.1))
     (cut_twice fs (bs ++ cs) xs (ys ++ zs) whole)
 
@@ -73,9 +77,11 @@ IsPermutation-Has xs ys d p = (
   λ h. (Has-Contains d xs).1 (Contains-permutation ys xs d (IsPermutation-sym xs ys p) ((Has-Contains d ys).0 h)),
 )
 
--- a tree of which the part that a set with an item fills is replaced by a node: all readings of the part by the same bits
+-- a tree of which the part that a set with an item fills is replaced by a node: all readings of the part by the same
+-- bits
 -- have the same items, and no old pair has an item twice
-module _ (n : ℕ) (set : List ℕ) (node : Node) (old new : PQTree) (part : Part) (replaced : IsReplaced set node old new part)
+module _ (n : ℕ) (set : List ℕ) (node : Node) (old new : PQTree) (part : Part)
+    (replaced : IsReplaced set node old new part)
     (i : ℕ) (one : Has i set) (root_out : Has old.root set → ⊥)
     (part_same : (bits : List Bool) (us vs : List ℕ) (d : ℕ) → ReadsPart (given bits) part us
     → ReadsPart (given bits) part vs → Has d us → Has d vs)
@@ -186,7 +192,8 @@ module _ (n : ℕ) (set : List ℕ) (node : Node) (old new : PQTree) (part : Par
         (put_in h.front h.taken h.behind h.run bit h.pair h.taken_is ((node_reads h.pair.0 h.run).1 h.run_is)),
   )
 
-  -- a node that reads the new row in the direction of the bit of v, in place of the row of the set in that direction: the
+  -- a node that reads the new row in the direction of the bit of v, in place of the row of the set in that direction:
+  -- the
   -- pairs with the row exchanged for the new row
   pub replaced_run-SamePairs : (row new_row : List ℕ) (v : ℕ) → v < n
       → ((b : Bool) → IsArrangementOf (directed b row) set)
@@ -216,7 +223,8 @@ module _ (n : ℕ) (set : List ℕ) (node : Node) (old new : PQTree) (part : Par
           pair = subst (λ ws. pairs_of n old (w.front ++ (ws ++ w.behind)) bit) same.1 q;
         },
     λ h.
-        let way : directed (bit_of h.pair.0 v) new_row ≡ directed (bit v) new_row = ap (λ b. directed b new_row) (h.pair.2 v lt) in
+        let way : directed (bit_of h.pair.0 v) new_row ≡ directed (bit v) new_row = ap (λ b. directed b new_row)
+        (h.pair.2 v lt) in
         subst (λ ws. pairs_of n new ws bit) (sym h.word_is)
         (put_in h.front (directed (bit v) row) h.behind (directed (bit v) new_row) bit h.pair (row_is (bit v))
         (subst (Reads (given h.pair.0) node) way (reads_all h.pair.0 h.pair.1.bits_count))),

@@ -1,18 +1,16 @@
 -- What reducing and forcing an order tree make of its set of pairs.
-use Rattle.std.proofs.Common.{◌≡◌, ◌≢◌, ℕ, zero, suc, ◌<◌, ◌≤◌, ◌⊎◌, ◌↔◌, Bool, true, false, not, ◌||◌, ◌&&◌, eqb, List, [], ◌∷◌, ◌++◌, length, take, drop, reverse, sym, refl, ap, ◌∙◌, subst, inl, inr, ⊎_elim, arith}
-use Rattle.std.specs.List.{list_all, list_any}
-use Rattle.std.specs.Prelude.{slice_index_or}
+use Rattle.std.proofs.Common.{◌≡◌, ℕ, zero, suc, ◌<◌, ◌≤◌, Bool, true, false, not, ◌&&◌, eqb, List, [], ◌∷◌, ◌++◌, length, take, drop, sym, refl, ap, ◌∙◌, subst, inl, inr, ⊎_elim, arith}
+use Rattle.std.specs.List.{list_all}
 use Rattle.std.proofs.lemmas.Bool.{cases_Bool, eq-eqb, eqb-true, or_left, or_right, or_cases, false≢true}
 use Rattle.std.proofs.lemmas.List.{get_or_append_left}
-use Rattle.cp_lists.specs.CyclicLists.{Has, Lacks, Distinct, head_or}
-use Rattle.cp_lists.proofs.DistinctLists.{has_lacks, Lacks-from, Has-append_left, Has-append_right, Has-append_cases, Distinct-apart, Distinct-append_left, Distinct-append_right}
+use Rattle.cp_lists.specs.CyclicLists.{Has, Distinct, head_or}
+use Rattle.cp_lists.proofs.DistinctLists.{has_lacks, Has-append_left, Has-append_cases, Distinct-apart, Distinct-append_left, Distinct-append_right}
 use Rattle.cp_pq.specs.Bits.{bit_of}
-use Rattle.cp_pq.specs.Orders.{inside, outside, IsConsecutive, HasRow}
+use Rattle.cp_pq.specs.Orders.{inside, outside, IsConsecutive}
 use Rattle.cp_pq.specs.Promises.{IsReduced, IsForced, in_direction}
 use Rattle.cp_pq.specs.Trees.{PQTree, IsPair}
-use Rattle.cp_embed.specs.Arrangements.{IsArrangementOf}
 use Rattle.cp_embed.specs.Directions.{directed}
-use Rattle.cp_embed.specs.Pairs.{Pairs, HasTogether, HasRun, SamePairs}
+use Rattle.cp_embed.specs.Pairs.{HasTogether, HasRun, SamePairs}
 use Rattle.cp_embed.specs.TreePairs.{pairs_of}
 
 -- an item inside a set is one of it
@@ -105,7 +103,8 @@ module _ (n : ℕ) (old new : PQTree) (le : n ≤ old.vars) (root_is : new.root 
     λ v lt. bit_of-append p.0 more v (omega (arith, lt, le, p.1.bits_count)) ∙ p.2 v lt,
   )
 
--- reducing keeps the pairs in which the set is consecutive: each word has all items of the set once, and the root is none
+-- reducing keeps the pairs in which the set is consecutive: each word has all items of the set once, and the root is
+-- none
 pub reduced-SamePairs : (n : ℕ) (set : List ℕ) (old new : PQTree) → n ≤ old.vars → IsReduced set old new
     → (Has old.root set → ⊥)
     → ((word : List ℕ) (bit : ℕ → Bool) → pairs_of n old word bit → Distinct word × ((d : ℕ) → Has d set → Has d word))
@@ -118,7 +117,8 @@ reduced-SamePairs n set old new le red root_out words word bit = (to, from)
         let q : pairs_of n old word bit = first_bits n old new le red.root word bit p.0 w.0 p.2 in
         let c : IsConsecutive set (new.root ∷ word) = w.1 in
         let b = behind_root new.root word c.before c.run c.after
-        (λ h. root_out (subst (λ root. Has root set) red.root (inside-Has set new.root (list_all-Has (inside set) c.run new.root c.all_inside h))))
+        (λ h. root_out (subst (λ root. Has root set) red.root
+        (inside-Has set new.root (list_all-Has (inside set) c.run new.root c.all_inside h))))
         c.order_is
         in
         let whole = words word bit q in
@@ -155,7 +155,8 @@ reduced-SamePairs n set old new le red root_out words word bit = (to, from)
           none_before = Has-list_all (outside set) (old.root ∷ h.front) (λ d m. ⊎_elim
               (λ s. Lacks-outside set d (λ z. root_out (subst (λ u. Has u set) (sym s) z)))
               (λ l. Lacks-outside set d (λ z. has_lacks d (h.run ++ h.behind)
-              (Has-append_left d h.run h.behind ((h.run_is.items d).1 z)) (Distinct-apart d h.front (h.run ++ h.behind) once l)))
+              (Has-append_left d h.run h.behind ((h.run_is.items d).1 z))
+              (Distinct-apart d h.front (h.run ++ h.behind) once l)))
               m);
           all_inside = Has-list_all (inside set) h.run (λ d m. Has-inside set d ((h.run_is.items d).0 m));
           none_after = Has-list_all (outside set) h.behind (λ d m. Lacks-outside set d

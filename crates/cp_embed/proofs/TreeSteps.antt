@@ -1,6 +1,7 @@
--- The loop of an embedding: from an order tree whose pairs are those of a stage, by two calls, to one of the next stage.
-use Rattle.std.proofs.Common.{◌≡◌, ◌≢◌, ℕ, ◌*◌, ◌<◌, ◌≤◌, ◌⊎◌, ◌↔◌, Bool, Option, Some, None, List, [], ◌∷◌, ◌++◌, length, map, reverse, sym, refl, ap, ◌∙◌, subst, inl, inr, ⊎_elim}
-use Rattle.cp_lists.specs.CyclicLists.{Has, Lacks, Distinct}
+-- The loop of an embedding: from an order tree whose pairs are those of a stage, by two calls, to one of the next
+-- stage.
+use Rattle.std.proofs.Common.{◌≡◌, ◌≢◌, ℕ, ◌*◌, ◌<◌, ◌≤◌, ◌↔◌, Bool, Option, Some, None, List, ◌∷◌, ◌++◌, length, map, reverse, sym, ap, ◌∙◌, subst, ⊎_elim}
+use Rattle.cp_lists.specs.CyclicLists.{Has, Distinct}
 use Rattle.cp_lists.proofs.DistinctLists.{has_lacks}
 use Rattle.cp_lists.proofs.MappedLists.{Has-map_on, map_on-Has, Distinct-map_on}
 use Rattle.cp_faces.specs.Twins.{twin}
@@ -27,7 +28,8 @@ use Rattle.cp_embed.proofs.TreePairs.{reduced-SamePairs, forced-SamePairs}
 
 -- equal sets of pairs, over a third one
 SamePairs-trans : (one two three : Pairs) → SamePairs one two → SamePairs two three → SamePairs one three
-SamePairs-trans one two three a b word bit = ((λ h. (b word bit).0 ((a word bit).0 h)), (λ h. (a word bit).1 ((b word bit).1 h)))
+SamePairs-trans one two three a b word bit =
+    ((λ h. (b word bit).0 ((a word bit).0 h)), (λ h. (a word bit).1 ((b word bit).1 h)))
 
 -- equal sets with one set of items exchanged for one other are equal
 IsExchanged-same : (set new_items others news : List ℕ) (one two : Pairs) → ((d : ℕ) → Has d set ↔ Has d others)
@@ -60,7 +62,8 @@ HasTogether-same set others one two set_is same word bit p = record {
 Has-sym : (xs ys : List ℕ) → ((d : ℕ) → Has d xs ↔ Has d ys) → (d : ℕ) → Has d ys ↔ Has d xs
 Has-sym xs ys same d = ((same d).1, (same d).0)
 
--- a map of darts without loops, given lists, and a vertex x that is taken next behind y and others; a tree whose pairs are
+-- a map of darts without loops, given lists, and a vertex x that is taken next behind y and others; a tree whose
+-- pairs are
 -- those of the stage before, with the edge of r as its root
 module _ (at : ℕ → ℕ) (e r : ℕ) (psi : ℕ → Option (List ℕ))
     (no_loop : (d : ℕ) → d < 2 * e → at (twin d) ≢ at d) (lt_r : r < 2 * e) (x y : ℕ) (others : List ℕ)
@@ -112,7 +115,8 @@ module _ (at : ℕ → ℕ) (e r : ℕ) (psi : ℕ → Option (List ℕ))
       let w = (outs_of-Has at e (y ∷ others) x c.0).0 c.1 in
       ⊎_elim
       (λ s. sweep.0.not_last (ap at s ∙ w.1))
-      (λ s. has_lacks x (y ∷ others) (subst (λ z. Has z (y ∷ others)) (ap at (sym s) ∙ w.1) root_leads.into) sweep.0.new)
+      (λ s. has_lacks x (y ∷ others) (subst (λ z. Has z (y ∷ others)) (ap at (sym s) ∙ w.1) root_leads.into)
+      sweep.0.new)
       (same_half r c.0 (sym (c.2 ∙ root)))
 
   -- some edge of x leads to what is taken
@@ -128,9 +132,11 @@ module _ (at : ℕ → ℕ) (e r : ℕ) (psi : ℕ → Option (List ℕ))
       (replaced : IsReplaced set node mid new part)
       (part_same : (bits : List Bool) (us vs : List ℕ) (d : ℕ) → ReadsPart (given bits) part us
       → ReadsPart (given bits) part vs → Has d us → Has d vs) where
-    -- a vertex without a given list: reduce by its edges to what is taken, and put in a node that reads its others in any
+    -- a vertex without a given list: reduce by its edges to what is taken, and put in a node that reads its others in
+    -- any
     -- order
-    pub free_tree_step : psi x ≡ None → IsReduced set old mid → (new_items : List ℕ) → ((d : ℕ) → Has d new_items ↔ Has d outs)
+    pub free_tree_step : psi x ≡ None → IsReduced set old mid → (new_items : List ℕ)
+        → ((d : ℕ) → Has d new_items ↔ Has d outs)
         → ((bits : List Bool) (word : List ℕ) → Reads (given bits) node word ↔ IsArrangementOf word new_items)
         → SamePairs (pairs_of n new) (IsStagePair at e psi r (x ∷ y ∷ others))
     free_tree_step none reduced new_items new_is node_reads =
@@ -151,25 +157,34 @@ module _ (at : ℕ → ℕ) (e r : ℕ) (psi : ℕ → Option (List ℕ))
         SamePairs-trans (pairs_of n mid) (HasTogether set (pairs_of n old)) (HasTogether ins (pairs_of n old)) one
         (λ word bit. (
           HasTogether-same set ins (pairs_of n old) (pairs_of n old) set_is (λ w b. ((λ h. h), (λ h. h))) word bit,
-          HasTogether-same ins set (pairs_of n old) (pairs_of n old) (Has-sym set ins set_is) (λ w b. ((λ h. h), (λ h. h))) word bit,
+          HasTogether-same ins set (pairs_of n old) (pairs_of n old) (Has-sym set ins set_is)
+              (λ w b. ((λ h. h), (λ h. h))) word bit,
         ))
         in
-        SamePairs-trans (pairs_of n new) (IsExchanged set new_items (pairs_of n mid)) (IsStagePair at e psi r (x ∷ y ∷ others)) two
-        (SamePairs-trans (IsExchanged set new_items (pairs_of n mid)) (IsExchanged ins outs (HasTogether ins (pairs_of n old)))
+        SamePairs-trans (pairs_of n new) (IsExchanged set new_items (pairs_of n mid))
+        (IsStagePair at e psi r (x ∷ y ∷ others)) two
+        (SamePairs-trans (IsExchanged set new_items (pairs_of n mid))
+        (IsExchanged ins outs (HasTogether ins (pairs_of n old)))
         (IsStagePair at e psi r (x ∷ y ∷ others))
         (λ word bit. (
-          IsExchanged-same set new_items ins outs (pairs_of n mid) (HasTogether ins (pairs_of n old)) set_is new_is three word bit,
-          IsExchanged-same ins outs set new_items (HasTogether ins (pairs_of n old)) (pairs_of n mid) (Has-sym set ins set_is)
+          IsExchanged-same set new_items ins outs (pairs_of n mid)
+              (HasTogether ins (pairs_of n old)) set_is new_is three word bit,
+          IsExchanged-same ins outs set new_items (HasTogether ins (pairs_of n old)) (pairs_of n mid)
+              (Has-sym set ins set_is)
               (Has-sym new_items outs new_is) (λ w b. ((three w b).1, (three w b).0)) word bit,
         ))
         (free_step-SamePairs at e r psi no_loop x y others sweep (pairs_of n old) same none))
 
-    -- a vertex with a given list: force the first part of its split by its bit, and put in a node that reads the second part
+    -- a vertex with a given list: force the first part of its split by its bit, and put in a node that reads the
+    -- second part
     -- in reverse by its bit
-    pub listed_tree_step : (list first second : List ℕ) → psi x ≡ Some list → Distinct list → IsSplit list ins outs first second
+    pub listed_tree_step : (list first second : List ℕ) → psi x ≡ Some list → Distinct list
+        → IsSplit list ins outs first second
         → x < n → IsForced first x old mid
-        → ((bits : List Bool) (word : List ℕ) → Reads (given bits) node word → word ≡ directed (bit_of bits x) (reverse second))
-        → ((bits : List Bool) → length bits ≡ mid.vars → Reads (given bits) node (directed (bit_of bits x) (reverse second)))
+        → ((bits : List Bool) (word : List ℕ) → Reads (given bits) node word
+        → word ≡ directed (bit_of bits x) (reverse second))
+        → ((bits : List Bool) → length bits ≡ mid.vars → Reads (given bits) node
+        (directed (bit_of bits x) (reverse second)))
         → SamePairs (pairs_of n new) (IsStagePair at e psi r (x ∷ y ∷ others))
     listed_tree_step list first second is_given once split lt forced reads_only reads_all =
         let rows : (b : Bool) → IsArrangementOf (directed b first) ins =
@@ -189,24 +204,33 @@ module _ (at : ℕ → ℕ) (e r : ℕ) (psi : ℕ → Option (List ℕ))
         first (reverse second) x lt
         (λ b. IsArrangementOf-items (directed b first) ins set (rows b) (Has-sym set ins set_is))
         (λ b. (
-          (λ h. root_not_out (((news b).items old.root).0 (subst (λ k. Has k (directed b (reverse second))) forced.root h))),
-          (λ none. subst (Has (edge_of sweep.0.leaves.0)) none (((news b).items (edge_of sweep.0.leaves.0)).1 some_out)),
+          (λ h. root_not_out (((news b).items old.root).0
+              (subst (λ k. Has k (directed b (reverse second))) forced.root h))),
+          (λ none. subst (Has (edge_of sweep.0.leaves.0)) none
+              (((news b).items (edge_of sweep.0.leaves.0)).1 some_out)),
         ))
         reads_only reads_all
-        (λ word bit q. let h = (one word bit).0 q in record { front = h.front; behind = h.behind; word_is = h.word_is; pair = q })
+        (λ word bit q. let h = (one word bit).0 q in record
+        { front = h.front; behind = h.behind; word_is = h.word_is; pair = q })
         in
         SamePairs-trans (pairs_of n new) (IsRunExchanged first (reverse second) x (pairs_of n mid))
         (IsStagePair at e psi r (x ∷ y ∷ others)) two
         (SamePairs-trans (IsRunExchanged first (reverse second) x (pairs_of n mid))
-        (IsRunExchanged first (reverse second) x (HasRun first x (pairs_of n old))) (IsStagePair at e psi r (x ∷ y ∷ others))
+        (IsRunExchanged first (reverse second) x (HasRun first x (pairs_of n old)))
+        (IsStagePair at e psi r (x ∷ y ∷ others))
         (λ word bit. (
           (λ p. record {
-            front = p.front; behind = p.behind; word_is = p.word_is;
+            front = p.front;
+            behind = p.behind;
+            word_is = p.word_is;
             pair = (one (p.front ++ (directed (bit x) first ++ p.behind)) bit).0 p.pair;
           }),
           (λ p. record {
-            front = p.front; behind = p.behind; word_is = p.word_is;
+            front = p.front;
+            behind = p.behind;
+            word_is = p.word_is;
             pair = (one (p.front ++ (directed (bit x) first ++ p.behind)) bit).1 p.pair;
           }),
         ))
-        (listed_step-SamePairs at e r psi no_loop x y others sweep (pairs_of n old) same list is_given first second once split))
+        (listed_step-SamePairs at e r psi no_loop x y others sweep
+        (pairs_of n old) same list is_given first second once split))

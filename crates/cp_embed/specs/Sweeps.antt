@@ -1,7 +1,7 @@
 -- Sweeps over the vertices of a map of darts: one vertex after another is taken, and those that are not yet taken are
 -- one vertex, the rest. Dart d stands at the vertex at d, and edge k has the darts 2 k and 2 k + 1. The vertices that
 -- are taken are written with the last one first.
-use Rattle.std.specs.Prelude.{◌≡◌, ◌≢◌, ℕ, ◌*◌, ◌/◌, ◌<◌, ◌↔◌, Bool, not, eqb, Option, List, [], ◌∷◌, ◌++◌, map}
+use Rattle.std.specs.Prelude.{◌≡◌, ◌≢◌, ℕ, ◌*◌, ◌<◌, ◌↔◌, Bool, not, eqb, Option, List, [], ◌∷◌, ◌++◌, map}
 use Rattle.std.specs.List.{filter, range_with_len}
 use Rattle.cp_lists.specs.CyclicLists.{Has, Lacks, Distinct}
 use Rattle.cp_faces.specs.Twins.{twin}
