@@ -24,4 +24,5 @@ mod Unwinding
 mod TreePairs
 mod ReplacedPairs
 mod TreeSteps
+mod StarPairs
 mod Triangle
