@@ -6,10 +6,6 @@ use Rattle.cp_lists.proofs.MappedLists.{Has-map_on, map_on-Has, Distinct-map_on}
 use Rattle.cp_lists.proofs.ReversedLists.{Has-reverse, reverse-Has, Distinct-reverse}
 use Rattle.cp_embed.specs.Arrangements.{IsArrangementOf}
 
--- a list is an arrangement of itself
-pub IsArrangementOf-refl : (xs : List ℕ) → Distinct xs → IsArrangementOf xs xs
-IsArrangementOf-refl xs dis = record { distinct = dis; items = λ d. ((λ h. h), (λ h. h)) }
-
 -- of two lists with the same items each arrangement of the one is one of the other
 pub IsArrangementOf-items : (xs ys zs : List ℕ) → IsArrangementOf xs ys → ((d : ℕ) → Has d ys ↔ Has d zs)
     → IsArrangementOf xs zs

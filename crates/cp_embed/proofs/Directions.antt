@@ -1,6 +1,5 @@
 -- Lists that are kept in a direction, and the edges of mirrored lists.
 use Rattle.std.proofs.Common.{◌≡◌, ℕ, Bool, true, false, Option, Some, None, List, [], ◌∷◌, map, reverse, refl, ap, ap₂, ◌∙◌}
-use Rattle.std.proofs.lemmas.List.{reverse-reverse}
 use Rattle.cp_lists.specs.CyclicLists.{Distinct}
 use Rattle.cp_lists.specs.Turns.{IsTurn}
 use Rattle.cp_lists.proofs.ReversedLists.{map-reverse, Distinct-reverse}
@@ -27,11 +26,6 @@ map_twin (x ∷ xs) = ap₂ (λ y ys. y ∷ ys) (half_twin x) (map_twin xs)
 -- the edges of a mirrored list are those of the list, in reverse
 pub mirror-edges : (xs : List ℕ) → map edge_of (mirror xs) ≡ reverse (map edge_of xs)
 mirror-edges xs = map-reverse edge_of (map twin xs) ∙ ap reverse (map_twin xs)
-
--- a list in a direction, in that direction again
-pub directed-directed : (bit : Bool) (xs : List ℕ) → directed bit (directed bit xs) ≡ xs
-directed-directed false xs = refl
-directed-directed true xs = reverse-reverse xs
 
 -- a reversed list in a direction
 pub directed-reverse : (bit : Bool) (xs : List ℕ) → directed bit (reverse xs) ≡ reverse (directed bit xs)

@@ -5,7 +5,6 @@ mod ThreeVertices
 mod MiddleVertices
 mod Steps
 mod StepOrders
-mod PutVertices
 mod Splits
 mod Stages
 mod Arrangements

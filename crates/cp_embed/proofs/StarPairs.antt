@@ -1,10 +1,9 @@
 -- The pairs of the first tree: all words of its leaves, with all bits.
-use Rattle.std.proofs.Common.{◌≡◌, ℕ, ◌<◌, ◌↔◌, Bool, false, List, ◌∷◌, drop, length, sym, refl, ap, ◌∙◌, subst}
+use Rattle.std.proofs.Common.{ℕ, ◌↔◌, false, List, ◌∷◌, drop, sym, ap, subst}
 use Rattle.std.specs.List.Sorted.{IsPermutation}
 use Rattle.cp_lists.specs.CyclicLists.{Has}
-use Rattle.cp_pq.specs.Bits.{bit_of}
 use Rattle.cp_pq.specs.Promises.{IsStar}
-use Rattle.cp_pq.specs.Trees.{PQTree, IsPair}
+use Rattle.cp_pq.specs.Trees.{PQTree}
 use Rattle.cp_rot.specs.Rewrites.{values}
 use Rattle.cp_rot.proofs.ListEdits.{length-values, values_at}
 use Rattle.cp_embed.specs.Arrangements.{IsArrangementOf}
