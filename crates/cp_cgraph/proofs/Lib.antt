@@ -1,8 +1,8 @@
 -- for callers: facts about the definitions
 pub mod Crossing
+pub mod Ancestors
 pub mod FaultLaw
 -- what the proofs of this crate rest on
-mod Ancestors
 mod Counted
 mod Nesting
 mod Reading
