@@ -1,0 +1,4 @@
+pub mod OpenedBorders
+pub mod LoopLists
+pub mod SegmentLevels
+pub mod SkeletonLists
