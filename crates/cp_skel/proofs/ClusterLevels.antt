@@ -1,13 +1,13 @@
--- Borders of nested clusters opened: whether the cluster of a dart lies in cluster c tells the inside of the border of c
--- from its outside, and is the same on each other border.
-use Rattle.std.proofs.Common.{◌≡◌, ℕ, ◌-◌, ◌*◌, ◌<◌, ◌≢◌, Bool, true, false, List, [], ◌∷◌, ◌++◌, slice_index, sym, refl, ap, ◌∙◌, ⊎_elim, arith}
+-- Borders of nested clusters opened: whether the cluster of a dart lies in cluster c tells the inside of the border of
+-- c from its outside, and is the same on each other border.
+use Rattle.std.proofs.Common.{◌≡◌, ℕ, ◌-◌, ◌*◌, ◌<◌, ◌≢◌, Bool, true, false, List, [], ◌∷◌, ◌++◌, slice_index, sym, ap, ◌∙◌, ⊎_elim, arith}
 use Rattle.std.proofs.lemmas.Bool.{cases_lt}
-use Rattle.cp_lists.specs.CyclicLists.{Distinct, Has}
+use Rattle.cp_lists.specs.CyclicLists.{Distinct}
 use Rattle.cp_cgraph.proofs.Ancestors.{IsLower, encloses, encloses_higher, encloses_itself, encloses_step}
 use Rattle.cp_maps.specs.Borders.{Place}
 use Rattle.cp_maps.specs.Genus.{Becomes, Evenly}
 use Rattle.cp_maps.specs.Maps.{IsMapOf}
-use Rattle.cp_skel.specs.OpenedBorders.{AreInOneCluster, AreLevelled, AreParted, AtPlaces, IsAtBorder, IsSettled, closed_borders, opened_borders}
+use Rattle.cp_skel.specs.OpenedBorders.{AreInOneCluster, AreLevelled, AreParted, IsAtBorder, IsSettled, closed_borders, opened_borders}
 use Rattle.cp_skel.proofs.OpenedBorders.{AtPlaces-from, opened_borders-Becomes}
 
 -- a cluster lies round the one round b as it lies round b, if it is not b

@@ -1,7 +1,16 @@
+-- Facts about the definitions, for callers.
+pub mod GoodLayouts
+pub mod SkeletonLists
+pub mod TabledLists
+pub mod Ranges
+-- Maps of darts.
 pub mod OpenedBorders
 pub mod TurnedMaps
 pub mod LoopLists
-pub mod Ranges
 pub mod SystemLists
-pub mod ClusterLevels
-pub mod Segments
+-- What these rest on.
+mod ClusterLevels
+mod Segments
+mod ClosedBorders
+mod SkeletonLevels
+mod Examples

@@ -1,9 +1,9 @@
 -- Borders of a map opened one by one: what was inside stands at one vertex, what was outside at another, and the genus
 -- stays.
-use Rattle.std.proofs.Common.{◌≡◌, ℕ, ◌*◌, ◌≢◌, Bool, true, false, List, [], ◌∷◌, ◌++◌, append_assoc, map, sym, refl, ap, ◌∙◌, subst, inl, inr, ⊎_elim}
+use Rattle.std.proofs.Common.{◌≡◌, ℕ, ◌*◌, Bool, true, false, List, [], ◌∷◌, ◌++◌, append_assoc, map, sym, refl, ap, ◌∙◌, subst, inl, inr, ⊎_elim}
 use Rattle.std.proofs.lemmas.Bool.{false≢true}
 use Rattle.cp_lists.specs.CyclicLists.{Distinct, Has, Lacks}
-use Rattle.cp_lists.proofs.DistinctLists.{Distinct-swapped, Has-append_cases, Has-append_left, Has-append_right, Has-swapped, Lacks-from, has_lacks, has_other}
+use Rattle.cp_lists.proofs.DistinctLists.{Distinct-swapped, Has-swapped, Lacks-from, has_lacks, has_other}
 use Rattle.cp_lists.proofs.ReversedLists.{reverse-Has, reverse-cons}
 use Rattle.cp_maps.specs.Borders.{Place, border_lists, closed_border, inside_darts, last_begin, outside_darts}
 use Rattle.cp_maps.specs.Genus.{Apart, Becomes, Evenly}
@@ -59,8 +59,7 @@ border_lists-Evenly p v back (q ∷ qs) twins ends at =
     let all : (d : ℕ) → Has d row → p d ≡ v =
     λ d h. ⊎_elim (λ e. ap p (sym e) ∙ at.0.begins) (λ h1. ⊎_elim (λ e. ap p (sym e) ∙ at.0.inside)
     (λ h2. ⊎_elim (λ e. ap p (sym e) ∙ ends)
-    (λ h3. ⊎_elim (λ e. ap p (sym e) ∙ at.0.outside) (λ no. absurd no) h3) h2) h1) h in
-    (
+    (λ h3. ⊎_elim (λ e. ap p (sym e) ∙ at.0.outside) (λ no. absurd no) h3) h2) h1) h in (
       λ c d hc hd. all c hc ∙ sym (all d hd),
       border_lists-Evenly p v (twin q.begins) qs twins (sym (twins q.begins) ∙ at.0.begins) at.1,
     )
@@ -87,14 +86,13 @@ closed_borders-Evenly p border (c ∷ cs) twins settled =
 opened-Evenly : (p : ℕ → Bool) (v w : Bool) (qs : List Place) (rows : List (List ℕ))
     → AtPlaces (λ q. p q.inside ≡ v) qs → AtPlaces (λ q. p q.outside ≡ w) qs → Evenly p rows
     → Evenly p (inside_darts qs ∷ outside_darts qs ∷ rows)
-opened-Evenly p v w qs rows inner outer even =
-    (
-      λ c d hc hd. inside_value p v qs c inner hc ∙ sym (inside_value p v qs d inner hd),
-      (
-        λ c d hc hd. outside_value p w qs c outer hc ∙ sym (outside_value p w qs d outer hd),
-        even,
-      ),
-    )
+opened-Evenly p v w qs rows inner outer even = (
+  λ c d hc hd. inside_value p v qs c inner hc ∙ sym (inside_value p v qs d inner hd),
+  (
+    λ c d hc hd. outside_value p w qs c outer hc ∙ sym (outside_value p w qs d outer hd),
+    even,
+  ),
+)
 
 -- the darts inside, with that of the first place last
 inside-cons : (q : Place) (qs : List Place) (xs : List ℕ)
@@ -124,8 +122,7 @@ opened-Distinct back (q ∷ qs) rest once =
     let apart : (d : ℕ) → Lacks d others → Lacks d (inside_darts qs ++ tail) =
     λ d l. Lacks-from d (inside_darts qs ++ tail)
     (λ h. has_lacks d others (opened-Has (twin q.begins) qs rest d h) l) in
-    let whole : Distinct (q.inside ∷ q.outside ∷ (inside_darts qs ++ tail)) =
-    (
+    let whole : Distinct (q.inside ∷ q.outside ∷ (inside_darts qs ++ tail)) = (
       (once.1.0.1.0, apart q.inside once.1.0.1.1),
       (apart q.outside once.1.1.1.0, opened-Distinct (twin q.begins) qs rest once.1.1.1.1),
     ) in
@@ -162,8 +159,7 @@ opened_border-Becomes e f (q ∷ qs) rows p is twins inner outer even =
     let xs : List ℕ = inside_darts (q ∷ qs) in
     let ys : List ℕ = outside_darts (q ∷ qs) in
     let g : ℕ → ℕ = next_by (xs ∷ ys ∷ rows) in
-    let is_g : IsMapOf (2 * e) g (xs ∷ ys ∷ rows) = opened-IsMapOf (2 * e) f (q ∷ qs) rows is in
-    (
+    let is_g : IsMapOf (2 * e) g (xs ∷ ys ∷ rows) = opened-IsMapOf (2 * e) f (q ∷ qs) rows is in (
       g,
       is_g,
       SameGenus-sym e g f (border-SameGenus e f g q qs rows is is_g
@@ -216,8 +212,7 @@ opened_borders-Becomes e f border test (c ∷ cs) rows once parted even is =
     (AtPlaces-from (IsSettled (test b) s.0) (λ q. test b q.inside ≡ s.0) (border c) (λ q at. at.inside) s.1)
     (AtPlaces-from (IsSettled (test b) s.0) (λ q. test b q.outside ≡ s.0) (border c) (λ q at. at.outside) s.1)
     (even b (inr h)))
-    (two_behind (2 * e) step.0 xs ys others rows step.1) in
-    (
+    (two_behind (2 * e) step.0 xs ys others rows step.1) in (
       rest.0,
       two_before (2 * e) rest.0 xs ys (opened_borders border cs) rows rest.1,
       SameGenus-trans e f step.0 rest.0 step.2 rest.2,

@@ -29,7 +29,8 @@ pub record AreParted (border : ℕ → List Place) (test : ℕ → ℕ → Bool)
   pub twins : (c d : ℕ) → test c d ≡ test c (twin d)
   pub inner : (c : ℕ) → Has c cs → AtPlaces (λ q. test c q.inside ≡ true) (border c)
   pub outer : (c : ℕ) → Has c cs → AtPlaces (λ q. test c q.outside ≡ false) (border c)
-  pub settled : (c b : ℕ) → Has c cs → Has b cs → b ≢ c → (value : Bool) × AtPlaces (IsSettled (test c) value) (border b)
+  pub settled : (c b : ℕ) → Has c cs → Has b cs → b ≢ c
+      → (value : Bool) × AtPlaces (IsSettled (test c) value) (border b)
 
 -- the border and its inside lie in the cluster c, and its outside in the cluster round it
 pub record IsAtBorder (level : ℕ → ℕ) (c outer : ℕ) (q : Place) : Type 0 where

@@ -1,7 +1,7 @@
 -- The cluster in which each edge of the border graph lies.
 use Rattle.std.specs.Prelude.{◌≡◌, ℕ, ◌/◌, cond, List, [], ◌∷◌, ◌++◌, map, length, slice_index_or}
 use Rattle.std.specs.List.{flat_map, range_with_len}
-use Rattle.cp_cgraph.specs.Clustered.{Clustered, edges, home, parent, source, target}
+use Rattle.cp_cgraph.specs.Clustered.{Clustered, edges, home, parent, source}
 use Rattle.cp_cgraph.specs.Crossings.{contains, crossings}
 use Rattle.cp_cgraph.specs.declared.layout.Layout.{Layout}
 use Rattle.cp_border.specs.Borders.{cluster_list}
