@@ -8,6 +8,10 @@ pub mod OpenedBorders
 pub mod TurnedMaps
 pub mod LoopLists
 pub mod SystemLists
+pub mod NumberedSystems
+pub mod Permutations
+mod KeptSegments
+mod DartVertices
 -- What these rest on.
 mod ClusterLevels
 mod Segments

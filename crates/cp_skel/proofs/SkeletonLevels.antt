@@ -26,7 +26,7 @@ use Rattle.cp_skel.proofs.ClosedBorders.{inner_cluster}
 use Rattle.cp_skel.proofs.Segments.{edge_linked, linked_at, linked_end}
 
 -- one more for each of the first n pieces
-before_more : (q : ℕ → ℕ) (n : ℕ) → before (λ e. q e + 1) n ≡ n + before q n
+pub before_more : (q : ℕ → ℕ) (n : ℕ) → before (λ e. q e + 1) n ≡ n + before q n
 before_more q zero = refl
 before_more q (suc n) = omega (arith, before_more q n)
 

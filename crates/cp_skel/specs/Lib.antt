@@ -1,5 +1,10 @@
+-- what the theorem and contracts rest on
+pub mod SkeletonLists
+pub mod Skeletons
+-- what the proofs rest on
 pub mod OpenedBorders
 pub mod LoopLists
 pub mod SegmentLevels
-pub mod SkeletonLists
 pub mod BorderPlaces
+-- examples
+pub mod Rows
