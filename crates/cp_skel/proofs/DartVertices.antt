@@ -67,13 +67,13 @@ edge_dart g e j lt within =
     ∙ ap (λ (m : ℕ). slice_index_or (edge_vertices g m) j (Node 0)) (let h : 0 + e ≡ e = omega arith in h)
 
 -- the first dart of an edge stands at its source
-source_vertex : (g : Clustered) (e : ℕ) → e < edges g → dart_vertex g (2 * first_segment g e) ≡ Node (source g e)
+pub source_vertex : (g : Clustered) (e : ℕ) → e < edges g → dart_vertex g (2 * first_segment g e) ≡ Node (source g e)
 source_vertex g e lt =
     ap (dart_vertex g) (let h : 2 * first_segment g e ≡ 2 * first_segment g e + 0 = omega arith in h)
     ∙ edge_dart g e 0 lt (omega arith)
 
 -- the last one at its target
-target_vertex : (g : Clustered) (e : ℕ) → e < edges g
+pub target_vertex : (g : Clustered) (e : ℕ) → e < edges g
     → dart_vertex g (2 * (first_segment g e + crossed g e) + 1) ≡ Node (target g e)
 target_vertex g e lt =
     let inner : length (inner_vertices g e) ≡ 2 * crossed g e =
@@ -84,7 +84,7 @@ target_vertex g e lt =
     ∙ get_or_at (inner_vertices g e) (Node (target g e)) [] (Node 0) (2 * crossed g e) inner
 
 -- the dart that ends at a border
-ends_vertex : (g : Clustered) (e i : ℕ) → e < edges g → i < crossed g e
+pub ends_vertex : (g : Clustered) (e i : ℕ) → e < edges g → i < crossed g e
     → dart_vertex g (toward_source g e i) ≡ ends_at_border g e (slice_index (crossings g e) i)
 ends_vertex g e i lt within =
     let inner : length (inner_vertices g e) ≡ 2 * crossed g e =
@@ -96,7 +96,7 @@ ends_vertex g e i lt within =
     ∙ twos_first (ends_at_border g e) (begins_at_border g e) (crossings g e) i (Node 0) within
 
 -- the dart that begins there
-begins_vertex : (g : Clustered) (e i : ℕ) → e < edges g → i < crossed g e
+pub begins_vertex : (g : Clustered) (e i : ℕ) → e < edges g → i < crossed g e
     → dart_vertex g (toward_target g e i) ≡ begins_at_border g e (slice_index (crossings g e) i)
 begins_vertex g e i lt within =
     let inner : length (inner_vertices g e) ≡ 2 * crossed g e =

@@ -12,6 +12,8 @@ pub mod NumberedSystems
 pub mod Permutations
 mod KeptSegments
 mod DartVertices
+mod KeptDarts
+mod SkeletonGraph
 -- What these rest on.
 mod ClusterLevels
 mod Segments

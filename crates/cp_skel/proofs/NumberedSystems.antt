@@ -48,6 +48,10 @@ rank_range n k lt =
 dart_cases : (d : ℕ) → (d ≡ 2 * (d / 2)) ⊎ (d ≡ 2 * (d / 2) + 1)
 dart_cases d = ⊎_elim (λ even. inl (omega arith)) (λ odd. inr (omega arith)) (cases_eq (d % 2) 0)
 
+-- the graph whose vertices are the numbers below n, and whose edges are those below m
+abbrev pub numbers : ℕ → ℕ → (ℕ → ℕ × ℕ) → NamedGraph
+numbers n m ends = record { verts = range_with_len 0 n; edges = range_with_len 0 m; ends = ends }
+
 -- the lists have exactly the edges of their vertices, each once
 pub record AreEdgeLists (n m : ℕ) (ends : ℕ → ℕ × ℕ) (s : ℕ → List ℕ) : Type 0 where
   pub distinct : (v : ℕ) → v < n → Distinct (s v)
@@ -59,12 +63,12 @@ module _ (n m : ℕ) (ends : ℕ → ℕ × ℕ) (s : ℕ → List ℕ)
     (within : (e : ℕ) → e < m → ((ends e).0 < n) × ((ends e).1 < n)) (differ : (e : ℕ) → e < m → (ends e).0 ≢ (ends e).1)
     (are : AreEdgeLists n m ends s) where
   -- the graph
-  abbrev pub numbers : NamedGraph
-  numbers = record { verts = range_with_len 0 n; edges = range_with_len 0 m; ends = ends }
+  abbrev graph : NamedGraph
+  graph = numbers n m ends
 
   -- its rotation system
   abbrev r : System
-  r = system numbers s
+  r = system graph s
 
   -- the vertices of its darts, as pairs
   abbrev first : ℕ → ℕ
@@ -92,37 +96,37 @@ module _ (n m : ℕ) (ends : ℕ → ℕ × ℕ) (s : ℕ → List ℕ)
       ∙ rank_range n (ends e).1 (within e lt).1
 
   -- the dart of an edge at its first end
-  first_dart : (v e : ℕ) → e < m → (ends e).0 ≡ v → dart numbers v e ≡ 2 * e
+  first_dart : (v e : ℕ) → e < m → (ends e).0 ≡ v → dart graph v e ≡ 2 * e
   first_dart v e lt at =
       ap (λ (k : ℕ). k + cond (eqb (ends e).0 v) 0 1) (ap (λ (k : ℕ). 2 * k) (rank_range m e lt))
       ∙ ap (λ (k : ℕ). 2 * e + k) (cond-true (eqb (ends e).0 v) 0 1 (eq-eqb (ends e).0 v at))
       ∙ (let h : 2 * e + 0 ≡ 2 * e = omega arith in h)
 
   -- and at its second
-  second_dart : (v e : ℕ) → e < m → (ends e).1 ≡ v → dart numbers v e ≡ 2 * e + 1
+  second_dart : (v e : ℕ) → e < m → (ends e).1 ≡ v → dart graph v e ≡ 2 * e + 1
   second_dart v e lt at =
       ap (λ (k : ℕ). k + cond (eqb (ends e).0 v) 0 1) (ap (λ (k : ℕ). 2 * k) (rank_range m e lt))
       ∙ ap (λ (k : ℕ). 2 * e + k)
       (cond-false (eqb (ends e).0 v) 0 1 (ne_eqb (ends e).0 v (λ same. differ e lt (same ∙ sym at))))
 
   -- the list of a vertex
-  list_is : (v : ℕ) → v < n → list_of r v ≡ map (dart numbers v) (s v)
-  list_is v lt = get_or-map-range_with_len (λ x. map (dart numbers x) (s x)) 0 n v v [] lt (omega arith)
+  list_is : (v : ℕ) → v < n → list_of r v ≡ map (dart graph v) (s v)
+  list_is v lt = get_or-map-range_with_len (λ x. map (dart graph x) (s x)) 0 n v v [] lt (omega arith)
 
   -- an edge of a list: its dart there
-  own_dart : (v e : ℕ) → v < n → Has e (s v) → (dart numbers v e / 2 ≡ e) × (dart numbers v e < 2 * m)
-      × (vertex_of r (dart numbers v e) ≡ v)
+  own_dart : (v e : ℕ) → v < n → Has e (s v) → (dart graph v e / 2 ≡ e) × (dart graph v e < 2 * m)
+      × (vertex_of r (dart graph v e) ≡ v)
   own_dart v e ltv h =
       let i = are.item v e ltv h in
       ⊎_elim
-      (λ at. let d : dart numbers v e ≡ 2 * e = first_dart v e i.0 at in
+      (λ at. let d : dart graph v e ≡ 2 * e = first_dart v e i.0 at in
       (omega (arith, d), omega (arith, d, i.0), ap (vertex_of r) d ∙ first_stands e i.0 ∙ at))
-      (λ at. let d : dart numbers v e ≡ 2 * e + 1 = second_dart v e i.0 at in
+      (λ at. let d : dart graph v e ≡ 2 * e + 1 = second_dart v e i.0 at in
       (omega (arith, d), omega (arith, d, i.0), ap (vertex_of r) d ∙ second_stands e i.0 ∙ at))
       i.1
 
   -- the dart of the edge of a dart at its vertex is that dart
-  pub dart_of_edge : (v d : ℕ) → v < n → d < 2 * m → vertex_of r d ≡ v → Has (d / 2) (s v) × (dart numbers v (d / 2) ≡ d)
+  pub dart_of_edge : (v d : ℕ) → v < n → d < 2 * m → vertex_of r d ≡ v → Has (d / 2) (s v) × (dart graph v (d / 2) ≡ d)
   dart_of_edge v d ltv lt at =
       let e : ℕ = d / 2 in
       let less : d / 2 < m = omega arith in
@@ -139,12 +143,12 @@ module _ (n m : ℕ) (ends : ℕ → ℕ × ℕ) (s : ℕ → List ℕ)
   list-Exactly : (v : ℕ) → v < n → Exactly (darts r) (λ d. vertex_of r d == v) (list_of r v)
   list-Exactly v ltv =
       subst (Exactly (darts r) (λ d. vertex_of r d == v)) (sym (list_is v ltv))
-      (Exactly-from (darts r) (λ d. vertex_of r d == v) (map (dart numbers v) (s v))
-      (Distinct-map_on (dart numbers v) (s v)
+      (Exactly-from (darts r) (λ d. vertex_of r d == v) (map (dart graph v) (s v))
+      (Distinct-map_on (dart graph v) (s v)
       (λ x y hx hy same. sym (own_dart v x ltv hx).0 ∙ ap (λ d. d / 2) same ∙ (own_dart v y ltv hy).0)
       (are.distinct v ltv))
       (λ d h.
-      let w = map_on-Has (dart numbers v) d (s v) h in
+      let w = map_on-Has (dart graph v) d (s v) h in
       let o = own_dart v w.0 ltv w.1 in
       (
         omega (arith, o.1, w.2, dart_count),
@@ -152,7 +156,7 @@ module _ (n m : ℕ) (ends : ℕ → ℕ × ℕ) (s : ℕ → List ℕ)
       ))
       (λ d lt at.
       let w = dart_of_edge v d ltv (omega (arith, lt, dart_count)) (eqb-true (vertex_of r d) v at) in
-      subst (λ x. Has x (map (dart numbers v) (s v))) w.1 (Has-map_on (dart numbers v) (d / 2) (s v) w.0)))
+      subst (λ x. Has x (map (dart graph v) (s v))) w.1 (Has-map_on (dart graph v) (d / 2) (s v) w.0)))
 
   -- each dart stands at a vertex
   stands_within : (d : ℕ) → d < 2 * m → vertex_of r d < n
@@ -165,17 +169,17 @@ module _ (n m : ℕ) (ends : ℕ → ℕ × ℕ) (s : ℕ → List ℕ)
       (dart_cases d)
 
   -- it is a rotation system
-  pub IsRotation-numbers : IsRotation (system numbers s)
+  pub IsRotation-numbers : IsRotation (system (numbers n m ends) s)
   IsRotation-numbers = record {
     paired = omega (arith, dart_count);
     placed = λ d lt. subst (λ k. vertex_of r d < k) (sym (length-range_with_len 0 n))
         (stands_within d (omega (arith, lt, dart_count)));
-    listed = length-map-range_with_len (λ x. map (dart numbers x) (s x)) 0 n ∙ sym (length-range_with_len 0 n);
+    listed = length-map-range_with_len (λ x. map (dart graph x) (s x)) 0 n ∙ sym (length-range_with_len 0 n);
     arranged = λ v lt. list-Exactly v (subst (λ k. v < k) (length-range_with_len 0 n) lt);
   }
 
   -- its map has the lists of the vertices
-  pub IsMapOf-numbers : IsMapOf (2 * m) (next (system numbers s)) (map (list_of r) (range_with_len 0 n))
+  pub IsMapOf-numbers : IsMapOf (2 * m) (next (system (numbers n m ends) s)) (map (list_of r) (range_with_len 0 n))
   IsMapOf-numbers =
       subst (λ k. IsMapOf (2 * k) (next r) (map (list_of r) (range_with_len 0 n))) edge_count
       (IsMapOf-vertices r IsRotation-numbers (range_with_len 0 n) (Distinct-range 0 n)
@@ -186,7 +190,7 @@ module _ (n m : ℕ) (ends : ℕ → ℕ × ℕ) (s : ℕ → List ℕ)
   -- under other names for the darts it is flat exactly where the system has genus zero
   pub numbers-IsFlat : (e : ℕ) (j f : ℕ → ℕ) → m ≤ e → Names m e j
       → IsMapOf (2 * e) f (map (map j) (map (list_of r) (range_with_len 0 n)))
-      → HasGenusZero (system numbers s) ↔ IsFlat e f
+      → HasGenusZero (system (numbers n m ends) s) ↔ IsFlat e f
   numbers-IsFlat e j f le names is =
       let one : OneGenus m (next r) e f =
       named_lists-OneGenus m e j (next r) f (map (list_of r) (range_with_len 0 n)) le names IsMapOf-numbers is in
