@@ -14,6 +14,8 @@ mod KeptSegments
 mod DartVertices
 mod KeptDarts
 mod SkeletonGraph
+mod SkeletonVertices
+mod StockDarts
 -- What these rest on.
 mod ClusterLevels
 mod Segments

@@ -1,20 +1,23 @@
 -- The rotation system of a graph whose vertices are the numbers below n, and whose edges are the numbers below m.
-use Rattle.std.proofs.Common.{◌≡◌, ◌≢◌, ◌↔◌, ◌⊎◌, ℕ, zero, suc, ◌+◌, ◌*◌, ◌/◌, ◌%◌, ◌<◌, ◌≤◌, Bool, true, false, cond, List, [], ◌∷◌, ◌++◌, map, length, slice_index, sym, refl, ap, ◌∙◌, subst, inl, inr, ⊎_elim, arith}
+use Rattle.std.proofs.Common.{◌≡◌, ◌≢◌, ◌↔◌, ◌⊎◌, ℕ, zero, suc, ◌+◌, ◌*◌, ◌/◌, ◌%◌, ◌<◌, ◌≤◌, Bool, true, false, cond, List, [], ◌∷◌, ◌++◌, map, length, slice_index, sym, refl, ap, ◌∙◌, subst, inl, inr, ⊎_elim, arith, IsPermutation}
 use Rattle.std.specs.Prelude.{eqb, ◌==◌, slice_index_or}
-use Rattle.std.specs.List.{flat_map, range_with_len}
-use Rattle.std.proofs.lemmas.Bool.{cases_eq, cond-false, cond-true, eq-eqb, eqb-true, ne_eqb}
+use Rattle.std.specs.List.{All, flat_map, range_with_len}
+use Rattle.std.proofs.lemmas.Bool.{cases_eq, cond-false, cond-true, eq-eqb, eqb-true, ne_eqb, or_cases, or_left, or_right}
 use Rattle.std.proofs.lemmas.List.FromFn.{get_or-map-range_with_len, get_or-range_with_len, length-map-range_with_len, length-range_with_len}
 use Rattle.cp_lists.specs.Count.{Exactly}
 use Rattle.cp_lists.specs.CyclicLists.{Distinct, Has}
-use Rattle.cp_lists.proofs.DistinctLists.{Exactly-from}
+use Rattle.std.proofs.lemmas.List.Elements.{All-contains}
+use Rattle.std.proofs.lemmas.List.Sorted.{IsPermutation-sym}
+use Rattle.cp_lists.proofs.DistinctLists.{Exactly-from, Has-Contains}
+use Rattle.cp_lists.proofs.FilteredLists.{Has-filter, filter-Distinct, filter-Has}
 use Rattle.cp_lists.proofs.FlatLists.{flat-map}
 use Rattle.cp_lists.proofs.MappedLists.{Distinct-map_on, Has-map_on, map_on-Has}
-use Rattle.cp_conn.specs.NamedGraphs.{NamedGraph, rank}
+use Rattle.cp_conn.specs.NamedGraphs.{NamedGraph, edges_at, ends_at, rank}
 use Rattle.cp_conn.proofs.NamedGraphs.{rank_is}
 use Rattle.cp_rot.specs.Genus.{HasGenusZero}
 use Rattle.cp_rot.specs.Systems.{IsRotation, System, darts, edges, list_of, next, vertex_of}
 use Rattle.cp_border.proofs.Numbering.{length-pairs, pairs, pairs_first, pairs_second}
-use Rattle.cp_board.specs.Rotations.{dart, system}
+use Rattle.cp_board.specs.Rotations.{ArrangesEdges, dart, system}
 use Rattle.cp_maps.specs.Genus.{IsFlat, OneGenus}
 use Rattle.cp_maps.specs.Maps.{IsMapOf, flat, next_by}
 use Rattle.cp_maps.specs.Names.{Names}
@@ -23,6 +26,7 @@ use Rattle.cp_maps.proofs.ListFacts.{Below-from, below_item}
 use Rattle.cp_maps.proofs.MapLists.{IsMapOf-by}
 use Rattle.cp_maps.proofs.Names.{named_lists-OneGenus}
 use Rattle.cp_maplaw.proofs.Systems.{system_flat}
+use Rattle.cp_skel.proofs.Permutations.{IsPermutation-Distinct, IsPermutation-Has, IsPermutation-from}
 use Rattle.cp_skel.proofs.Ranges.{Distinct-range, Has-range, range-Has}
 use Rattle.cp_skel.proofs.SystemLists.{IsMapOf-vertices}
 
@@ -45,7 +49,7 @@ rank_range n k lt =
     (get_or-range_with_len 0 n k 0 lt ∙ (let h : 0 + k ≡ k = omega arith in h))
 
 -- a dart is the first or the second of its edge
-dart_cases : (d : ℕ) → (d ≡ 2 * (d / 2)) ⊎ (d ≡ 2 * (d / 2) + 1)
+pub dart_cases : (d : ℕ) → (d ≡ 2 * (d / 2)) ⊎ (d ≡ 2 * (d / 2) + 1)
 dart_cases d = ⊎_elim (λ even. inl (omega arith)) (λ odd. inr (omega arith)) (cases_eq (d % 2) 0)
 
 -- the graph whose vertices are the numbers below n, and whose edges are those below m
@@ -57,6 +61,22 @@ pub record AreEdgeLists (n m : ℕ) (ends : ℕ → ℕ × ℕ) (s : ℕ → Lis
   pub distinct : (v : ℕ) → v < n → Distinct (s v)
   pub item : (v e : ℕ) → v < n → Has e (s v) → (e < m) × (((ends e).0 ≡ v) ⊎ ((ends e).1 ≡ v))
   pub own : (v e : ℕ) → v < n → e < m → ((ends e).0 ≡ v) ⊎ ((ends e).1 ≡ v) → Has e (s v)
+
+-- the darts of edges at their ends
+module _ (n m : ℕ) (ends : ℕ → ℕ × ℕ) (differ : (e : ℕ) → e < m → (ends e).0 ≢ (ends e).1) where
+  -- the dart of an edge at its first end
+  pub first_dart : (v e : ℕ) → e < m → (ends e).0 ≡ v → dart (numbers n m ends) v e ≡ 2 * e
+  first_dart v e lt at =
+      ap (λ (k : ℕ). k + cond (eqb (ends e).0 v) 0 1) (ap (λ (k : ℕ). 2 * k) (rank_range m e lt))
+      ∙ ap (λ (k : ℕ). 2 * e + k) (cond-true (eqb (ends e).0 v) 0 1 (eq-eqb (ends e).0 v at))
+      ∙ (let h : 2 * e + 0 ≡ 2 * e = omega arith in h)
+
+  -- and at its second
+  pub second_dart : (v e : ℕ) → e < m → (ends e).1 ≡ v → dart (numbers n m ends) v e ≡ 2 * e + 1
+  second_dart v e lt at =
+      ap (λ (k : ℕ). k + cond (eqb (ends e).0 v) 0 1) (ap (λ (k : ℕ). 2 * k) (rank_range m e lt))
+      ∙ ap (λ (k : ℕ). 2 * e + k)
+      (cond-false (eqb (ends e).0 v) 0 1 (ne_eqb (ends e).0 v (λ same. differ e lt (same ∙ sym at))))
 
 -- a graph of numbers, and lists of its edges
 module _ (n m : ℕ) (ends : ℕ → ℕ × ℕ) (s : ℕ → List ℕ)
@@ -86,42 +106,28 @@ module _ (n m : ℕ) (ends : ℕ → ℕ × ℕ) (s : ℕ → List ℕ)
   edge_count = omega (arith, dart_count)
 
   -- where the first dart of an edge stands
-  first_stands : (e : ℕ) → e < m → vertex_of r (2 * e) ≡ (ends e).0
+  pub first_stands : (e : ℕ) → e < m → vertex_of r (2 * e) ≡ (ends e).0
   first_stands e lt = pairs_first first second 0 m e lt ∙ ap first (let h : 0 + e ≡ e = omega arith in h)
       ∙ rank_range n (ends e).0 (within e lt).0
 
   -- and the second
-  second_stands : (e : ℕ) → e < m → vertex_of r (2 * e + 1) ≡ (ends e).1
+  pub second_stands : (e : ℕ) → e < m → vertex_of r (2 * e + 1) ≡ (ends e).1
   second_stands e lt = pairs_second first second 0 m e lt ∙ ap second (let h : 0 + e ≡ e = omega arith in h)
       ∙ rank_range n (ends e).1 (within e lt).1
 
-  -- the dart of an edge at its first end
-  first_dart : (v e : ℕ) → e < m → (ends e).0 ≡ v → dart graph v e ≡ 2 * e
-  first_dart v e lt at =
-      ap (λ (k : ℕ). k + cond (eqb (ends e).0 v) 0 1) (ap (λ (k : ℕ). 2 * k) (rank_range m e lt))
-      ∙ ap (λ (k : ℕ). 2 * e + k) (cond-true (eqb (ends e).0 v) 0 1 (eq-eqb (ends e).0 v at))
-      ∙ (let h : 2 * e + 0 ≡ 2 * e = omega arith in h)
-
-  -- and at its second
-  second_dart : (v e : ℕ) → e < m → (ends e).1 ≡ v → dart graph v e ≡ 2 * e + 1
-  second_dart v e lt at =
-      ap (λ (k : ℕ). k + cond (eqb (ends e).0 v) 0 1) (ap (λ (k : ℕ). 2 * k) (rank_range m e lt))
-      ∙ ap (λ (k : ℕ). 2 * e + k)
-      (cond-false (eqb (ends e).0 v) 0 1 (ne_eqb (ends e).0 v (λ same. differ e lt (same ∙ sym at))))
-
   -- the list of a vertex
-  list_is : (v : ℕ) → v < n → list_of r v ≡ map (dart graph v) (s v)
+  pub list_is : (v : ℕ) → v < n → list_of r v ≡ map (dart graph v) (s v)
   list_is v lt = get_or-map-range_with_len (λ x. map (dart graph x) (s x)) 0 n v v [] lt (omega arith)
 
   -- an edge of a list: its dart there
-  own_dart : (v e : ℕ) → v < n → Has e (s v) → (dart graph v e / 2 ≡ e) × (dart graph v e < 2 * m)
+  pub own_dart : (v e : ℕ) → v < n → Has e (s v) → (dart graph v e / 2 ≡ e) × (dart graph v e < 2 * m)
       × (vertex_of r (dart graph v e) ≡ v)
   own_dart v e ltv h =
       let i = are.item v e ltv h in
       ⊎_elim
-      (λ at. let d : dart graph v e ≡ 2 * e = first_dart v e i.0 at in
+      (λ at. let d : dart graph v e ≡ 2 * e = first_dart n m ends differ v e i.0 at in
       (omega (arith, d), omega (arith, d, i.0), ap (vertex_of r) d ∙ first_stands e i.0 ∙ at))
-      (λ at. let d : dart graph v e ≡ 2 * e + 1 = second_dart v e i.0 at in
+      (λ at. let d : dart graph v e ≡ 2 * e + 1 = second_dart n m ends differ v e i.0 at in
       (omega (arith, d), omega (arith, d, i.0), ap (vertex_of r) d ∙ second_stands e i.0 ∙ at))
       i.1
 
@@ -133,10 +139,10 @@ module _ (n m : ℕ) (ends : ℕ → ℕ × ℕ) (s : ℕ → List ℕ)
       ⊎_elim
       (λ even.
       let end : (ends (d / 2)).0 ≡ v = sym (first_stands e less) ∙ sym (ap (vertex_of r) even) ∙ at in
-      (are.own v e ltv less (inl end), first_dart v e less end ∙ sym even))
+      (are.own v e ltv less (inl end), first_dart n m ends differ v e less end ∙ sym even))
       (λ odd.
       let end : (ends (d / 2)).1 ≡ v = sym (second_stands e less) ∙ sym (ap (vertex_of r) odd) ∙ at in
-      (are.own v e ltv less (inr end), second_dart v e less end ∙ sym odd))
+      (are.own v e ltv less (inr end), second_dart n m ends differ v e less end ∙ sym odd))
       (dart_cases d)
 
   -- the darts at a vertex are exactly those of its list
@@ -159,7 +165,7 @@ module _ (n m : ℕ) (ends : ℕ → ℕ × ℕ) (s : ℕ → List ℕ)
       subst (λ x. Has x (map (dart graph v) (s v))) w.1 (Has-map_on (dart graph v) (d / 2) (s v) w.0)))
 
   -- each dart stands at a vertex
-  stands_within : (d : ℕ) → d < 2 * m → vertex_of r d < n
+  pub stands_within : (d : ℕ) → d < 2 * m → vertex_of r d < n
   stands_within d lt =
       let e : ℕ = d / 2 in
       let less : d / 2 < m = omega arith in
@@ -199,3 +205,51 @@ module _ (n m : ℕ) (ends : ℕ → ℕ × ℕ) (s : ℕ → List ℕ)
         λ z. zero_flat.1 (subst (λ k. IsFlat k (next r)) (sym edge_count)
             (OneGenus-IsFlat e f m (next r) (OneGenus-sym m (next r) e f one) z)),
       )
+
+-- an edge is one at a vertex where it has it as an end
+edges_at-Has : (n m : ℕ) (ends : ℕ → ℕ × ℕ) (v e : ℕ) → Has e (edges_at (numbers n m ends) v)
+    → (e < m) × (((ends e).0 ≡ v) ⊎ ((ends e).1 ≡ v))
+edges_at-Has n m ends v e h =
+    let w = filter-Has (ends_at (numbers n m ends) v) e (range_with_len 0 m) h in (
+      omega (arith, (range-Has e 0 m w.0).1),
+      ⊎_elim (λ t. inl (eqb-true (ends e).0 v t)) (λ t. inr (eqb-true (ends e).1 v t))
+          (or_cases (eqb (ends e).0 v) (eqb (ends e).1 v) w.1),
+    )
+
+-- and the other way round
+Has-edges_at : (n m : ℕ) (ends : ℕ → ℕ × ℕ) (v e : ℕ) → e < m → ((ends e).0 ≡ v) ⊎ ((ends e).1 ≡ v)
+    → Has e (edges_at (numbers n m ends) v)
+Has-edges_at n m ends v e lt end =
+    Has-filter (ends_at (numbers n m ends) v) e (range_with_len 0 m) (Has-range e 0 m (omega arith) (omega (arith, lt)))
+    (⊎_elim (λ h. or_left (eqb (ends e).0 v) (eqb (ends e).1 v) (eq-eqb (ends e).0 v h))
+    (λ h. or_right (eqb (ends e).0 v) (eqb (ends e).1 v) (eq-eqb (ends e).1 v h)) end)
+
+-- lists that arrange the edges of their vertices have exactly these
+pub arranged-AreEdgeLists : (n m : ℕ) (ends : ℕ → ℕ × ℕ) (s : ℕ → List ℕ)
+    → All (λ v. ArrangesEdges (numbers n m ends) v (s v)) (range_with_len 0 n) → AreEdgeLists n m ends s
+arranged-AreEdgeLists n m ends s all =
+    let of : (v : ℕ) → v < n → IsPermutation (edges_at (numbers n m ends) v) (s v) =
+    λ v lt. All-contains (λ x. ArrangesEdges (numbers n m ends) x (s x)) (range_with_len 0 n) v all
+    ((Has-Contains v (range_with_len 0 n)).0 (Has-range v 0 n (omega arith) (omega (arith, lt)))) in
+    record {
+      distinct = λ v lt. IsPermutation-Distinct (edges_at (numbers n m ends) v) (s v) (of v lt)
+          (filter-Distinct (ends_at (numbers n m ends) v) (range_with_len 0 m) (Distinct-range 0 m));
+      item = λ v e lt h. edges_at-Has n m ends v e
+          (IsPermutation-Has (s v) (edges_at (numbers n m ends) v) e
+          (IsPermutation-sym (edges_at (numbers n m ends) v) (s v) (of v lt)) h);
+      own = λ v e lt less end. IsPermutation-Has (edges_at (numbers n m ends) v) (s v) e (of v lt)
+          (Has-edges_at n m ends v e less end);
+    }
+
+-- and the other way round
+pub AreEdgeLists-arranged : (n m : ℕ) (ends : ℕ → ℕ × ℕ) (s : ℕ → List ℕ) → AreEdgeLists n m ends s
+    → All (λ v. ArrangesEdges (numbers n m ends) v (s v)) (range_with_len 0 n)
+AreEdgeLists-arranged n m ends s are i d lt =
+    let less : i < n = omega (arith, lt, length-range_with_len 0 n) in
+    let at : slice_index_or (range_with_len 0 n) i d ≡ i =
+    get_or-range_with_len 0 n i d less ∙ (let h : 0 + i ≡ i = omega arith in h) in
+    subst (λ v. ArrangesEdges (numbers n m ends) v (s v)) (sym at)
+    (IsPermutation-from (edges_at (numbers n m ends) i) (s i)
+    (filter-Distinct (ends_at (numbers n m ends) i) (range_with_len 0 m) (Distinct-range 0 m)) (are.distinct i less)
+    (λ e h. let w = edges_at-Has n m ends i e h in are.own i e less w.0 w.1)
+    (λ e h. let w = are.item i e less h in Has-edges_at n m ends i e w.0 w.1))
