@@ -16,6 +16,7 @@ mod KeptDarts
 mod SkeletonGraph
 mod SkeletonVertices
 mod StockDarts
+mod VertexLists
 -- What these rest on.
 mod ClusterLevels
 mod Segments

@@ -134,6 +134,17 @@ outside-IsVertex g c e above cluster lt leave =
     (Contains-append_right ks (cond (is_left g c) (Outside c ∷ []) []) (Outside c)
     (subst (λ xs. Contains xs (Outside c)) (sym here) one))))
 
+-- each dart of the graph stands at a node
+pub node_of-lt : (g : Clustered) → IsClustered g → (x : ℕ) → x < 2 * edges g → node_of g x < nodes g
+node_of-lt g is x less = ⊎_elim
+    (λ even. subst (λ m. m < nodes g)
+    (sym (cond-true (x % 2 == 0) (source g (x / 2)) (target g (x / 2)) (eq-eqb (x % 2) 0 even)))
+    (is.source_is_node (x / 2) (omega arith)))
+    (λ odd. subst (λ m. m < nodes g)
+    (sym (cond-false (x % 2 == 0) (source g (x / 2)) (target g (x / 2)) (ne_eqb (x % 2) 0 odd)))
+    (is.target_is_node (x / 2) (omega arith)))
+    (cases_eq (x % 2) 0)
+
 -- each dart of a segment that is kept stands at a vertex
 pub kept-IsVertex : (g : Clustered) → IsClustered g → (d : ℕ) → Has (d / 2) (kept_segments g)
     → IsVertex g (dart_vertex g d)
@@ -142,17 +153,7 @@ kept-IsVertex g is d h = by (dart_kind g is d h)
     by : DartKind g d → IsVertex g (dart_vertex g d)
     by (at_node x lt ne e) =
         let s = end_dart-StandsAt g x lt ne in
-        subst (IsVertex g) (sym (ap (dart_vertex g) e ∙ s.at)) (node-IsVertex g is (node_of g x) (node_lt x lt))
-      where
-        node_lt : (y : ℕ) → y < 2 * edges g → node_of g y < nodes g
-        node_lt y less = ⊎_elim
-            (λ even. subst (λ m. m < nodes g)
-            (sym (cond-true (y % 2 == 0) (source g (y / 2)) (target g (y / 2)) (eq-eqb (y % 2) 0 even)))
-            (is.source_is_node (y / 2) (omega arith)))
-            (λ odd. subst (λ m. m < nodes g)
-            (sym (cond-false (y % 2 == 0) (source g (y / 2)) (target g (y / 2)) (ne_eqb (y % 2) 0 odd)))
-            (is.target_is_node (y / 2) (omega arith)))
-            (cases_eq (y % 2) 0)
+        subst (IsVertex g) (sym (ap (dart_vertex g) e ∙ s.at)) (node-IsVertex g is (node_of g x) (node_of-lt g is x lt))
     by (inside c e above cluster lt leave at) =
         let s = in_dart-StandsAt g is c e lt cluster leave in
         subst (IsVertex g) (sym (ap (dart_vertex g) at ∙ s.at)) (outside-IsVertex g c e above cluster lt leave)

@@ -6,5 +6,6 @@ pub mod OpenedBorders
 pub mod LoopLists
 pub mod SegmentLevels
 pub mod BorderPlaces
+pub mod VertexLists
 -- examples
 pub mod Rows

@@ -1,0 +1,32 @@
+-- The lists that a layout, and that a solution, gives the vertices of the skeletons, as lists of darts of segments.
+use Rattle.std.specs.Prelude.{◌≡◌, ℕ, ◌+◌, ◌*◌, ◌/◌, ◌%◌, Bool, cond, eqb, List, [], map, length, reverse, slice_index_or}
+use Rattle.std.specs.List.{filter}
+use Rattle.cp_lists.specs.Turns.{IsTurn}
+use Rattle.cp_conn.specs.NamedGraphs.{NamedGraph}
+use Rattle.cp_board.specs.Instances.{graph}
+use Rattle.cp_board.specs.Rotations.{dart}
+use Rattle.cp_cgraph.specs.Clustered.{Clustered}
+use Rattle.cp_cgraph.specs.declared.layout.Layout.{Layout}
+use Rattle.cp_border.specs.Borders.{cluster_list, end_dart, node_list}
+use Rattle.cp_maps.specs.Maps.{has}
+use Rattle.cp_skel.specs.SkeletonLists.{in_dart, out_dart}
+use Rattle.cp_skel.specs.Skeletons.{Child, Node, Outside, Vertex, kept_segments, skeletons, vertex_name}
+
+-- the edges that a layout lists for cluster c, and none for the root
+abbrev pub border_edges : Layout → ℕ → List ℕ
+border_edges l c = cond (eqb c 0) [] (cluster_list l c)
+
+-- the list that a layout gives a vertex of the skeletons: that of a node; that of a cluster, as it is seen from its
+-- parent; and the same the other way round, as it is seen from inside
+abbrev pub vertex_list : Clustered → Layout → Vertex → List ℕ
+vertex_list g l (Node v) = map (end_dart g) (node_list l v)
+vertex_list g l (Child c) = map (out_dart g c) (border_edges l c)
+vertex_list g l (Outside c) = reverse (map (in_dart g c) (border_edges l c))
+
+-- the segment of the dart belongs to no loop
+abbrev pub keeps : Clustered → ℕ → Bool
+keeps g d = has (d / 2) (kept_segments g)
+
+-- the list without the darts of loops
+abbrev pub kept_list : Clustered → Layout → Vertex → List ℕ
+kept_list g l p = filter (keeps g) (vertex_list g l p)
