@@ -17,6 +17,7 @@ mod SkeletonGraph
 mod SkeletonVertices
 mod StockDarts
 mod VertexLists
+mod AgreeingLists
 -- What these rest on.
 mod ClusterLevels
 mod Segments

@@ -14,7 +14,7 @@ use Rattle.cp_lists.proofs.FilteredLists.{Has-filter}
 use Rattle.cp_conn.proofs.NamedGraphs.{map_has}
 use Rattle.cp_cgraph.specs.Clustered.{Clustered, IsClustered, clusters, edges, home, node_of, nodes, parent, source, target}
 use Rattle.cp_cgraph.specs.Crossings.{leaves}
-use Rattle.cp_skel.specs.Skeletons.{Child, Node, Outside, Vertex, all_vertices, below, dart_vertex, is_left, is_vertex, kept_segments, left, vertex_name, vertices_in}
+use Rattle.cp_skel.specs.Skeletons.{Child, IsVertex, Node, Outside, Vertex, all_vertices, below, dart_vertex, is_left, is_vertex, kept_segments, left, vertex_name, vertices_in}
 use Rattle.cp_skel.proofs.DartVertices.{StandsAt, end_dart-StandsAt, in_dart-StandsAt, out_dart-StandsAt}
 use Rattle.cp_skel.proofs.KeptDarts.{DartKind, at_node, dart_kind, inside, outside}
 use Rattle.cp_skel.proofs.Ranges.{Has-range}
@@ -36,11 +36,6 @@ is_vertex-same : (p q : Vertex) → q ≡ p → is_vertex p q ≡ true
 is_vertex-same (Node v) q e = ap (is_vertex (Node v)) e ∙ eq-eqb v v refl
 is_vertex-same (Child c) q e = ap (is_vertex (Child c)) e ∙ eq-eqb c c refl
 is_vertex-same (Outside c) q e = ap (is_vertex (Outside c)) e ∙ eq-eqb c c refl
-
--- p is a vertex of the skeletons
-pub record IsVertex (g : Clustered) (p : Vertex) : Type 0 where
-  pub within : vertex_name g p < length (all_vertices g)
-  pub at : slice_index_or (all_vertices g) (vertex_name g p) (Node 0) ≡ p
 
 -- what is among the vertices is one
 IsVertex-from : (g : Clustered) (p : Vertex) → Contains (all_vertices g) p → IsVertex g p

@@ -13,12 +13,13 @@ use Rattle.cp_border.specs.Borders.{segments}
 use Rattle.cp_maps.specs.Names.{Names}
 use Rattle.cp_maps.specs.Twins.{twin}
 use Rattle.cp_maps.proofs.Twins.{twin_even, twin_odd}
-use Rattle.cp_skel.specs.Skeletons.{Vertex, all_vertices, dart_vertex, kept_segments, skeletons, vertex_name}
+use Rattle.cp_skel.specs.Skeletons.{IsVertex, Vertex, all_vertices, dart_vertex, kept_segments, skeletons, vertex_name}
+use Rattle.cp_skel.specs.VertexLists.{stock_dart}
 use Rattle.cp_skel.proofs.KeptDarts.{segment-differ}
 use Rattle.cp_skel.proofs.KeptSegments.{kept-segment, kept_segment-lt}
 use Rattle.cp_skel.proofs.NumberedSystems.{dart_cases, first_dart, numbers, second_dart}
 use Rattle.cp_skel.proofs.SkeletonGraph.{ends_of-skeletons, name_at}
-use Rattle.cp_skel.proofs.SkeletonVertices.{IsVertex, kept-IsVertex, vertex_name-apart}
+use Rattle.cp_skel.proofs.SkeletonVertices.{kept-IsVertex, vertex_name-apart}
 
 -- how many vertices and edges the skeletons have, and their graph
 abbrev pub vertex_count : Clustered → ℕ
@@ -32,10 +33,6 @@ ends g = ends_of (skeletons g)
 
 abbrev pub skeleton_graph : Clustered → NamedGraph
 skeleton_graph g = numbers (vertex_count g) (edge_count g) (ends g)
-
--- the dart of a segment that a dart of this graph stands for
-abbrev pub stock_dart : Clustered → ℕ → ℕ
-stock_dart g d = 2 * slice_index_or (kept_segments g) (d / 2) 0 + d % 2
 
 -- the segment with a name is kept
 name_kept : (g : Clustered) (n : ℕ) → n < edge_count g → Has (slice_index_or (kept_segments g) n 0) (kept_segments g)

@@ -25,7 +25,7 @@ use Rattle.cp_skel.proofs.KeptSegments.{kept-segment, segment_apart}
 use Rattle.cp_skel.proofs.SkeletonVertices.{node_of-lt}
 
 -- an item of a list that has it passes the test
-has-true : (d : ℕ) (xs : List ℕ) → has d xs ≡ true → Has d xs
+pub has-true : (d : ℕ) (xs : List ℕ) → has d xs ≡ true → Has d xs
 has-true d [] t = absurd (false≢true t)
 has-true d (x ∷ xs) t = ⊎_elim (λ e. inl (eqb-true x d e)) (λ r. inr (has-true d xs r)) (or_cases (eqb x d) (has d xs) t)
 

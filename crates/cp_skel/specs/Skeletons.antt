@@ -1,6 +1,6 @@
 -- The skeletons of a clustered graph (Bläsius, Rutter 2016) as one instance of synchronized planarity (Bläsius, Fink,
 -- Rutter 2021).
-use Rattle.std.specs.Prelude.{ℕ, ◌+◌, ◌*◌, ◌/◌, ◌-◌, Bool, false, not, cond, eqb, ◌&&◌, List, [], ◌∷◌, ◌++◌, map, length, slice_index_or}
+use Rattle.std.specs.Prelude.{◌≡◌, ◌<◌, ℕ, ◌+◌, ◌*◌, ◌/◌, ◌-◌, Bool, false, not, cond, eqb, ◌&&◌, List, [], ◌∷◌, ◌++◌, map, length, slice_index_or}
 use Rattle.std.specs.List.{filter, flat_map, list_any, position_or_len, range_with_len, zip}
 use Rattle.cp_conn.specs.NamedGraphs.{rank}
 use Rattle.cp_board.specs.declared.parts.Kind.TheVariants.{P}
@@ -56,6 +56,11 @@ all_vertices g = flat_map (vertices_in g) (below (clusters g))
 -- the name of a vertex: its place among these
 abbrev pub vertex_name : Clustered → Vertex → ℕ
 vertex_name g p = position_or_len (is_vertex p) (all_vertices g)
+
+-- p is a vertex of the skeletons
+pub record IsVertex (g : Clustered) (p : Vertex) : Type 0 where
+  pub within : vertex_name g p < length (all_vertices g)
+  pub at : slice_index_or (all_vertices g) (vertex_name g p) (Node 0) ≡ p
 
 -- where the segments of edge e stand at the border of cluster c: the one that ends there, and the one that begins there
 abbrev pub ends_at_border : Clustered → ℕ → ℕ → Vertex

@@ -10,7 +10,7 @@ use Rattle.cp_cgraph.specs.declared.layout.Layout.{Layout}
 use Rattle.cp_border.specs.Borders.{cluster_list, end_dart, node_list}
 use Rattle.cp_maps.specs.Maps.{has}
 use Rattle.cp_skel.specs.SkeletonLists.{in_dart, out_dart}
-use Rattle.cp_skel.specs.Skeletons.{Child, Node, Outside, Vertex, kept_segments, skeletons, vertex_name}
+use Rattle.cp_skel.specs.Skeletons.{Child, IsVertex, Node, Outside, Vertex, kept_segments, skeletons, vertex_name}
 
 -- the edges that a layout lists for cluster c, and none for the root
 abbrev pub border_edges : Layout → ℕ → List ℕ
@@ -30,3 +30,14 @@ keeps g d = has (d / 2) (kept_segments g)
 -- the list without the darts of loops
 abbrev pub kept_list : Clustered → Layout → Vertex → List ℕ
 kept_list g l p = filter (keeps g) (vertex_list g l p)
+
+-- the darts of the segments in the list that s gives vertex v
+abbrev pub stock_dart : Clustered → ℕ → ℕ
+stock_dart g d = 2 * slice_index_or (kept_segments g) (d / 2) 0 + d % 2
+
+abbrev pub stock_list : NamedGraph → Clustered → (ℕ → List ℕ) → ℕ → List ℕ
+stock_list graph g s v = map (stock_dart g) (map (dart graph v) (s v))
+
+-- s and a layout agree: each vertex has, up to a turn, the list of the layout without the darts of loops
+abbrev pub Agree : NamedGraph → Clustered → Layout → (ℕ → List ℕ) → Type 0
+Agree graph g l s = (p : Vertex) → IsVertex g p → IsTurn (stock_list graph g s (vertex_name g p)) (kept_list g l p)
