@@ -18,6 +18,8 @@ mod SkeletonVertices
 mod StockDarts
 mod VertexLists
 mod AgreeingLists
+mod SkeletonPipes
+mod LayoutSolutions
 -- What these rest on.
 mod ClusterLevels
 mod Segments

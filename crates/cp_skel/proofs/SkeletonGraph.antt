@@ -45,7 +45,7 @@ edge_names-skeletons g =
     ∙ map_self (below (length (kept_segments g)))
 
 -- an item found by its name
-find_named : {A : Type 0} (name : A → ℕ) (row : ℕ → A) (xs : List ℕ) (t : ℕ) → Has t xs
+pub find_named : {A : Type 0} (name : A → ℕ) (row : ℕ → A) (xs : List ℕ) (t : ℕ) → Has t xs
     → ((u : ℕ) → Has u xs → name (row u) ≡ name (row t) → u ≡ t)
     → find (λ x. eqb (name x) (name (row t))) (map row xs) ≡ Some (row t)
 find_named name row [] t h once = absurd h

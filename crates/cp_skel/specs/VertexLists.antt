@@ -10,7 +10,7 @@ use Rattle.cp_cgraph.specs.declared.layout.Layout.{Layout}
 use Rattle.cp_border.specs.Borders.{cluster_list, end_dart, node_list}
 use Rattle.cp_maps.specs.Maps.{has}
 use Rattle.cp_skel.specs.SkeletonLists.{in_dart, out_dart}
-use Rattle.cp_skel.specs.Skeletons.{Child, IsVertex, Node, Outside, Vertex, kept_segments, skeletons, vertex_name}
+use Rattle.cp_skel.specs.Skeletons.{Child, IsVertex, Node, Outside, Vertex, all_vertices, kept_segments, segment_name, skeletons, vertex_name}
 
 -- the edges that a layout lists for cluster c, and none for the root
 abbrev pub border_edges : Layout → ℕ → List ℕ
@@ -41,3 +41,9 @@ stock_list graph g s v = map (stock_dart g) (map (dart graph v) (s v))
 -- s and a layout agree: each vertex has, up to a turn, the list of the layout without the darts of loops
 abbrev pub Agree : NamedGraph → Clustered → Layout → (ℕ → List ℕ) → Type 0
 Agree graph g l s = (p : Vertex) → IsVertex g p → IsTurn (stock_list graph g s (vertex_name g p)) (kept_list g l p)
+
+-- the list of names of segments that a layout gives the vertex with name v
+abbrev pub layout_list : Clustered → Layout → ℕ → List ℕ
+layout_list g l v =
+    let p = slice_index_or (all_vertices g) v (Node 0) in
+    cond (eqb (vertex_name g p) v) (map (segment_name g) (kept_list g l p)) []
