@@ -141,7 +141,9 @@ module _ (g : Clustered) (is : IsClustered g) (s : ℕ → List ℕ)
         let w = kept_list-stands g l is ar p some.0 some.1 in
         let is_p : IsVertex g p = subst (IsVertex g) w.1 (kept-IsVertex g is some.0 w.0) in
         let v : ℕ = vertex_name g p in
-        Ring-turned f (stock_list (skeleton_graph g) g s v) (kept_list g l p) (agree p is_p)
+        Ring-turned f (stock_list (skeleton_graph g) g s v) (kept_list g l p)
+        (subst (λ q. IsTurn (stock_list (skeleton_graph g) g s (vertex_name g q)) (kept_list g l q)) w.1
+        (agree some.0 w.0))
         (Ring-table f (stock_list (skeleton_graph g) g s) 0 (vertex_count g) v rings (omega arith)
         (let h = is_p.within in omega (arith, h))))
         (empty_or_item (kept_list g l p))

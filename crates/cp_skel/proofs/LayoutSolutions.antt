@@ -159,7 +159,9 @@ module _ (g : Clustered) (l : Layout) (is : IsClustered g) (ar : IsArranged g l)
 
   -- they agree with the layout
   pub Agree-layout : Agree (skeleton_graph g) g l (layout_list g l)
-  Agree-layout p is_p =
+  Agree-layout b kept =
+      let p : Vertex = dart_vertex g b in
+      let is_p : IsVertex g p = kept-IsVertex g is b kept in
       let v : ℕ = vertex_name g p in
       let xs : List ℕ = kept_list g l p in
       let stock : ℕ → ℕ = λ n. stock_dart g (dart (skeleton_graph g) v n) in

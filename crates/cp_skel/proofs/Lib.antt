@@ -20,6 +20,7 @@ mod VertexLists
 mod AgreeingLists
 mod SkeletonPipes
 mod LayoutSolutions
+mod SolutionLists
 -- What these rest on.
 mod ClusterLevels
 mod Segments

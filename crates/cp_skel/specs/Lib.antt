@@ -1,6 +1,7 @@
 -- what the theorem and contracts rest on
 pub mod SkeletonLists
 pub mod Skeletons
+pub mod SolutionLayouts
 -- what the proofs rest on
 pub mod OpenedBorders
 pub mod LoopLists

@@ -1,6 +1,7 @@
 -- The lists that a layout, and that a solution, gives the vertices of the skeletons, as lists of darts of segments.
 use Rattle.std.specs.Prelude.{◌≡◌, ℕ, ◌+◌, ◌*◌, ◌/◌, ◌%◌, Bool, cond, eqb, List, [], map, length, reverse, slice_index_or}
 use Rattle.std.specs.List.{filter}
+use Rattle.cp_lists.specs.CyclicLists.{Has}
 use Rattle.cp_lists.specs.Turns.{IsTurn}
 use Rattle.cp_conn.specs.NamedGraphs.{NamedGraph}
 use Rattle.cp_board.specs.Instances.{graph}
@@ -10,7 +11,7 @@ use Rattle.cp_cgraph.specs.declared.layout.Layout.{Layout}
 use Rattle.cp_border.specs.Borders.{cluster_list, end_dart, node_list}
 use Rattle.cp_maps.specs.Maps.{has}
 use Rattle.cp_skel.specs.SkeletonLists.{in_dart, out_dart}
-use Rattle.cp_skel.specs.Skeletons.{Child, IsVertex, Node, Outside, Vertex, all_vertices, kept_segments, segment_name, skeletons, vertex_name}
+use Rattle.cp_skel.specs.Skeletons.{Child, Node, Outside, Vertex, all_vertices, dart_vertex, kept_segments, segment_name, skeletons, vertex_name}
 
 -- the edges that a layout lists for cluster c, and none for the root
 abbrev pub border_edges : Layout → ℕ → List ℕ
@@ -38,9 +39,12 @@ stock_dart g d = 2 * slice_index_or (kept_segments g) (d / 2) 0 + d % 2
 abbrev pub stock_list : NamedGraph → Clustered → (ℕ → List ℕ) → ℕ → List ℕ
 stock_list graph g s v = map (stock_dart g) (map (dart graph v) (s v))
 
--- s and a layout agree: each vertex has, up to a turn, the list of the layout without the darts of loops
+-- s and a layout agree: each vertex where a dart stands has, up to a turn, the list of the layout without the darts of
+-- loops
 abbrev pub Agree : NamedGraph → Clustered → Layout → (ℕ → List ℕ) → Type 0
-Agree graph g l s = (p : Vertex) → IsVertex g p → IsTurn (stock_list graph g s (vertex_name g p)) (kept_list g l p)
+Agree graph g l s =
+    (d : ℕ) → Has (d / 2) (kept_segments g)
+    → IsTurn (stock_list graph g s (vertex_name g (dart_vertex g d))) (kept_list g l (dart_vertex g d))
 
 -- the list of names of segments that a layout gives the vertex with name v
 abbrev pub layout_list : Clustered → Layout → ℕ → List ℕ
