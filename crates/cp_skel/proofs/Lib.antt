@@ -21,6 +21,7 @@ mod AgreeingLists
 mod SkeletonPipes
 mod LayoutSolutions
 mod SolutionLists
+mod SolutionArranged
 -- What these rest on.
 mod ClusterLevels
 mod Segments

@@ -38,25 +38,29 @@ all_pipes g P (n ∷ ns) (c ∷ cs) of =
     (all_pipes g P ns cs (λ k b h. of k b (inr h)))
 
 -- an edge leaves a cluster that is left
-pub left-Has : (g : Clustered) (c : ℕ) → Has c (left g)
-    → (0 < c) × (c < clusters g) × ((e : ℕ) × (e < edges g) × (leaves g c e ≡ true))
+pub left-edge : (g : Clustered) (c : ℕ) → is_left g c ≡ true → (e : ℕ) × (e < edges g) × (leaves g c e ≡ true)
+left-edge g c t =
+    let two = and_parts (not (eqb c 0)) (list_any (leaves g c) (below (edges g))) t in
+    let e = some_item (leaves g c) (below (edges g)) two.1 in
+    (e.0, omega (arith, (range-Has e.0 0 (edges g) e.1).1), e.2)
+
+-- and it is not the root
+left-Has : (g : Clustered) (c : ℕ) → Has c (left g) → (0 < c) × (c < clusters g) × (is_left g c ≡ true)
 left-Has g c h =
     let w = filter-Has (is_left g) c (below (clusters g)) h in
     let two = and_parts (not (eqb c 0)) (list_any (leaves g c) (below (edges g))) w.1 in
-    let e = some_item (leaves g c) (below (edges g)) two.1 in
     let above : 0 < c = ⊎_elim
         (λ root. absurd (false≢true (sym (ap not (eq-eqb c 0 root)) ∙ two.0)))
         (λ ne. omega arith)
         (cases_eq c 0) in
-    (above, omega (arith, (range-Has c 0 (clusters g) w.0).1),
-    (e.0, omega (arith, (range-Has e.0 0 (edges g) e.1).1), e.2))
+    (above, omega (arith, (range-Has c 0 (clusters g) w.0).1), w.1)
 
 -- what holds of the pipes of such clusters holds of all
 pub All-pipes : (g : Clustered) (P : Pipe → Type 0)
     → ((n c e : ℕ) → 0 < c → c < clusters g → e < edges g → leaves g c e ≡ true → P (skeleton_pipe g n c))
     → All P (skeletons g).pipes
 All-pipes g P of = all_pipes g P (below (length (left g))) (left g)
-    (λ n c h. let w = left-Has g c h in of n c w.2.0 w.0 w.1 w.2.1 w.2.2)
+    (λ n c h. let w = left-Has g c h in let e = left-edge g c w.2 in of n c e.0 w.0 w.1 e.1 e.2)
 
 -- darts at a border whose segments have one name are of one edge
 module _ (g : Clustered) (is : IsClustered g) (c : ℕ) (cluster : c < clusters g) where

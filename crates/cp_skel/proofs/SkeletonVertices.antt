@@ -86,7 +86,7 @@ node-IsVertex g is v lt =
     (map_has Node vs v ((Has-Contains v vs).0 item))))
 
 -- a cluster that an edge leaves is left
-is_left-from : (g : Clustered) (c e : ℕ) → 0 < c → e < edges g → leaves g c e ≡ true → is_left g c ≡ true
+pub is_left-from : (g : Clustered) (c e : ℕ) → 0 < c → e < edges g → leaves g c e ≡ true → is_left g c ≡ true
 is_left-from g c e above lt leave =
     let at : slice_index_or (below (edges g)) e 0 ≡ e =
     get_or-range_with_len 0 (edges g) e 0 lt ∙ (let h : 0 + e ≡ e = omega arith in h) in

@@ -194,7 +194,7 @@ module _ (g : Clustered) (is : IsClustered g) (s : ℕ → List ℕ)
       ∙ name_edge-is g (out_dart g c a.e) a.e (Child c) (out_dart-StandsAt g is c a.e a.lt cluster a.left))
 
 -- the darts of loops
-loop-Has : (es : List ℕ) (x : ℕ) → Has x (loop_darts (map (λ e. 2 * e) es)) → Has (x / 2) es
+pub loop-Has : (es : List ℕ) (x : ℕ) → Has x (loop_darts (map (λ e. 2 * e) es)) → Has (x / 2) es
 loop-Has [] x h = absurd h
 loop-Has (e ∷ es) x h = ⊎_elim
     (λ first. inl (let half : e ≡ x / 2 = omega (arith, first) in half))
@@ -206,7 +206,7 @@ loop-Has (e ∷ es) x h = ⊎_elim
     h
 
 -- and the other way round
-Has-loop : (es : List ℕ) (x : ℕ) → Has (x / 2) es → Has x (loop_darts (map (λ e. 2 * e) es))
+pub Has-loop : (es : List ℕ) (x : ℕ) → Has (x / 2) es → Has x (loop_darts (map (λ e. 2 * e) es))
 Has-loop [] x h = absurd h
 Has-loop (e ∷ es) x h = ⊎_elim
     (λ same. ⊎_elim
@@ -217,7 +217,7 @@ Has-loop (e ∷ es) x h = ⊎_elim
     h
 
 -- none stands twice
-loop-Distinct : (es : List ℕ) → Distinct es → Distinct (loop_darts (map (λ e. 2 * e) es))
+pub loop-Distinct : (es : List ℕ) → Distinct es → Distinct (loop_darts (map (λ e. 2 * e) es))
 loop-Distinct [] once = tt
 loop-Distinct (e ∷ es) once =
     let rest : List ℕ = loop_darts (map (λ x. 2 * x) es) in
