@@ -79,6 +79,12 @@ table-Has L a (suc n) d h = ⊎_elim
     (λ k. let r = table-Has L (a + 1) n d k in (r.0, omega (arith, r.1), omega (arith, r.2), r.3))
     (Has-append_cases d (L a) (flat (map L (range_with_len (a + 1) n))) h)
 
+-- the two lists of a border
+pub pair-is : (g : Clustered) (l : Layout) (c : ℕ) → 0 < c
+    → border_pair g l c ≡ vertex_list g l (Outside c) ∷ vertex_list g l (Child c) ∷ []
+pair-is g l c above =
+    ap (λ es. reverse (map (in_dart g c) es) ∷ map (out_dart g c) es ∷ []) (sym (border_edges-inner l c above))
+
 -- lists of the edges of the instance
 module _ (g : Clustered) (is : IsClustered g) (s : ℕ → List ℕ)
     (are : AreEdgeLists (vertex_count g) (edge_count g) (ends g) s) where
@@ -148,18 +154,13 @@ module _ (g : Clustered) (is : IsClustered g) (s : ℕ → List ℕ)
         (let h = is_p.within in omega (arith, h))))
         (empty_or_item (kept_list g l p))
 
-    -- the two lists of a border
-    pair-is : (c : ℕ) → 0 < c → border_pair g l c ≡ vertex_list g l (Outside c) ∷ vertex_list g l (Child c) ∷ []
-    pair-is c above =
-        ap (λ es. reverse (map (in_dart g c) es) ∷ map (out_dart g c) es ∷ []) (sym (border_edges-inner l c above))
-
     -- the lists of the borders are rings
     Rings-pairs : (f : ℕ → ℕ) → Rings f stock_lists → (cs : List ℕ) → ((c : ℕ) → Has c cs → 0 < c)
         → Rings f (map (filter (keeps g)) (flat_map (border_pair g l) cs))
     Rings-pairs f rings [] all = tt
     Rings-pairs f rings (c ∷ cs) all =
         subst (λ pair. Rings f (map (filter (keeps g)) (pair ++ flat_map (border_pair g l) cs)))
-        (sym (pair-is c (all c (inl refl))))
+        (sym (pair-is g l c (all c (inl refl))))
         (
           Ring-kept_list f rings (Outside c),
           (
@@ -204,13 +205,13 @@ module _ (g : Clustered) (is : IsClustered g) (s : ℕ → List ℕ)
         (λ same.
         let xs : List ℕ = vertex_list g l (Outside b) in
         let ys : List ℕ = vertex_list g l (Child b) in
-        subst (λ pair. Has d (flat (pair ++ flat_map (border_pair g l) cs))) (sym (pair-is b (all b (inl refl))))
+        subst (λ pair. Has d (flat (pair ++ flat_map (border_pair g l) cs))) (sym (pair-is g l b (all b (inl refl))))
         (⊎_elim
         (λ k. Has-append_left d xs (ys ++ rest) (subst (λ x. Has d (vertex_list g l (Outside x))) (sym same) k))
         (λ k. Has-append_right d xs (ys ++ rest)
         (Has-append_left d ys rest (subst (λ x. Has d (vertex_list g l (Child x))) (sym same) k)))
         item))
-        (λ k. subst (λ pair. Has d (flat (pair ++ flat_map (border_pair g l) cs))) (sym (pair-is b (all b (inl refl))))
+        (λ k. subst (λ pair. Has d (flat (pair ++ flat_map (border_pair g l) cs))) (sym (pair-is g l b (all b (inl refl))))
         (Has-append_right d (vertex_list g l (Outside b)) (vertex_list g l (Child b) ++ rest)
         (Has-append_right d (vertex_list g l (Child b)) rest
         (pair-in cs (λ a m. all a (inr m)) c d k item))))

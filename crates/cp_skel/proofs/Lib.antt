@@ -22,6 +22,7 @@ mod SkeletonPipes
 mod LayoutSolutions
 mod SolutionLists
 mod SolutionArranged
+mod SolutionGood
 -- What these rest on.
 mod ClusterLevels
 mod Segments

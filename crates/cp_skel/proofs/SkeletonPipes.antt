@@ -4,7 +4,8 @@ use Rattle.std.specs.Prelude.{cond, eqb, not, slice_index_or, ◌&&◌, ◌||◌
 use Rattle.std.specs.List.{All, filter, find, list_any, range_with_len, zip}
 use Rattle.std.specs.Option.{option_map_or}
 use Rattle.std.proofs.lemmas.Bool.{and_parts, cases_eq, false≢true, or_cases, eq-eqb}
-use Rattle.std.proofs.lemmas.List.Elements.{All-cons, All-nil}
+use Rattle.std.proofs.lemmas.List.Elements.{All-cons, All-nil, All-tail}
+use Rattle.std.proofs.lemmas.List.FromFn.{length-range_with_len}
 use Rattle.cp_lists.specs.CyclicLists.{Has}
 use Rattle.cp_lists.proofs.FilteredLists.{Has-filter, filter-Has}
 use Rattle.cp_conn.specs.NamedGraphs.{rank}
@@ -18,6 +19,7 @@ use Rattle.cp_skel.proofs.DartVertices.{StandsAt, StandsAt-kept, in_dart-StandsA
 use Rattle.cp_skel.proofs.KeptSegments.{segment_apart}
 use Rattle.cp_skel.proofs.Ranges.{Has-range, range-Has}
 use Rattle.cp_skel.proofs.SkeletonGraph.{find_named}
+use Rattle.cp_skel.proofs.SkeletonVertices.{is_left-from}
 use Rattle.cp_skel.proofs.StockDarts.{kept_name}
 
 -- an item passes where some item does
@@ -61,6 +63,26 @@ pub All-pipes : (g : Clustered) (P : Pipe → Type 0)
     → All P (skeletons g).pipes
 All-pipes g P of = all_pipes g P (below (length (left g))) (left g)
     (λ n c h. let w = left-Has g c h in let e = left-edge g c w.2 in of n c e.0 w.0 w.1 e.1 e.2)
+
+-- what holds of all pipes of some clusters holds of that of each
+pipe_of-some : (g : Clustered) (P : Pipe → Type 0) (ns cs : List ℕ) (c : ℕ) → length ns ≡ length cs
+    → All P (map (λ x. skeleton_pipe g x.0 x.1) (zip ns cs)) → Has c cs → (n : ℕ) × P (skeleton_pipe g n c)
+pipe_of-some g P ns [] c long all h = absurd h
+pipe_of-some g P [] (b ∷ cs) c long all h = absurd (omega (arith, long))
+pipe_of-some g P (n ∷ ns) (b ∷ cs) c long all h =
+    let rows : List Pipe = map (λ x. skeleton_pipe g x.0 x.1) (zip ns cs) in
+    ⊎_elim
+    (λ same. (n, subst (λ x. P (skeleton_pipe g n x)) same (all 0 (skeleton_pipe g n b) (omega arith))))
+    (λ k. pipe_of-some g P ns cs c (omega (arith, long)) (All-tail P (skeleton_pipe g n b) rows all) k)
+    h
+
+-- so there is one for each cluster that an edge leaves
+pub pipe-of : (g : Clustered) (P : Pipe → Type 0) (c e : ℕ) → 0 < c → c < clusters g → e < edges g
+    → leaves g c e ≡ true → All P (skeletons g).pipes → (n : ℕ) × P (skeleton_pipe g n c)
+pipe-of g P c e above cluster lt leave all =
+    pipe_of-some g P (below (length (left g))) (left g) c (length-range_with_len 0 (length (left g))) all
+    (Has-filter (is_left g) c (below (clusters g)) (Has-range c 0 (clusters g) (omega arith) (omega (arith, cluster)))
+    (is_left-from g c e above lt leave))
 
 -- darts at a border whose segments have one name are of one edge
 module _ (g : Clustered) (is : IsClustered g) (c : ℕ) (cluster : c < clusters g) where
