@@ -1,6 +1,6 @@
 -- Lists of the instance that agree with an arranged layout: one map has both, so the rotation of the instance has genus
 -- zero exactly where the lists of the layout without loops are plane.
-use Rattle.std.proofs.Common.{◌≡◌, ◌⊎◌, ◌↔◌, ℕ, zero, suc, ◌+◌, ◌-◌, ◌*◌, ◌/◌, ◌<◌, ◌≤◌, List, [], ◌∷◌, ◌++◌, map, reverse, length, sym, refl, ap, ap₂, ◌∙◌, subst, inl, inr, ⊎_elim, arith}
+use Rattle.std.proofs.Common.{◌≡◌, ◌⊎◌, ◌↔◌, ℕ, zero, suc, ◌+◌, ◌*◌, ◌/◌, ◌<◌, ◌≤◌, List, [], ◌∷◌, ◌++◌, map, reverse, length, sym, refl, ap, ap₂, ◌∙◌, subst, inl, inr, ⊎_elim, arith}
 use Rattle.std.specs.Prelude.{slice_index_or}
 use Rattle.std.specs.List.{filter, flat_map, range_with_len}
 use Rattle.std.proofs.lemmas.Bool.{cases_eq}
@@ -13,7 +13,7 @@ use Rattle.cp_lists.proofs.FlatLists.{Has-flat, flat-append, flat-filter}
 use Rattle.cp_lists.proofs.MappedLists.{Has-map_on, map_on-Has}
 use Rattle.cp_conn.specs.NamedGraphs.{rank}
 use Rattle.cp_rot.specs.Genus.{HasGenusZero}
-use Rattle.cp_rot.specs.Systems.{list_of, next, vertex_of}
+use Rattle.cp_rot.specs.Systems.{list_of, next}
 use Rattle.cp_board.specs.Rotations.{dart, system}
 use Rattle.cp_cgraph.specs.Clustered.{Clustered, IsClustered, clusters, node_of, nodes}
 use Rattle.cp_cgraph.specs.declared.layout.Layout.{Layout}
@@ -27,12 +27,12 @@ use Rattle.cp_maps.proofs.MapLists.{IsMapOf-other}
 use Rattle.cp_maps.proofs.Rings.{Ring-turned, Rings-append}
 use Rattle.cp_skel.specs.SkeletonLists.{border_pair, in_dart, inner_clusters, out_dart, skeleton_lists}
 use Rattle.cp_skel.specs.Skeletons.{Child, IsVertex, Node, Outside, Vertex, dart_vertex, kept_segments, vertex_name}
-use Rattle.cp_skel.specs.VertexLists.{Agree, border_edges, keeps, kept_list, stock_dart, stock_list, vertex_list}
+use Rattle.cp_skel.specs.VertexLists.{Agree, keeps, kept_list, stock_dart, stock_list, vertex_list}
 use Rattle.cp_skel.proofs.ClosedBorders.{inner_cluster}
 use Rattle.cp_skel.proofs.DartVertices.{end_dart-StandsAt, in_dart-StandsAt, out_dart-StandsAt}
 use Rattle.cp_skel.proofs.KeptDarts.{DartKind, at_node, dart_kind, inside, outside}
-use Rattle.cp_skel.proofs.NumberedSystems.{AreEdgeLists, IsMapOf-numbers, dart_of_edge, list_is, named-IsMapOf, numbers-IsFlat, own_dart, stands_within}
-use Rattle.cp_skel.proofs.Ranges.{Has-range, range-Has}
+use Rattle.cp_skel.proofs.NumberedSystems.{AreEdgeLists, IsMapOf-numbers, list_is, named-IsMapOf, numbers-IsFlat, own_dart}
+use Rattle.cp_skel.proofs.Ranges.{Has-range}
 use Rattle.cp_skel.proofs.SkeletonLists.{IsMapOf-skeletons}
 use Rattle.cp_skel.proofs.SkeletonVertices.{kept-IsVertex, node_of-lt}
 use Rattle.cp_skel.proofs.StockDarts.{edge_count, ends, ends-differ, ends-within, kept-stock, skeleton_graph, stock-Names, stock-kept, vertex_count}
@@ -117,7 +117,7 @@ module _ (g : Clustered) (is : IsClustered g) (s : ℕ → List ℕ)
       let m = map_on-Has (stock_dart g) d (map (dart (skeleton_graph g) v) (s v)) h in
       let e = map_on-Has (dart (skeleton_graph g) v) m.0 (s v) m.1 in
       let own = own_dart (vertex_count g) (edge_count g) (ends g) s (ends-within g is) (ends-differ g is) are v e.0 lt
-          e.1 in
+      e.1 in
       subst (λ x. Has (x / 2) (kept_segments g)) m.2
       (stock-kept g m.0 (subst (λ x. x < 2 * edge_count g) e.2 own.1))
 
@@ -160,8 +160,7 @@ module _ (g : Clustered) (is : IsClustered g) (s : ℕ → List ℕ)
     Rings-pairs f rings [] all = tt
     Rings-pairs f rings (c ∷ cs) all =
         subst (λ pair. Rings f (map (filter (keeps g)) (pair ++ flat_map (border_pair g l) cs)))
-        (sym (pair-is g l c (all c (inl refl))))
-        (
+        (sym (pair-is g l c (all c (inl refl)))) (
           Ring-kept_list f rings (Outside c),
           (
             Ring-kept_list f rings (Child c),
@@ -174,14 +173,13 @@ module _ (g : Clustered) (is : IsClustered g) (s : ℕ → List ℕ)
         → ((i : ℕ) → i < length xs → slice_index_or xs i [] ≡ node_list l (k + i))
         → Rings f (map (filter (keeps g)) (map (map (end_dart g)) xs))
     Rings-nodes f rings [] k told = tt
-    Rings-nodes f rings (x ∷ xs) k told =
-        (
-          subst (λ zs. Ring f (filter (keeps g) (map (end_dart g) zs))) (sym (told 0 (omega arith)))
-              (Ring-kept_list f rings (Node (k + 0))),
-          Rings-nodes f rings xs (k + 1) (λ i lt.
-              let later : k + 1 + i ≡ k + suc i = omega arith in
-              told (suc i) (omega arith) ∙ ap (node_list l) (sym later)),
-        )
+    Rings-nodes f rings (x ∷ xs) k told = (
+      subst (λ zs. Ring f (filter (keeps g) (map (end_dart g) zs))) (sym (told 0 (omega arith)))
+          (Ring-kept_list f rings (Node (k + 0))),
+      Rings-nodes f rings xs (k + 1) (λ i lt.
+          let later : k + 1 + i ≡ k + suc i = omega arith in
+          told (suc i) (omega arith) ∙ ap (node_list l) (sym later)),
+    )
 
     -- all lists of the layout without loops are rings
     Rings-kept : (f : ℕ → ℕ) → Rings f stock_lists → Rings f kept_lists

@@ -1,19 +1,19 @@
 -- Where the darts of the segments stand in the skeletons.
-use Rattle.std.proofs.Common.{◌≡◌, ◌≢◌, ℕ, zero, suc, ◌+◌, ◌-◌, ◌*◌, ◌/◌, ◌%◌, ◌<◌, ◌≤◌, Bool, true, false, cond, List, [], ◌∷◌, ◌++◌, length, length-append, slice_index, sym, refl, ap, ◌∙◌, subst, ⊎_elim, arith}
+use Rattle.std.proofs.Common.{◌≡◌, ◌≢◌, ℕ, zero, suc, ◌+◌, ◌*◌, ◌/◌, ◌%◌, ◌<◌, Bool, true, List, [], ◌∷◌, ◌++◌, length, length-append, slice_index, sym, refl, ap, ◌∙◌, subst, ⊎_elim, arith}
 use Rattle.std.specs.Prelude.{not, slice_index_or, ◌==◌}
-use Rattle.std.specs.List.{flat_map, range_with_len}
+use Rattle.std.specs.List.{flat_map}
 use Rattle.std.proofs.lemmas.Bool.{cases_Bool, cases_eq, cond-false, cond-true, eq-eqb, false≢true, ne_eqb}
 use Rattle.std.proofs.lemmas.List.{get_or_append_left, get_or_at}
 use Rattle.cp_lists.specs.CyclicLists.{Has}
 use Rattle.cp_cgraph.specs.Clustered.{Clustered, IsClustered, clusters, edges, node_of, source, target}
 use Rattle.cp_cgraph.specs.Crossings.{contains, crossings, leaves}
-use Rattle.cp_border.specs.Borders.{crossed, end_dart, first_segment, segments}
+use Rattle.cp_border.specs.Borders.{crossed, end_dart, first_segment}
 use Rattle.cp_border.proofs.Darts.{segment_size, segment_sizes, toward_source, toward_target}
 use Rattle.cp_border.proofs.Numbering.{piece_at}
-use Rattle.cp_border.proofs.Rotation.{IsCrossing, crossing_at, crossing_of, end_source, end_target}
+use Rattle.cp_border.proofs.Rotation.{IsCrossing, crossing_of, end_source, end_target}
 use Rattle.cp_skel.specs.SkeletonLists.{crossing_place, dart_before, dart_behind, in_dart, out_dart}
 use Rattle.cp_skel.specs.Skeletons.{Child, Node, Outside, Vertex, begins_at_border, dart_vertex, edge_vertices, ends_at_border, kept_segments}
-use Rattle.cp_skel.proofs.KeptSegments.{IsSegmentOf, kept-segment, segment-kept}
+use Rattle.cp_skel.proofs.KeptSegments.{IsSegmentOf, segment-kept}
 
 -- two items for each of a list
 abbrev twos : (ℕ → Vertex) → (ℕ → Vertex) → List ℕ → List Vertex

@@ -1,5 +1,5 @@
 -- The darts of the segments that are kept: at nodes, inside borders and outside; and no such segment is a loop.
-use Rattle.std.proofs.Common.{◌≡◌, ◌≢◌, true, false, ℕ, zero, suc, ◌+◌, ◌-◌, ◌*◌, ◌/◌, ◌%◌, ◌<◌, ◌≤◌, Bool, cond, sym, refl, ap, ◌∙◌, subst, slice_index, ⊎_elim, arith}
+use Rattle.std.proofs.Common.{◌≡◌, ◌≢◌, true, false, ℕ, ◌+◌, ◌-◌, ◌*◌, ◌/◌, ◌%◌, ◌<◌, Bool, cond, sym, refl, ap, ◌∙◌, subst, slice_index, ⊎_elim, arith}
 use Rattle.std.proofs.lemmas.Bool.{cases_Bool, cases_eq, cond-false, cond-true}
 use Rattle.cp_lists.specs.CyclicLists.{Has}
 use Rattle.cp_cgraph.specs.Clustered.{Clustered, IsClustered, clusters, edges, source, target}
@@ -7,8 +7,6 @@ use Rattle.cp_cgraph.specs.Crossings.{contains, crossings, leaves}
 use Rattle.cp_border.specs.Borders.{crossed, end_dart, first_segment}
 use Rattle.cp_border.proofs.Darts.{toward_source, toward_target}
 use Rattle.cp_border.proofs.Rotation.{IsCrossing, crossing_at, end_source, end_target}
-use Rattle.cp_maps.specs.Twins.{twin}
-use Rattle.cp_maps.proofs.Twins.{twin_even, twin_odd}
 use Rattle.cp_skel.specs.SkeletonLists.{crossing_place, dart_before, dart_behind, in_dart, out_dart}
 use Rattle.cp_skel.specs.Skeletons.{Child, Node, Outside, Vertex, begins_at_border, dart_vertex, ends_at_border, kept_segments}
 use Rattle.cp_skel.proofs.DartVertices.{begins_vertex, ends_vertex, source_vertex, target_vertex}

@@ -1,15 +1,15 @@
 -- The segments of the edges that are no loops.
-use Rattle.std.proofs.Common.{◌≡◌, ◌≢◌, ℕ, zero, suc, ◌+◌, ◌-◌, ◌*◌, ◌<◌, ◌≤◌, List, [], ◌∷◌, ◌++◌, sym, refl, ap, ◌∙◌, subst, ⊎_elim, arith}
-use Rattle.std.specs.Prelude.{cond, eqb}
+use Rattle.std.proofs.Common.{◌≡◌, ◌≢◌, ℕ, zero, suc, ◌+◌, ◌-◌, ◌<◌, ◌≤◌, List, [], sym, subst, ⊎_elim, arith}
+use Rattle.std.specs.Prelude.{eqb}
 use Rattle.std.specs.List.{flat_map, range_with_len}
 use Rattle.std.proofs.lemmas.Bool.{cases_eq, cond-false, cond-true, eq-eqb, ne_eqb}
 use Rattle.cp_lists.specs.CyclicLists.{Distinct, Has}
 use Rattle.cp_lists.proofs.DistinctLists.{Distinct-append, Has-append_cases, Has-append_left, Has-append_right, Lacks-from}
 use Rattle.cp_cgraph.specs.Clustered.{Clustered, edges, source, target}
-use Rattle.cp_border.specs.Borders.{before, crossed, first_segment, segments}
+use Rattle.cp_border.specs.Borders.{crossed, first_segment, segments}
 use Rattle.cp_border.proofs.Darts.{first_segment-le}
 use Rattle.cp_border.proofs.Numbering.{before_apart}
-use Rattle.cp_skel.specs.Skeletons.{below, kept_segments, segments_of}
+use Rattle.cp_skel.specs.Skeletons.{kept_segments, segments_of}
 use Rattle.cp_skel.proofs.Ranges.{Distinct-range, Has-range, range-Has}
 use Rattle.cp_skel.proofs.SkeletonLevels.{before_more}
 
@@ -89,7 +89,7 @@ pieces-Distinct g a (suc n) =
     let j : ℕ = t - first_segment g a in
     let i : ℕ = t - first_segment g r.0 in
     let same = segment_apart g a (t - first_segment g a) r.0 (t - first_segment g r.0) (omega (arith, one.1, one.2))
-        (omega (arith, two.1, two.2)) (omega (arith, one.1, two.1)) in
+    (omega (arith, two.1, two.2)) (omega (arith, one.1, two.1)) in
     omega (arith, same.0, r.1)))
 
 -- no segment is kept twice

@@ -1,5 +1,5 @@
 -- A good layout solves the skeletons.
-use Rattle.std.proofs.Common.{◌≡◌, ◌⊎◌, ◌≢◌, ℕ, suc, ◌+◌, ◌-◌, ◌*◌, ◌/◌, ◌%◌, ◌<◌, ◌≤◌, Bool, true, false, List, [], ◌∷◌, map, reverse, length, sym, refl, ap, ap₂, ◌∙◌, subst, inl, inr, ⊎_elim, arith}
+use Rattle.std.proofs.Common.{◌≡◌, ◌⊎◌, ℕ, ◌+◌, ◌*◌, ◌/◌, ◌<◌, ◌≤◌, Bool, true, false, List, [], map, reverse, sym, refl, ap, ◌∙◌, subst, inl, inr, ⊎_elim, arith}
 use Rattle.std.specs.Prelude.{cond, eqb, slice_index_or}
 use Rattle.std.specs.List.{All, range_with_len}
 use Rattle.std.proofs.lemmas.Bool.{cases_eq, cond-false, cond-true, eq-eqb, ne_eqb}
@@ -12,9 +12,7 @@ use Rattle.cp_lists.proofs.ReversedLists.{map-reverse, reverse-Has}
 use Rattle.cp_lists.proofs.TurnedLists.{turn-refl}
 use Rattle.cp_conn.specs.NamedGraphs.{rank}
 use Rattle.cp_conn.proofs.DistinctSubsets.{subset_length}
-use Rattle.cp_rot.specs.Genus.{HasGenusZero}
-use Rattle.cp_board.specs.Instances.{graph}
-use Rattle.cp_board.specs.Rotations.{IsRotationOf, dart, system}
+use Rattle.cp_board.specs.Rotations.{IsRotationOf, dart}
 use Rattle.cp_board.specs.Solutions.{IsInDirection, IsMirror, Solves, second_of}
 use Rattle.cp_board.specs.declared.parts.Kind.TheVariants.{P}
 use Rattle.cp_board.specs.declared.parts.Vert.{Vert}
@@ -28,7 +26,7 @@ use Rattle.cp_maps.specs.Maps.{IsMapOf, next_by}
 use Rattle.cp_maps.proofs.ListFacts.{has_yes}
 use Rattle.cp_skel.specs.SkeletonLists.{in_dart, out_dart}
 use Rattle.cp_skel.specs.Skeletons.{Child, IsVertex, Node, Outside, Vertex, all_vertices, dart_vertex, kept_segments, segment_name, skeleton_pipe, skeletons, vertex_name}
-use Rattle.cp_skel.specs.VertexLists.{Agree, border_edges, keeps, kept_list, layout_list, stock_dart, stock_list, vertex_list}
+use Rattle.cp_skel.specs.VertexLists.{Agree, border_edges, keeps, kept_list, layout_list, stock_dart, stock_list}
 use Rattle.cp_skel.proofs.AgreeingLists.{IsMapOf-kept, IsMapOf-stock, stock-IsFlat, stock_lists}
 use Rattle.cp_skel.proofs.DartVertices.{StandsAt-kept, in_dart-StandsAt, out_dart-StandsAt}
 use Rattle.cp_skel.proofs.GoodLayouts.{kept_skeletons}
@@ -47,7 +45,7 @@ use Rattle.cp_skel.proofs.VertexLists.{border_edge, kept-Has, kept_list-Distinct
 pub edge_count-le : (g : Clustered) → edge_count g ≤ segments g
 edge_count-le g =
     let h = subset_length (kept_segments g) (range_with_len 0 (segments g)) (kept_segments-Distinct g)
-        (λ t k. Has-range t 0 (segments g) (omega arith) (omega (arith, kept_segment-lt g t k))) in
+    (λ t k. Has-range t 0 (segments g) (omega arith) (omega (arith, kept_segment-lt g t k))) in
     omega (arith, h, length-range_with_len 0 (segments g))
 
 -- each vertex is a P-vertex, so all directions are right
@@ -138,7 +136,7 @@ module _ (g : Clustered) (l : Layout) (is : IsClustered g) (ar : IsArranged g l)
         ⊎_elim
         (λ same.
         let m = map_on-Has (segment_name g) n (kept_list g l p)
-            (subst (Has n) (cond-true (eqb (vertex_name g p) v) names [] (eq-eqb (vertex_name g p) v same)) h) in
+        (subst (Has n) (cond-true (eqb (vertex_name g p) v) names [] (eq-eqb (vertex_name g p) v same)) h) in
         let w = kept_list-stands g l is ar p m.0 m.1 in
         let k = kept-stock g is m.0 w.0 in
         let at : vertex_name g (dart_vertex g m.0) ≡ v = ap (vertex_name g) w.1 ∙ same in

@@ -1,4 +1,6 @@
 -- Facts about the definitions, for callers.
+pub mod Skeletons
+pub mod TurnedLayouts
 pub mod GoodLayouts
 pub mod SkeletonLists
 pub mod TabledLists

@@ -1,7 +1,7 @@
 -- The rotation system of a graph whose vertices are the numbers below n, and whose edges are the numbers below m.
-use Rattle.std.proofs.Common.{◌≡◌, ◌≢◌, ◌↔◌, ◌⊎◌, ℕ, zero, suc, ◌+◌, ◌*◌, ◌/◌, ◌%◌, ◌<◌, ◌≤◌, Bool, true, false, cond, List, [], ◌∷◌, ◌++◌, map, length, slice_index, sym, refl, ap, ◌∙◌, subst, inl, inr, ⊎_elim, arith, IsPermutation}
+use Rattle.std.proofs.Common.{◌≡◌, ◌≢◌, ◌↔◌, ◌⊎◌, ℕ, ◌+◌, ◌*◌, ◌/◌, ◌%◌, ◌<◌, ◌≤◌, cond, List, [], map, sym, ap, ◌∙◌, subst, inl, inr, ⊎_elim, arith, IsPermutation}
 use Rattle.std.specs.Prelude.{eqb, ◌==◌, slice_index_or}
-use Rattle.std.specs.List.{All, flat_map, range_with_len}
+use Rattle.std.specs.List.{All, range_with_len}
 use Rattle.std.proofs.lemmas.Bool.{cases_eq, cond-false, cond-true, eq-eqb, eqb-true, ne_eqb, or_cases, or_left, or_right}
 use Rattle.std.proofs.lemmas.List.FromFn.{get_or-map-range_with_len, get_or-range_with_len, length-map-range_with_len, length-range_with_len}
 use Rattle.cp_lists.specs.Count.{Exactly}
@@ -16,7 +16,7 @@ use Rattle.cp_conn.specs.NamedGraphs.{NamedGraph, edges_at, ends_at, rank}
 use Rattle.cp_conn.proofs.NamedGraphs.{rank_is}
 use Rattle.cp_rot.specs.Genus.{HasGenusZero}
 use Rattle.cp_rot.specs.Systems.{IsRotation, System, darts, edges, list_of, next, vertex_of}
-use Rattle.cp_border.proofs.Numbering.{length-pairs, pairs, pairs_first, pairs_second}
+use Rattle.cp_border.proofs.Numbering.{length-pairs, pairs_first, pairs_second}
 use Rattle.cp_board.specs.Rotations.{ArrangesEdges, dart, system}
 use Rattle.cp_maps.specs.Genus.{IsFlat, OneGenus}
 use Rattle.cp_maps.specs.Maps.{IsMapOf, flat, next_by}
@@ -155,8 +155,7 @@ module _ (n m : ℕ) (ends : ℕ → ℕ × ℕ) (s : ℕ → List ℕ)
       (are.distinct v ltv))
       (λ d h.
       let w = map_on-Has (dart graph v) d (s v) h in
-      let o = own_dart v w.0 ltv w.1 in
-      (
+      let o = own_dart v w.0 ltv w.1 in (
         omega (arith, o.1, w.2, dart_count),
         eq-eqb (vertex_of r d) v (ap (vertex_of r) (sym w.2) ∙ o.2),
       ))

@@ -1,15 +1,14 @@
 -- The graph of the skeletons: its vertices and edges are numbers, and each edge has the two ends of its segment.
-use Rattle.std.proofs.Common.{◌≡◌, ◌≢◌, ℕ, zero, suc, ◌+◌, ◌-◌, ◌*◌, ◌/◌, ◌<◌, ◌≤◌, Bool, List, [], ◌∷◌, map, length, sym, refl, ap, ap₂, ◌∙◌, subst, inl, inr, ⊎_elim, arith}
-use Rattle.std.specs.Prelude.{cond, eqb, slice_index_or, Option, Some, None}
-use Rattle.std.specs.List.{find, range_with_len}
+use Rattle.std.proofs.Common.{◌≡◌, ℕ, ◌+◌, ◌*◌, ◌/◌, ◌<◌, List, [], ◌∷◌, map, length, sym, refl, ap, ap₂, ◌∙◌, inl, inr, ⊎_elim, arith}
+use Rattle.std.specs.Prelude.{eqb, slice_index_or, Option, Some}
+use Rattle.std.specs.List.{find}
 use Rattle.std.specs.Option.{option_map_or}
 use Rattle.std.proofs.lemmas.Bool.{cases_eq, cond-false, cond-true, eq-eqb, ne_eqb}
-use Rattle.cp_lists.specs.CyclicLists.{Distinct, Has}
+use Rattle.cp_lists.specs.CyclicLists.{Has}
 use Rattle.cp_lists.proofs.DistinctLists.{Has-Contains}
 use Rattle.cp_conn.specs.NamedGraphs.{rank}
 use Rattle.cp_conn.proofs.NamedGraphs.{rank_at, rank_is}
 use Rattle.cp_board.specs.Instances.{edge_names, ends_of, graph, vert_names}
-use Rattle.cp_board.specs.declared.parts.EdgeRow.{EdgeRow}
 use Rattle.cp_board.specs.declared.parts.Kind.TheVariants.{P}
 use Rattle.cp_board.specs.declared.parts.Vert.{Vert}
 use Rattle.cp_cgraph.specs.Clustered.{Clustered}

@@ -1,21 +1,20 @@
 -- The pipes of the skeletons: one for each cluster that some edge leaves, with the edges that leave it as pairs.
-use Rattle.std.proofs.Common.{◌≡◌, ℕ, ◌+◌, ◌*◌, ◌/◌, ◌<◌, ◌≤◌, Bool, true, List, [], ◌∷◌, map, length, sym, refl, ap, ◌∙◌, subst, inl, inr, ⊎_elim, arith}
-use Rattle.std.specs.Prelude.{cond, eqb, not, slice_index_or, ◌&&◌, ◌||◌}
-use Rattle.std.specs.List.{All, filter, find, list_any, range_with_len, zip}
+use Rattle.std.proofs.Common.{◌≡◌, ℕ, ◌/◌, ◌<◌, Bool, true, List, [], ◌∷◌, map, length, sym, refl, ap, ◌∙◌, subst, inl, inr, ⊎_elim, arith}
+use Rattle.std.specs.Prelude.{eqb, not, slice_index_or}
+use Rattle.std.specs.List.{All, filter, list_any, zip}
 use Rattle.std.specs.Option.{option_map_or}
 use Rattle.std.proofs.lemmas.Bool.{and_parts, cases_eq, false≢true, or_cases, eq-eqb}
 use Rattle.std.proofs.lemmas.List.Elements.{All-cons, All-nil, All-tail}
 use Rattle.std.proofs.lemmas.List.FromFn.{length-range_with_len}
 use Rattle.cp_lists.specs.CyclicLists.{Has}
 use Rattle.cp_lists.proofs.FilteredLists.{Has-filter, filter-Has}
-use Rattle.cp_conn.specs.NamedGraphs.{rank}
-use Rattle.cp_board.specs.Solutions.{first_of, second_of}
+use Rattle.cp_board.specs.Solutions.{second_of}
 use Rattle.cp_board.specs.declared.parts.Pipe.{Pipe}
 use Rattle.cp_cgraph.specs.Clustered.{Clustered, IsClustered, clusters, edges}
 use Rattle.cp_cgraph.specs.Crossings.{leaves}
 use Rattle.cp_skel.specs.SkeletonLists.{in_dart, out_dart}
-use Rattle.cp_skel.specs.Skeletons.{Child, Outside, Vertex, below, border_pairs, is_left, kept_segments, left, segment_name, skeleton_pipe, skeletons}
-use Rattle.cp_skel.proofs.DartVertices.{StandsAt, StandsAt-kept, in_dart-StandsAt, out_dart-StandsAt}
+use Rattle.cp_skel.specs.Skeletons.{Child, Vertex, below, is_left, kept_segments, left, segment_name, skeleton_pipe, skeletons}
+use Rattle.cp_skel.proofs.DartVertices.{StandsAt, StandsAt-kept, out_dart-StandsAt}
 use Rattle.cp_skel.proofs.KeptSegments.{segment_apart}
 use Rattle.cp_skel.proofs.Ranges.{Has-range, range-Has}
 use Rattle.cp_skel.proofs.SkeletonGraph.{find_named}
@@ -52,9 +51,9 @@ left-Has g c h =
     let w = filter-Has (is_left g) c (below (clusters g)) h in
     let two = and_parts (not (eqb c 0)) (list_any (leaves g c) (below (edges g))) w.1 in
     let above : 0 < c = ⊎_elim
-        (λ root. absurd (false≢true (sym (ap not (eq-eqb c 0 root)) ∙ two.0)))
-        (λ ne. omega arith)
-        (cases_eq c 0) in
+    (λ root. absurd (false≢true (sym (ap not (eq-eqb c 0 root)) ∙ two.0)))
+    (λ ne. omega arith)
+    (cases_eq c 0) in
     (above, omega (arith, (range-Has c 0 (clusters g) w.0).1), w.1)
 
 -- what holds of the pipes of such clusters holds of all

@@ -1,9 +1,8 @@
 -- The vertices of the skeletons: each has its name, and each dart of a segment that is kept stands at one.
-use Rattle.std.proofs.Common.{◌≡◌, ℕ, zero, suc, ◌+◌, ◌*◌, ◌/◌, ◌<◌, ◌≤◌, Bool, true, false, List, [], ◌∷◌, ◌++◌, map, length, get_or, sym, refl, ap, ◌∙◌, subst, ⊎_elim, arith}
-use Rattle.std.specs.Prelude.{cond, eqb, not, slice_index_or, ◌%◌, ◌==◌, ◌&&◌}
-use Rattle.std.specs.List.{Contains, filter, flat_map, list_any, position_or_len, range_with_len}
+use Rattle.std.proofs.Common.{◌≡◌, ℕ, zero, suc, ◌+◌, ◌*◌, ◌/◌, ◌<◌, ◌≤◌, Bool, true, List, [], ◌∷◌, ◌++◌, map, length, sym, refl, ap, ◌∙◌, subst, ⊎_elim, arith}
+use Rattle.std.specs.Prelude.{cond, eqb, not, slice_index_or, ◌%◌, ◌==◌}
+use Rattle.std.specs.List.{Contains, filter, flat_map, list_any, range_with_len}
 use Rattle.std.proofs.lemmas.Bool.{and_from, cases_eq, cases_lt, cond-false, cond-true, eq-eqb, eqb-true, false≢true, ne_eqb}
-use Rattle.std.proofs.lemmas.List.{get_or-map}
 use Rattle.std.proofs.lemmas.List.Elements.{Contains-append_left, Contains-append_right}
 use Rattle.std.proofs.lemmas.List.Folds.{list_any_at}
 use Rattle.std.proofs.lemmas.List.FromFn.{get_or-range_with_len, length-range_with_len}
@@ -15,7 +14,7 @@ use Rattle.cp_conn.proofs.NamedGraphs.{map_has}
 use Rattle.cp_cgraph.specs.Clustered.{Clustered, IsClustered, clusters, edges, home, node_of, nodes, parent, source, target}
 use Rattle.cp_cgraph.specs.Crossings.{leaves}
 use Rattle.cp_skel.specs.Skeletons.{Child, IsVertex, Node, Outside, Vertex, all_vertices, below, dart_vertex, is_left, is_vertex, kept_segments, left, vertex_name, vertices_in}
-use Rattle.cp_skel.proofs.DartVertices.{StandsAt, end_dart-StandsAt, in_dart-StandsAt, out_dart-StandsAt}
+use Rattle.cp_skel.proofs.DartVertices.{end_dart-StandsAt, in_dart-StandsAt, out_dart-StandsAt}
 use Rattle.cp_skel.proofs.KeptDarts.{DartKind, at_node, dart_kind, inside, outside}
 use Rattle.cp_skel.proofs.Ranges.{Has-range}
 

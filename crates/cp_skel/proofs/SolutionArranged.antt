@@ -1,7 +1,7 @@
 -- The layout that a solution gives is arranged.
-use Rattle.std.proofs.Common.{◌≡◌, ◌≢◌, ℕ, suc, ◌+◌, ◌-◌, ◌*◌, ◌/◌, ◌%◌, ◌<◌, ◌≤◌, Bool, true, false, List, [], ◌∷◌, ◌++◌, map, length, sym, refl, ap, ◌∙◌, subst, inl, inr, ⊎_elim, arith}
-use Rattle.std.specs.Prelude.{cond, eqb, slice_index_or, ◌==◌, ◌&&◌}
-use Rattle.std.specs.List.{filter, range_with_len}
+use Rattle.std.proofs.Common.{◌≡◌, ℕ, ◌-◌, ◌*◌, ◌/◌, ◌%◌, ◌<◌, true, List, [], map, length, sym, ap, ◌∙◌, subst, ⊎_elim, arith}
+use Rattle.std.specs.Prelude.{eqb, ◌==◌, ◌&&◌}
+use Rattle.std.specs.List.{range_with_len}
 use Rattle.std.proofs.lemmas.Bool.{and_from, and_parts, cases_Bool, cases_eq, cond-false, cond-true, eq-eqb, eqb-true, false≢true, ne_eqb}
 use Rattle.std.proofs.lemmas.List.FromFn.{get_or-map-range_with_len, length-map-range_with_len}
 use Rattle.cp_lists.specs.Count.{Exactly}
@@ -15,7 +15,7 @@ use Rattle.cp_border.specs.Borders.{cluster_list, node_list}
 use Rattle.cp_border.specs.Good.{IsArranged}
 use Rattle.cp_skel.specs.LoopLists.{loop_darts}
 use Rattle.cp_skel.specs.SkeletonLists.{out_dart}
-use Rattle.cp_skel.specs.Skeletons.{Child, Vertex, below, is_left, kept_segments, segment_name, vertex_name}
+use Rattle.cp_skel.specs.Skeletons.{Child, below, is_left, segment_name, vertex_name}
 use Rattle.cp_skel.specs.SolutionLayouts.{loops_at, name_edge, solution_layout, solved_cluster, solved_darts, solved_node}
 use Rattle.cp_skel.proofs.DartVertices.{StandsAt-kept, out_dart-StandsAt}
 use Rattle.cp_skel.proofs.NumberedSystems.{AreEdgeLists}
@@ -116,7 +116,7 @@ module _ (g : Clustered) (is : IsClustered g) (s : ℕ → List ℕ)
       (λ f less left.
       let stands = out_dart-StandsAt g is c f less cluster left in
       let item = dart_named g is s are (Child c) (out_dart g c f) p
-          (StandsAt-kept g (out_dart g c f) f (Child c) stands) stands.at in
+      (StandsAt-kept g (out_dart g c f) f (Child c) stands) stands.at in
       subst (λ y. Has y (map (name_edge g) names)) (name_edge-is g (out_dart g c f) f (Child c) stands)
       (Has-map_on (name_edge g) (segment_name g (out_dart g c f)) names item.0))
 

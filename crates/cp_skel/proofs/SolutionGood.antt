@@ -1,23 +1,22 @@
 -- A solution of the skeletons gives a good layout.
-use Rattle.std.proofs.Common.{◌≡◌, ◌≢◌, ◌⊎◌, ℕ, zero, suc, ◌+◌, ◌-◌, ◌*◌, ◌/◌, ◌%◌, ◌<◌, ◌≤◌, Bool, true, false, List, [], ◌∷◌, ◌++◌, map, reverse, length, sym, refl, ap, ap₂, ◌∙◌, subst, inl, inr, ⊎_elim, arith}
-use Rattle.std.specs.Prelude.{cond, eqb, slice_index, slice_index_or}
+use Rattle.std.proofs.Common.{◌≡◌, ℕ, zero, suc, ◌+◌, ◌*◌, ◌/◌, ◌<◌, ◌≤◌, Bool, true, false, List, [], ◌∷◌, ◌++◌, map, reverse, sym, refl, ap, ap₂, ◌∙◌, subst, inl, inr, ⊎_elim, arith}
+use Rattle.std.specs.Prelude.{slice_index}
 use Rattle.std.specs.List.{All, filter, flat_map, range_with_len}
-use Rattle.std.proofs.lemmas.Bool.{cases_Bool, cases_eq, cond-true, false≢true}
+use Rattle.std.proofs.lemmas.Bool.{cases_Bool, cases_eq, cond-true}
 use Rattle.std.proofs.lemmas.List.{append-nil, map-append}
 use Rattle.std.proofs.lemmas.List.Elements.{filter-append}
 use Rattle.cp_lists.specs.CyclicLists.{Has}
 use Rattle.cp_lists.specs.Turns.{IsTurn}
 use Rattle.cp_lists.proofs.FilteredLists.{filter_all, filter_no}
-use Rattle.cp_lists.proofs.MappedLists.{map_agree_on, map_on-Has, map_undone}
+use Rattle.cp_lists.proofs.MappedLists.{map_agree_on, map_on-Has}
 use Rattle.cp_lists.proofs.ReversedLists.{map-reverse}
 use Rattle.cp_lists.proofs.TurnedLists.{turn-map, turn-refl, turn-sym}
-use Rattle.cp_board.specs.Instances.{graph}
-use Rattle.cp_board.specs.Rotations.{IsRotationOf, dart, system}
+use Rattle.cp_board.specs.Rotations.{IsRotationOf, dart}
 use Rattle.cp_board.specs.Solutions.{IsMirror, Solves, second_of}
 use Rattle.cp_cgraph.specs.Clustered.{Clustered, IsClustered, clusters, edges, node_of, nodes, source, target}
 use Rattle.cp_cgraph.specs.Crossings.{crossings, leaves}
 use Rattle.cp_cgraph.specs.declared.layout.Layout.{Layout}
-use Rattle.cp_border.specs.Borders.{cluster_list, crossed, end_dart, first_segment, node_list, segments}
+use Rattle.cp_border.specs.Borders.{crossed, end_dart, first_segment, segments}
 use Rattle.cp_border.specs.Good.{IsArranged, IsGood}
 use Rattle.cp_border.proofs.Rotation.{crossing_at, end_source, end_target}
 use Rattle.cp_maps.specs.Genus.{IsFlat}
@@ -27,8 +26,8 @@ use Rattle.cp_maps.proofs.ListFacts.{has_yes}
 use Rattle.cp_maps.proofs.Twins.{twin_even}
 use Rattle.cp_skel.specs.LoopLists.{AllTurned, Looped, bare_lists, loop_darts, looped_lists}
 use Rattle.cp_skel.specs.SkeletonLists.{border_pair, in_dart, inner_clusters, out_dart, skeleton_lists}
-use Rattle.cp_skel.specs.Skeletons.{Child, IsVertex, Node, Outside, Vertex, below, dart_vertex, is_left, kept_segments, segment_name, skeleton_pipe, skeletons, vertex_name}
-use Rattle.cp_skel.specs.SolutionLayouts.{loops_at, name_dart, name_edge, solution_layout, solved_cluster, solved_darts, solved_node}
+use Rattle.cp_skel.specs.Skeletons.{Child, Node, Outside, Vertex, below, dart_vertex, is_left, kept_segments, segment_name, skeleton_pipe, skeletons, vertex_name}
+use Rattle.cp_skel.specs.SolutionLayouts.{loops_at, name_dart, name_edge, solution_layout, solved_darts, solved_node}
 use Rattle.cp_skel.specs.VertexLists.{Agree, border_edges, keeps, kept_list, stock_dart, stock_list, vertex_list}
 use Rattle.cp_skel.proofs.AgreeingLists.{IsMapOf-kept, IsMapOf-stock, pair-is, stock-IsFlat, stock_lists}
 use Rattle.cp_skel.proofs.ClosedBorders.{inner_cluster}
@@ -37,10 +36,9 @@ use Rattle.cp_skel.proofs.GoodLayouts.{good_from}
 use Rattle.cp_skel.proofs.KeptDarts.{DartKind, at_node, dart_kind, inside, outside}
 use Rattle.cp_skel.proofs.LayoutSolutions.{edge_count-le, kept_list-child, kept_list-outside}
 use Rattle.cp_skel.proofs.NumberedSystems.{AreEdgeLists, arranged-AreEdgeLists}
-use Rattle.cp_skel.proofs.Ranges.{range-Has}
 use Rattle.cp_skel.proofs.SkeletonGraph.{graph-skeletons}
 use Rattle.cp_skel.proofs.SkeletonPipes.{pipe-of, second_of-pipe}
-use Rattle.cp_skel.proofs.SkeletonVertices.{child-IsVertex, is_left-from, node-IsVertex, node_of-lt, outside-IsVertex}
+use Rattle.cp_skel.proofs.SkeletonVertices.{child-IsVertex, is_left-from, node_of-lt, outside-IsVertex}
 use Rattle.cp_skel.proofs.SolutionArranged.{IsArranged-solution, cluster_list-solved, loops_at-Has, node_list-solved}
 use Rattle.cp_skel.proofs.SolutionLists.{child_name, dart_at, dart_named, loop-Has, named_dart, node_name, solved-Has}
 use Rattle.cp_skel.proofs.StockDarts.{edge_count, ends, skeleton_graph, vertex_count}
@@ -97,12 +95,12 @@ module _ (g : Clustered) (is : IsClustered g) (s : ℕ → List ℕ)
   ar = IsArranged-solution g is s are
 
   -- the darts of segments at a vertex
-  stock-is : (p : Vertex) → stock_list (skeleton_graph g) g s (vertex_name g p)
+  pub stock-is : (p : Vertex) → stock_list (skeleton_graph g) g s (vertex_name g p)
       ≡ map (dart_at g is s are p) (s (vertex_name g p))
   stock-is p = map_twice (dart (skeleton_graph g) (vertex_name g p)) (stock_dart g) (s (vertex_name g p))
 
   -- the darts of a node without loops are those of the solution
-  ends-are : (v : ℕ) → v < nodes g
+  pub ends-are : (v : ℕ) → v < nodes g
       → map (end_dart g) (solved_darts g s v) ≡ stock_list (skeleton_graph g) g s (vertex_name g (Node v))
   ends-are v lt =
       let names : List ℕ = s (vertex_name g (Node v)) in
@@ -121,7 +119,7 @@ module _ (g : Clustered) (is : IsClustered g) (s : ℕ → List ℕ)
       (λ e h. let w = loops_at-Has g v e h in loop-crossed g is e w.0 (w.1 ∙ sym w.2)))
 
   -- the loops left out, the first are left
-  kept_node-is : (v : ℕ) → v < nodes g
+  pub kept_node-is : (v : ℕ) → v < nodes g
       → filter (keeps g) (map (end_dart g) (solved_node g s v)) ≡ map (end_dart g) (solved_darts g s v)
   kept_node-is v lt =
       let xs : List ℕ = map (end_dart g) (solved_darts g s v) in
@@ -233,8 +231,10 @@ module _ (g : Clustered) (is : IsClustered g) (s : ℕ → List ℕ)
   -- with loops they are the lists of the layout, and without loops those of the solution
   looped_lists-are : (k n : ℕ) → k + n ≤ nodes g
       → map (map (end_dart g)) (map (solved_node g s) (range_with_len k n))
-      ≡ looped_lists (map (λ v. (map (end_dart g) (solved_darts g s v),
-      map (λ e. 2 * first_segment g e) (loops_at g v))) (range_with_len k n))
+      ≡ looped_lists (map (λ v. (
+        map (end_dart g) (solved_darts g s v),
+        map (λ e. 2 * first_segment g e) (loops_at g v),
+      )) (range_with_len k n))
   looped_lists-are k zero le = refl
   looped_lists-are k (suc n) le =
       ap₂ (λ (xs : List ℕ) (rows : List (List ℕ)). xs ∷ rows) (looped-are k (omega arith))
@@ -242,8 +242,10 @@ module _ (g : Clustered) (is : IsClustered g) (s : ℕ → List ℕ)
 
   bare_lists-are : (k n : ℕ) → k + n ≤ nodes g
       → map (filter (keeps g)) (map (map (end_dart g)) (map (solved_node g s) (range_with_len k n)))
-      ≡ bare_lists (map (λ v. (map (end_dart g) (solved_darts g s v),
-      map (λ e. 2 * first_segment g e) (loops_at g v))) (range_with_len k n))
+      ≡ bare_lists (map (λ v. (
+        map (end_dart g) (solved_darts g s v),
+        map (λ e. 2 * first_segment g e) (loops_at g v),
+      )) (range_with_len k n))
   bare_lists-are k zero le = refl
   bare_lists-are k (suc n) le =
       ap₂ (λ (xs : List ℕ) (rows : List (List ℕ)). xs ∷ rows) (kept_node-is k (omega arith))

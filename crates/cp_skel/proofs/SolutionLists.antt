@@ -1,14 +1,12 @@
 -- The edges and darts that the names in a solution stand for.
-use Rattle.std.proofs.Common.{◌≡◌, ◌≢◌, ◌⊎◌, ℕ, zero, suc, ◌+◌, ◌-◌, ◌*◌, ◌/◌, ◌%◌, ◌<◌, ◌≤◌, Bool, true, false, List, [], ◌∷◌, ◌++◌, map, reverse, length, sym, refl, ap, ap₂, ◌∙◌, subst, inl, inr, ⊎_elim, arith}
-use Rattle.std.specs.Prelude.{cond, eqb, slice_index_or, ◌==◌, ◌&&◌}
-use Rattle.std.specs.List.{filter, flat_map, range_with_len}
-use Rattle.std.proofs.lemmas.Bool.{and_from, and_parts, cases_Bool, cases_eq, cond-false, cond-true, eq-eqb, eqb-true, ne_eqb}
+use Rattle.std.proofs.Common.{◌≡◌, ◌≢◌, ℕ, ◌+◌, ◌*◌, ◌/◌, ◌%◌, ◌<◌, ◌≤◌, true, List, [], ◌∷◌, map, sym, ap, ap₂, ◌∙◌, subst, inl, inr, ⊎_elim, arith}
+use Rattle.std.specs.Prelude.{cond, eqb, slice_index_or, ◌==◌}
+use Rattle.std.specs.List.{range_with_len}
+use Rattle.std.proofs.lemmas.Bool.{cases_eq, cond-false, cond-true, eq-eqb, ne_eqb}
 use Rattle.std.proofs.lemmas.List.FromFn.{get_or-map-range_with_len, length-map-range_with_len}
 use Rattle.cp_lists.specs.CyclicLists.{Distinct, Has, Lacks}
-use Rattle.cp_lists.proofs.DistinctLists.{Distinct-append, Lacks-from, has_lacks}
-use Rattle.cp_lists.proofs.FilteredLists.{Has-filter, filter-Distinct, filter-Has, filter_no}
+use Rattle.cp_lists.proofs.DistinctLists.{Lacks-from, has_lacks}
 use Rattle.cp_lists.proofs.MappedLists.{Distinct-map_on, Has-map_on, map_on-Has}
-use Rattle.cp_conn.specs.NamedGraphs.{rank}
 use Rattle.cp_board.specs.Rotations.{dart}
 use Rattle.cp_cgraph.specs.Clustered.{Clustered, IsClustered, clusters, edges, node_of, nodes, source, target}
 use Rattle.cp_cgraph.specs.Crossings.{leaves}
@@ -17,16 +15,15 @@ use Rattle.cp_border.proofs.Numbering.{piece_at}
 use Rattle.cp_maps.specs.Twins.{twin}
 use Rattle.cp_maps.proofs.Twins.{twin_even}
 use Rattle.cp_skel.specs.LoopLists.{loop_darts}
-use Rattle.cp_skel.specs.SkeletonLists.{in_dart, out_dart}
-use Rattle.cp_skel.specs.Skeletons.{Child, IsVertex, Node, Outside, Vertex, below, dart_vertex, kept_segments, segment_name, vertex_name}
-use Rattle.cp_skel.specs.SolutionLayouts.{loops_at, name_dart, name_edge, segment_edges, solved_darts}
+use Rattle.cp_skel.specs.SkeletonLists.{out_dart}
+use Rattle.cp_skel.specs.Skeletons.{Child, IsVertex, Node, Outside, Vertex, dart_vertex, kept_segments, segment_name, vertex_name}
+use Rattle.cp_skel.specs.SolutionLayouts.{name_dart, name_edge, segment_edges, solved_darts}
 use Rattle.cp_skel.specs.VertexLists.{stock_dart}
 use Rattle.cp_skel.proofs.DartVertices.{StandsAt, StandsAt-kept, end_dart-StandsAt, in_dart-StandsAt, out_dart-StandsAt}
 use Rattle.cp_skel.proofs.KeptDarts.{DartKind, at_node, dart_kind, inside, outside}
 use Rattle.cp_skel.proofs.NumberedSystems.{AreEdgeLists}
-use Rattle.cp_skel.proofs.Ranges.{Distinct-range, Has-range, range-Has}
 use Rattle.cp_skel.proofs.SkeletonLevels.{before_more}
-use Rattle.cp_skel.proofs.SkeletonVertices.{child-IsVertex, kept-IsVertex, node-IsVertex}
+use Rattle.cp_skel.proofs.SkeletonVertices.{child-IsVertex, node-IsVertex}
 use Rattle.cp_skel.proofs.StockDarts.{edge_count, ends, kept-stock, kept_name, skeleton_graph, stock-stands, vertex_count}
 
 -- the edge of a segment
@@ -178,9 +175,14 @@ module _ (g : Clustered) (is : IsClustered g) (s : ℕ → List ℕ)
       × (dart_at (Node v) n ≡ end_dart g x) × (name_dart g v n ≡ x)
   node_name v n lt h =
       let w = named_dart (Node v) n (node-IsVertex g is v lt) h in
-      let a = dart-AtNode g is v (dart_at (Node v) n) w.0 w.1 in
-      (a.x, a.lt, a.no_loop, a.node, a.is,
-      ap₂ (λ u m. name_dart g u m) (sym a.node) (sym w.2 ∙ ap (segment_name g) a.is) ∙ name_dart-is g a.x a.lt a.no_loop)
+      let a = dart-AtNode g is v (dart_at (Node v) n) w.0 w.1 in (
+        a.x,
+        a.lt,
+        a.no_loop,
+        a.node,
+        a.is,
+        ap₂ (λ u m. name_dart g u m) (sym a.node) (sym w.2 ∙ ap (segment_name g) a.is) ∙ name_dart-is g a.x a.lt a.no_loop,
+      )
 
   -- a name in the list of a cluster that edge e leaves
   pub child_name : (c e n : ℕ) → 0 < c → c < clusters g → e < edges g → leaves g c e ≡ true
@@ -188,10 +190,14 @@ module _ (g : Clustered) (is : IsClustered g) (s : ℕ → List ℕ)
       → (f : ℕ) × (f < edges g) × (leaves g c f ≡ true) × (dart_at (Child c) n ≡ out_dart g c f) × (name_edge g n ≡ f)
   child_name c e n above cluster lt leave h =
       let w = named_dart (Child c) n (child-IsVertex g is c e above cluster lt leave) h in
-      let a = dart-AtChild g is c (dart_at (Child c) n) w.0 w.1 in
-      (a.e, a.lt, a.left, a.is,
-      ap (name_edge g) (sym w.2 ∙ ap (segment_name g) a.is)
-      ∙ name_edge-is g (out_dart g c a.e) a.e (Child c) (out_dart-StandsAt g is c a.e a.lt cluster a.left))
+      let a = dart-AtChild g is c (dart_at (Child c) n) w.0 w.1 in (
+        a.e,
+        a.lt,
+        a.left,
+        a.is,
+        ap (name_edge g) (sym w.2 ∙ ap (segment_name g) a.is)
+            ∙ name_edge-is g (out_dart g c a.e) a.e (Child c) (out_dart-StandsAt g is c a.e a.lt cluster a.left),
+      )
 
 -- the darts of loops
 pub loop-Has : (es : List ℕ) (x : ℕ) → Has x (loop_darts (map (λ e. 2 * e) es)) → Has (x / 2) es
@@ -224,8 +230,7 @@ loop-Distinct (e ∷ es) once =
     let t : twin (2 * e) ≡ 2 * e + 1 = twin_even (2 * e) (omega arith) in
     let apart : (x : ℕ) → x / 2 ≡ e → Lacks x rest =
     λ x half. Lacks-from x rest
-    (λ h. has_lacks e es (subst (λ y. Has y es) half (loop-Has es x h)) once.0) in
-    (
+    (λ h. has_lacks e es (subst (λ y. Has y es) half (loop-Has es x h)) once.0) in (
       ((λ same. let q : twin (2 * e) ≡ 2 * e = same in omega (arith, t, q)), apart (2 * e) (omega arith)),
       (apart (twin (2 * e)) (let h : twin (2 * e) / 2 ≡ e = omega (arith, t) in h), loop-Distinct es once.1),
     )
@@ -249,7 +254,7 @@ module _ (g : Clustered) (is : IsClustered g) (s : ℕ → List ℕ)
       let stands = end_dart-StandsAt g x lt ne in
       let n : ℕ = segment_name g (end_dart g x) in
       let item = dart_named g is s are (Node v) (end_dart g x) (node-IsVertex g is v ltv)
-          (StandsAt-kept g (end_dart g x) (x / 2) (Node (node_of g x)) stands) (stands.at ∙ ap Node node) in
+      (StandsAt-kept g (end_dart g x) (x / 2) (Node (node_of g x)) stands) (stands.at ∙ ap Node node) in
       subst (λ y. Has y (solved_darts g s v))
       (ap (λ u. name_dart g u n) (sym node) ∙ name_dart-is g x lt ne)
       (Has-map_on (name_dart g v) n (s (vertex_name g (Node v))) item.0)

@@ -1,5 +1,5 @@
 -- The darts of the graph of the skeletons, and the darts of segments that they stand for.
-use Rattle.std.proofs.Common.{◌≡◌, ◌≢◌, ◌⊎◌, ℕ, suc, ◌+◌, ◌-◌, ◌*◌, ◌/◌, ◌%◌, ◌<◌, ◌≤◌, List, [], ◌∷◌, map, length, sym, refl, ap, ap₂, ◌∙◌, subst, inl, inr, ⊎_elim, arith}
+use Rattle.std.proofs.Common.{◌≡◌, ◌≢◌, ◌⊎◌, ℕ, ◌+◌, ◌-◌, ◌*◌, ◌/◌, ◌%◌, ◌<◌, length, sym, refl, ap, ap₂, ◌∙◌, subst, inl, inr, ⊎_elim, arith}
 use Rattle.std.specs.Prelude.{slice_index_or}
 use Rattle.std.proofs.lemmas.Bool.{cases_eq}
 use Rattle.cp_lists.specs.CyclicLists.{Has}
@@ -62,7 +62,7 @@ pub stock-Names : (g : Clustered) → Names (edge_count g) (segments g) (stock_d
 stock-Names g = record {
   below = λ d lt.
       let less = kept_segment-lt g (slice_index_or (kept_segments g) (d / 2) 0)
-          (name_kept g (d / 2) (omega (arith, lt))) in
+      (name_kept g (d / 2) (omega (arith, lt))) in
       omega (arith, less);
   apart = λ c d ltc ltd same.
       let one : slice_index_or (kept_segments g) (c / 2) 0 ≡ slice_index_or (kept_segments g) (d / 2) 0 =
@@ -109,8 +109,7 @@ module _ (g : Clustered) (is : IsClustered g) where
   both_stand n lt =
       let t : ℕ = slice_index_or (kept_segments g) n 0 in
       let kept : (d : ℕ) → d / 2 ≡ t → Has (d / 2) (kept_segments g) =
-      λ d half. subst (λ u. Has u (kept_segments g)) (sym half) (name_kept g n lt) in
-      (
+      λ d half. subst (λ u. Has u (kept_segments g)) (sym half) (name_kept g n lt) in (
         kept-IsVertex g is (2 * t) (kept (2 * t) (let h : 2 * t / 2 ≡ t = omega arith in h)),
         kept-IsVertex g is (2 * t + 1) (kept (2 * t + 1) (let h : (2 * t + 1) / 2 ≡ t = omega arith in h)),
       )
@@ -147,18 +146,22 @@ module _ (g : Clustered) (is : IsClustered g) where
       ⊎_elim
       (λ even.
       let end : (ends g n).0 ≡ v =
-      ap (λ (p : ℕ × ℕ). p.0) at ∙ ap (λ x. vertex_name g (dart_vertex g x)) (sym even) in
-      (w.0, inl end,
-      ap (stock_dart g) (first_dart (vertex_count g) (edge_count g) (ends g) ends-differ v n w.0 end)
-      ∙ ap₂ (λ m r. 2 * slice_index_or (kept_segments g) m 0 + r) half.0 side.0
-      ∙ ap (λ t. 2 * t + 0) w.1 ∙ (let e : 2 * (d / 2) + 0 ≡ d = omega (arith, even) in e)))
+      ap (λ (p : ℕ × ℕ). p.0) at ∙ ap (λ x. vertex_name g (dart_vertex g x)) (sym even) in (
+        w.0,
+        inl end,
+        ap (stock_dart g) (first_dart (vertex_count g) (edge_count g) (ends g) ends-differ v n w.0 end)
+            ∙ ap₂ (λ m r. 2 * slice_index_or (kept_segments g) m 0 + r) half.0 side.0
+            ∙ ap (λ t. 2 * t + 0) w.1 ∙ (let e : 2 * (d / 2) + 0 ≡ d = omega (arith, even) in e),
+      ))
       (λ odd.
       let end : (ends g n).1 ≡ v =
-      ap (λ (p : ℕ × ℕ). p.1) at ∙ ap (λ x. vertex_name g (dart_vertex g x)) (sym odd) in
-      (w.0, inr end,
-      ap (stock_dart g) (second_dart (vertex_count g) (edge_count g) (ends g) ends-differ v n w.0 end)
-      ∙ ap₂ (λ m r. 2 * slice_index_or (kept_segments g) m 0 + r) half.1 side.1
-      ∙ ap (λ t. 2 * t + 1) w.1 ∙ (let e : 2 * (d / 2) + 1 ≡ d = omega (arith, odd) in e)))
+      ap (λ (p : ℕ × ℕ). p.1) at ∙ ap (λ x. vertex_name g (dart_vertex g x)) (sym odd) in (
+        w.0,
+        inr end,
+        ap (stock_dart g) (second_dart (vertex_count g) (edge_count g) (ends g) ends-differ v n w.0 end)
+            ∙ ap₂ (λ m r. 2 * slice_index_or (kept_segments g) m 0 + r) half.1 side.1
+            ∙ ap (λ t. 2 * t + 1) w.1 ∙ (let e : 2 * (d / 2) + 1 ≡ d = omega (arith, odd) in e),
+      ))
       (dart_cases d)
 
   -- the dart of an edge at one of its ends stands at the vertex there

@@ -1,6 +1,6 @@
 -- The lists that an arranged layout gives the vertices of the skeletons have exactly the darts that stand there.
-use Rattle.std.proofs.Common.{◌≡◌, ◌≢◌, ◌⊎◌, ℕ, zero, suc, ◌+◌, ◌-◌, ◌*◌, ◌/◌, ◌%◌, ◌<◌, ◌≤◌, true, List, [], ◌∷◌, ◌++◌, map, reverse, length, slice_index, sym, refl, ap, ◌∙◌, subst, inl, inr, ⊎_elim, arith}
-use Rattle.std.specs.Prelude.{cond, eqb, slice_index_or, ◌==◌}
+use Rattle.std.proofs.Common.{◌≡◌, ◌≢◌, ℕ, ◌+◌, ◌-◌, ◌*◌, ◌/◌, ◌%◌, ◌<◌, ◌≤◌, true, List, [], ◌∷◌, map, reverse, length, sym, refl, ap, ◌∙◌, subst, inl, inr, ⊎_elim, arith}
+use Rattle.std.specs.Prelude.{eqb, ◌==◌}
 use Rattle.std.proofs.lemmas.Bool.{cases_eq, cases_lt, cond-false, cond-true, eq-eqb, eqb-true, false≢true, ne_eqb, or_cases}
 use Rattle.std.proofs.lemmas.List.{get_or_past}
 use Rattle.cp_lists.specs.CyclicLists.{Distinct, Has}
@@ -19,7 +19,7 @@ use Rattle.cp_maps.proofs.ListFacts.{has_yes}
 use Rattle.cp_skel.specs.SkeletonLists.{in_dart, out_dart}
 use Rattle.cp_skel.specs.Skeletons.{Child, Node, Outside, Vertex, dart_vertex, kept_segments}
 use Rattle.cp_skel.specs.VertexLists.{border_edges, keeps, kept_list, vertex_list}
-use Rattle.cp_skel.proofs.DartVertices.{StandsAt, StandsAt-kept, end_dart-StandsAt, in_dart-StandsAt, out_dart-StandsAt}
+use Rattle.cp_skel.proofs.DartVertices.{StandsAt, end_dart-StandsAt, in_dart-StandsAt, out_dart-StandsAt}
 use Rattle.cp_skel.proofs.KeptDarts.{DartKind, at_node, dart_kind, inside, outside}
 use Rattle.cp_skel.proofs.KeptSegments.{kept-segment, segment_apart}
 use Rattle.cp_skel.proofs.SkeletonVertices.{node_of-lt}
@@ -72,14 +72,14 @@ module _ (g : Clustered) (l : Layout) (is : IsClustered g) (ar : IsArranged g l)
       let above : 0 < c = omega arith in
       let item : Has e (cluster_list l c) = subst (Has e) (border_edges-inner l c above) h in
       let cluster : c < clusters g = ⊎_elim
-          (λ lt. lt)
-          (λ ge.
-          let past : length l.clusters ≤ c - 1 = ⊎_elim
-              (λ less. let k = (ar.clusters_right c).expected (omega (arith, less)) in absurd (omega (arith, k, ge)))
-              (λ more. more)
-              (cases_lt (c - 1) (length l.clusters)) in
-          absurd (subst (Has e) (get_or_past l.clusters (c - 1) [] past) item))
-          (cases_lt c (clusters g)) in
+      (λ lt. lt)
+      (λ ge.
+      let past : length l.clusters ≤ c - 1 = ⊎_elim
+      (λ less. let k = (ar.clusters_right c).expected (omega (arith, less)) in absurd (omega (arith, k, ge)))
+      (λ more. more)
+      (cases_lt (c - 1) (length l.clusters)) in
+      absurd (subst (Has e) (get_or_past l.clusters (c - 1) [] past) item))
+      (cases_lt c (clusters g)) in
       let w = (Exactly-Has (edges g) (leaves g c) (cluster_list l c) (cluster_exact g l ar c above cluster) e).0 item in
       (above, cluster, w.0, w.1))
       (cases_eq c 0)
@@ -102,9 +102,9 @@ module _ (g : Clustered) (l : Layout) (is : IsClustered g) (ar : IsArranged g l)
       (Exactly-Distinct (edges g) (leaves g c) (cluster_list l c) (cluster_exact g l ar c above lt)))
       (λ ge.
       let past : length l.clusters ≤ c - 1 = ⊎_elim
-          (λ less. let k = (ar.clusters_right c).expected (omega (arith, less)) in absurd (omega (arith, k, ge)))
-          (λ more. more)
-          (cases_lt (c - 1) (length l.clusters)) in
+      (λ less. let k = (ar.clusters_right c).expected (omega (arith, less)) in absurd (omega (arith, k, ge)))
+      (λ more. more)
+      (cases_lt (c - 1) (length l.clusters)) in
       subst Distinct (sym (border_edges-inner l c above ∙ get_or_past l.clusters (c - 1) [] past)) tt)
       (cases_lt c (clusters g)))
       (cases_eq c 0)
@@ -113,7 +113,7 @@ module _ (g : Clustered) (l : Layout) (is : IsClustered g) (ar : IsArranged g l)
   node_dart : (v x : ℕ) → Has x (node_list l v) → (x < 2 * edges g) × (node_of g x ≡ v)
   node_dart v x h = ⊎_elim
       (λ lt. let w = (Exactly-Has (2 * edges g) (λ y. node_of g y == v) (node_list l v)
-          ((ar.nodes_right v).present lt).1 x).0 h in
+      ((ar.nodes_right v).present lt).1 x).0 h in
       (w.0, eqb-true (node_of g x) v w.1))
       (λ ge. absurd (subst (Has x) (get_or_past l.nodes v [] (let long = length-node_lists g l ar in
       omega (arith, long, ge))) h))

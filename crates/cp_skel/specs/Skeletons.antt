@@ -1,6 +1,6 @@
 -- The skeletons of a clustered graph (Bläsius, Rutter 2016) as one instance of synchronized planarity (Bläsius, Fink,
 -- Rutter 2021).
-use Rattle.std.specs.Prelude.{◌≡◌, ◌<◌, ℕ, ◌+◌, ◌*◌, ◌/◌, ◌-◌, Bool, false, not, cond, eqb, ◌&&◌, List, [], ◌∷◌, ◌++◌, map, length, slice_index_or}
+use Rattle.std.specs.Prelude.{◌≡◌, ◌<◌, ℕ, ◌+◌, ◌*◌, ◌/◌, Bool, false, not, cond, eqb, ◌&&◌, List, [], ◌∷◌, ◌++◌, map, length, slice_index_or}
 use Rattle.std.specs.List.{filter, flat_map, list_any, position_or_len, range_with_len, zip}
 use Rattle.cp_conn.specs.NamedGraphs.{rank}
 use Rattle.cp_board.specs.declared.parts.Kind.TheVariants.{P}

@@ -1,5 +1,5 @@
 -- The lists that a layout, and that a solution, gives the vertices of the skeletons, as lists of darts of segments.
-use Rattle.std.specs.Prelude.{◌≡◌, ℕ, ◌+◌, ◌*◌, ◌/◌, ◌%◌, Bool, cond, eqb, List, [], map, length, reverse, slice_index_or}
+use Rattle.std.specs.Prelude.{ℕ, ◌+◌, ◌*◌, ◌/◌, ◌%◌, Bool, cond, eqb, List, [], map, reverse, slice_index_or}
 use Rattle.std.specs.List.{filter}
 use Rattle.cp_lists.specs.CyclicLists.{Has}
 use Rattle.cp_lists.specs.Turns.{IsTurn}
@@ -11,7 +11,7 @@ use Rattle.cp_cgraph.specs.declared.layout.Layout.{Layout}
 use Rattle.cp_border.specs.Borders.{cluster_list, end_dart, node_list}
 use Rattle.cp_maps.specs.Maps.{has}
 use Rattle.cp_skel.specs.SkeletonLists.{in_dart, out_dart}
-use Rattle.cp_skel.specs.Skeletons.{Child, Node, Outside, Vertex, all_vertices, dart_vertex, kept_segments, segment_name, skeletons, vertex_name}
+use Rattle.cp_skel.specs.Skeletons.{Child, Node, Outside, Vertex, all_vertices, dart_vertex, kept_segments, segment_name, vertex_name}
 
 -- the edges that a layout lists for cluster c, and none for the root
 abbrev pub border_edges : Layout → ℕ → List ℕ
