@@ -93,14 +93,16 @@ module _ (g : Clustered) (is : IsClustered g) (s : ℕ → List ℕ)
   stock_lists = map (stock_list (skeleton_graph g) g s) (range_with_len 0 (vertex_count g))
 
   -- they are those of the rotation system under other names
-  named_lists : map (map (stock_dart g)) (map (list_of (system (skeleton_graph g) s)) (range_with_len 0 (vertex_count g)))
+  named_lists : map (map (stock_dart g))
+      (map (list_of (system (skeleton_graph g) s)) (range_with_len 0 (vertex_count g)))
       ≡ stock_lists
   named_lists =
       map_twice (list_of (system (skeleton_graph g) s)) (map (stock_dart g)) (range_with_len 0 (vertex_count g))
       ∙ map_range_agree (λ v. map (stock_dart g) (list_of (system (skeleton_graph g) s) v))
       (stock_list (skeleton_graph g) g s) 0 (vertex_count g)
       (λ v le lt. ap (map (stock_dart g))
-      (list_is (vertex_count g) (edge_count g) (ends g) s (ends-within g is) (ends-differ g is) are v (omega (arith, lt))))
+      (list_is (vertex_count g) (edge_count g) (ends g) s (ends-within g is) (ends-differ g is) are v
+      (omega (arith, lt))))
 
   -- there is a map with these lists
   pub IsMapOf-stock : IsMapOf (2 * segments g) (next_by stock_lists) stock_lists
@@ -209,7 +211,8 @@ module _ (g : Clustered) (is : IsClustered g) (s : ℕ → List ℕ)
         (λ k. Has-append_right d xs (ys ++ rest)
         (Has-append_left d ys rest (subst (λ x. Has d (vertex_list g l (Child x))) (sym same) k)))
         item))
-        (λ k. subst (λ pair. Has d (flat (pair ++ flat_map (border_pair g l) cs))) (sym (pair-is g l b (all b (inl refl))))
+        (λ k. subst (λ pair. Has d (flat (pair ++ flat_map (border_pair g l) cs)))
+        (sym (pair-is g l b (all b (inl refl))))
         (Has-append_right d (vertex_list g l (Outside b)) (vertex_list g l (Child b) ++ rest)
         (Has-append_right d (vertex_list g l (Child b)) rest
         (pair-in cs (λ a m. all a (inr m)) c d k item))))
@@ -226,7 +229,8 @@ module _ (g : Clustered) (is : IsClustered g) (s : ℕ → List ℕ)
         rows = map (map (end_dart g)) l.nodes
 
         border_in : (c : ℕ) → 0 < c → c < clusters g
-            → Has d (vertex_list g l (Outside c)) ⊎ Has d (vertex_list g l (Child c)) → Has d (flat (skeleton_lists g l))
+            → Has d (vertex_list g l (Outside c)) ⊎ Has d (vertex_list g l (Child c))
+            → Has d (flat (skeleton_lists g l))
         border_in c above cluster item =
             subst (Has d) (sym (flat-append pairs rows))
             (Has-append_left d (flat pairs) (flat rows)
@@ -238,7 +242,8 @@ module _ (g : Clustered) (is : IsClustered g) (s : ℕ → List ℕ)
             let v : ℕ = node_of g x in
             let stands = end_dart-StandsAt g x lt ne in
             let item : Has d (vertex_list g l (Node v)) =
-            subst (λ p. Has d (vertex_list g l p)) (ap (dart_vertex g) at ∙ stands.at) (kept-vertex_list g l is ar d h) in
+            subst (λ p. Has d (vertex_list g l p)) (ap (dart_vertex g) at ∙ stands.at)
+            (kept-vertex_list g l is ar d h) in
             let long : length l.nodes ≡ nodes g = length-node_lists g l ar in
             let less : node_of g x < length l.nodes = let k = node_of-lt g is x lt in omega (arith, k, long) in
             subst (Has d) (sym (flat-append pairs rows))

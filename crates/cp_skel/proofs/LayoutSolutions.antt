@@ -201,7 +201,8 @@ module _ (g : Clustered) (l : Layout) (is : IsClustered g) (ar : IsArranged g l)
       let second : ℕ → ℕ = second_of (skeleton_pipe g n c) in
       let name : ℕ → ℕ = segment_name g in
       let child : layout_list g l (vertex_name g (Child c)) ≡ map name (map (out_dart g c) es) =
-      layout_list-at g l (Child c) (child-IsVertex g is c e above cluster lt leave) ∙ ap (map name) (kept_list-child c) in
+      layout_list-at g l (Child c) (child-IsVertex g is c e above cluster lt leave) ∙ ap (map name)
+      (kept_list-child c) in
       let outer : layout_list g l (vertex_name g (Outside c)) ≡ map name (reverse (map (in_dart g c) es)) =
       layout_list-at g l (Outside c) (outside-IsVertex g c e above cluster lt leave)
       ∙ ap (map name) (kept_list-outside c) in

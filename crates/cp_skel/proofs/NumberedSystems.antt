@@ -80,7 +80,8 @@ module _ (n m : ℕ) (ends : ℕ → ℕ × ℕ) (differ : (e : ℕ) → e < m �
 
 -- a graph of numbers, and lists of its edges
 module _ (n m : ℕ) (ends : ℕ → ℕ × ℕ) (s : ℕ → List ℕ)
-    (within : (e : ℕ) → e < m → ((ends e).0 < n) × ((ends e).1 < n)) (differ : (e : ℕ) → e < m → (ends e).0 ≢ (ends e).1)
+    (within : (e : ℕ) → e < m → ((ends e).0 < n) × ((ends e).1 < n))
+    (differ : (e : ℕ) → e < m → (ends e).0 ≢ (ends e).1)
     (are : AreEdgeLists n m ends s) where
   -- the graph
   abbrev graph : NamedGraph

@@ -10,7 +10,8 @@ use Rattle.cp_lists.proofs.DistinctLists.{Distinct-middle}
 
 -- the test of equality is the same both ways
 eqb_flips : (x y : ℕ) → eqb x y ≡ eqb y x
-eqb_flips x y = ⊎_elim (λ e. eq-eqb x y e ∙ sym (eq-eqb y x (sym e))) (λ ne. ne_eqb x y ne ∙ sym (ne_eqb y x (λ e. ne (sym e)))) (cases_eq x y)
+eqb_flips x y = ⊎_elim (λ e. eq-eqb x y e ∙ sym (eq-eqb y x (sym e)))
+    (λ ne. ne_eqb x y ne ∙ sym (ne_eqb y x (λ e. ne (sym e)))) (cases_eq x y)
 
 -- what the list lacks differs from each item
 lacks_all : (x : ℕ) (xs : List ℕ) → Lacks x xs → AllByRecursion (λ y. eqb x y ≡ false) xs
@@ -36,7 +37,8 @@ keys_distinct (x ∷ xs) once =
 
 -- a permutation of distinct numbers is distinct
 pub IsPermutation-Distinct : (xs ys : List ℕ) → IsPermutation xs ys → Distinct xs → Distinct ys
-IsPermutation-Distinct xs ys p once = keys_distinct ys (IsDistinct-IsPermutation eqb eqb_flips xs ys p (distinct_keys xs once))
+IsPermutation-Distinct xs ys p once = keys_distinct ys
+    (IsDistinct-IsPermutation eqb eqb_flips xs ys p (distinct_keys xs once))
 
 -- it has the same items
 pub IsPermutation-Has : (xs ys : List ℕ) (d : ℕ) → IsPermutation xs ys → Has d xs → Has d ys

@@ -51,7 +51,8 @@ find_named name row [] t h once = absurd h
 find_named {A = A} name row (u ∷ xs) t h once =
     let rest : Option A = find (λ x. eqb (name x) (name (row t))) (map row xs) in
     ⊎_elim
-    (λ same. cond-true (eqb (name (row u)) (name (row t))) (Some (row u)) rest (eq-eqb (name (row u)) (name (row t)) same)
+    (λ same. cond-true (eqb (name (row u)) (name (row t))) (Some (row u)) rest
+    (eq-eqb (name (row u)) (name (row t)) same)
     ∙ ap (λ x. Some (row x)) (once u (inl refl) same))
     (λ ne. cond-false (eqb (name (row u)) (name (row t))) (Some (row u)) rest (ne_eqb (name (row u)) (name (row t)) ne)
     ∙ find_named name row xs t
@@ -64,7 +65,8 @@ pub ends_of-skeletons : (g : Clustered) (t : ℕ) → Has t (kept_segments g)
     ≡ (vertex_name g (dart_vertex g (2 * t)), vertex_name g (dart_vertex g (2 * t + 1)))
 ends_of-skeletons g t h =
     let half : (u : ℕ) → 2 * u / 2 ≡ u = λ u. omega arith in
-    let name : (u : ℕ) → segment_name g (2 * u) ≡ rank (kept_segments g) u = λ u. ap (rank (kept_segments g)) (half u) in
+    let name : (u : ℕ)
+    → segment_name g (2 * u) ≡ rank (kept_segments g) u = λ u. ap (rank (kept_segments g)) (half u) in
     let once : (u : ℕ) → Has u (kept_segments g) → segment_name g (2 * u) ≡ segment_name g (2 * t) → u ≡ t =
     λ u k same.
     sym (rank_at (kept_segments g) u ((Has-Contains u (kept_segments g)).0 k)).1

@@ -26,7 +26,8 @@ use Rattle.cp_skel.proofs.SolutionLists.{Has-loop, Has-solved, child_name, dart_
 use Rattle.cp_skel.proofs.StockDarts.{edge_count, ends, vertex_count}
 
 -- a loop at a node
-pub loops_at-Has : (g : Clustered) (v e : ℕ) → Has e (loops_at g v) → (e < edges g) × (source g e ≡ v) × (target g e ≡ v)
+pub loops_at-Has : (g : Clustered) (v e : ℕ) → Has e (loops_at g v)
+    → (e < edges g) × (source g e ≡ v) × (target g e ≡ v)
 loops_at-Has g v e h =
     let w = filter-Has (λ x. eqb (source g x) v && eqb (target g x) v) e (below (edges g)) h in
     let two = and_parts (eqb (source g e) v) (eqb (target g e) v) w.1 in

@@ -187,7 +187,8 @@ module _ (g : Clustered) (is : IsClustered g) (s : ℕ → List ℕ)
         ∙ ap (in_dart g c) (sym w.4) in
         let whole : map at (reverse (map second names)) ≡ kept_list g l (Outside c) =
         map-reverse at (map second names)
-        ∙ ap reverse (map_twice second at names ∙ map_agree_on (λ n. at (second n)) (λ n. in_dart g c (name_edge g n)) names
+        ∙ ap reverse
+        (map_twice second at names ∙ map_agree_on (λ n. at (second n)) (λ n. in_dart g c (name_edge g n)) names
         partner ∙ sym (map_twice (name_edge g) (in_dart g c) names)
         ∙ ap (map (in_dart g c)) (sym (edges-are c e above cluster lt leave)))
         ∙ sym (kept_list-outside g l is ar c) in

@@ -33,7 +33,8 @@ segment_edge-is g e k lt within =
     let piece : ℕ → List ℕ = λ x. map (λ j. x) (range_with_len 0 (crossed g x + 1)) in
     let size : ℕ → ℕ = λ x. crossed g x + 1 in
     ap (λ m. slice_index_or (segment_edges g) m 0)
-    (let h : first_segment g e + k ≡ before (λ x. crossed g x + 1) e + k = omega (arith, before_more (crossed g) e) in h)
+    (let h : first_segment g e + k ≡ before (λ x. crossed g x + 1) e + k = omega
+    (arith, before_more (crossed g) e) in h)
     ∙ piece_at piece size 0 (edges g) e k 0
     (λ j less. length-map-range_with_len (λ i. 0 + j) 0 (crossed g (0 + j) + 1)
     ∙ ap (λ m. crossed g m + 1) (let h : 0 + j ≡ j = omega arith in h)) lt (omega arith)
@@ -181,7 +182,8 @@ module _ (g : Clustered) (is : IsClustered g) (s : ℕ → List ℕ)
         a.no_loop,
         a.node,
         a.is,
-        ap₂ (λ u m. name_dart g u m) (sym a.node) (sym w.2 ∙ ap (segment_name g) a.is) ∙ name_dart-is g a.x a.lt a.no_loop,
+        ap₂ (λ u m. name_dart g u m) (sym a.node) (sym w.2 ∙ ap (segment_name g) a.is)
+            ∙ name_dart-is g a.x a.lt a.no_loop,
       )
 
   -- a name in the list of a cluster that edge e leaves

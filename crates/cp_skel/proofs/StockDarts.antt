@@ -35,7 +35,8 @@ abbrev pub skeleton_graph : Clustered → NamedGraph
 skeleton_graph g = numbers (vertex_count g) (edge_count g) (ends g)
 
 -- the segment with a name is kept
-pub name_kept : (g : Clustered) (n : ℕ) → n < edge_count g → Has (slice_index_or (kept_segments g) n 0) (kept_segments g)
+pub name_kept : (g : Clustered) (n : ℕ) → n < edge_count g
+    → Has (slice_index_or (kept_segments g) n 0) (kept_segments g)
 name_kept g n lt = Has_at (kept_segments g) n lt
 
 -- and has that name

@@ -27,7 +27,8 @@ use Rattle.cp_skel.proofs.SkeletonVertices.{node_of-lt}
 -- an item of a list that has it passes the test
 pub has-true : (d : ℕ) (xs : List ℕ) → has d xs ≡ true → Has d xs
 has-true d [] t = absurd (false≢true t)
-has-true d (x ∷ xs) t = ⊎_elim (λ e. inl (eqb-true x d e)) (λ r. inr (has-true d xs r)) (or_cases (eqb x d) (has d xs) t)
+has-true d (x ∷ xs) t = ⊎_elim (λ e. inl (eqb-true x d e)) (λ r. inr (has-true d xs r))
+    (or_cases (eqb x d) (has d xs) t)
 
 -- the clusters but the root have their edges listed
 pub border_edges-inner : (l : Layout) (c : ℕ) → 0 < c → border_edges l c ≡ cluster_list l c
