@@ -28,20 +28,20 @@ segment_apart g e k d j within within_d same =
     (omega (arith, same, before_more (crossed g) e, before_more (crossed g) d))
 
 -- the segments of an edge that is kept
-piece_kept : (g : Clustered) (e : ℕ) → source g e ≢ target g e
+pub piece_kept : (g : Clustered) (e : ℕ) → source g e ≢ target g e
     → segments_of g e ≡ range_with_len (first_segment g e) (crossed g e + 1)
 piece_kept g e ne =
     cond-false (eqb (source g e) (target g e)) [] (range_with_len (first_segment g e) (crossed g e + 1))
     (ne_eqb (source g e) (target g e) ne)
 
 -- and of a loop
-piece_loop : (g : Clustered) (e : ℕ) → source g e ≡ target g e → segments_of g e ≡ []
+pub piece_loop : (g : Clustered) (e : ℕ) → source g e ≡ target g e → segments_of g e ≡ []
 piece_loop g e same =
     cond-true (eqb (source g e) (target g e)) [] (range_with_len (first_segment g e) (crossed g e + 1))
     (eq-eqb (source g e) (target g e) same)
 
 -- an item of the piece of an edge
-piece-Has : (g : Clustered) (e t : ℕ) → Has t (segments_of g e)
+pub piece-Has : (g : Clustered) (e t : ℕ) → Has t (segments_of g e)
     → (source g e ≢ target g e) × (first_segment g e ≤ t) × (t ≤ first_segment g e + crossed g e)
 piece-Has g e t h = ⊎_elim
     (λ same. absurd (subst (Has t) (piece_loop g e same) h))
@@ -57,7 +57,7 @@ piece-Distinct g e = ⊎_elim
     (cases_eq (source g e) (target g e))
 
 -- an item of the pieces of some edges is one of one of them
-pieces-Has : (g : Clustered) (a n t : ℕ) → Has t (flat_map (segments_of g) (range_with_len a n))
+pub pieces-Has : (g : Clustered) (a n t : ℕ) → Has t (flat_map (segments_of g) (range_with_len a n))
     → (e : ℕ) × (a ≤ e) × (e < a + n) × Has t (segments_of g e)
 pieces-Has g a zero t h = absurd h
 pieces-Has g a (suc n) t h = ⊎_elim

@@ -25,6 +25,8 @@ mod LayoutSolutions
 mod SolutionLists
 mod SolutionArranged
 mod SolutionGood
+mod RisingLists
+pub mod SkeletonRules
 -- What these rest on.
 mod ClusterLevels
 mod Segments

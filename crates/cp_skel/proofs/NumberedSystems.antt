@@ -207,7 +207,7 @@ module _ (n m : ℕ) (ends : ℕ → ℕ × ℕ) (s : ℕ → List ℕ)
       )
 
 -- an edge is one at a vertex where it has it as an end
-edges_at-Has : (n m : ℕ) (ends : ℕ → ℕ × ℕ) (v e : ℕ) → Has e (edges_at (numbers n m ends) v)
+pub edges_at-Has : (n m : ℕ) (ends : ℕ → ℕ × ℕ) (v e : ℕ) → Has e (edges_at (numbers n m ends) v)
     → (e < m) × (((ends e).0 ≡ v) ⊎ ((ends e).1 ≡ v))
 edges_at-Has n m ends v e h =
     let w = filter-Has (ends_at (numbers n m ends) v) e (range_with_len 0 m) h in (
@@ -217,7 +217,7 @@ edges_at-Has n m ends v e h =
     )
 
 -- and the other way round
-Has-edges_at : (n m : ℕ) (ends : ℕ → ℕ × ℕ) (v e : ℕ) → e < m → ((ends e).0 ≡ v) ⊎ ((ends e).1 ≡ v)
+pub Has-edges_at : (n m : ℕ) (ends : ℕ → ℕ × ℕ) (v e : ℕ) → e < m → ((ends e).0 ≡ v) ⊎ ((ends e).1 ≡ v)
     → Has e (edges_at (numbers n m ends) v)
 Has-edges_at n m ends v e lt end =
     Has-filter (ends_at (numbers n m ends) v) e (range_with_len 0 m) (Has-range e 0 m (omega arith) (omega (arith, lt)))

@@ -46,7 +46,7 @@ left-edge g c t =
     (e.0, omega (arith, (range-Has e.0 0 (edges g) e.1).1), e.2)
 
 -- and it is not the root
-left-Has : (g : Clustered) (c : ℕ) → Has c (left g) → (0 < c) × (c < clusters g) × (is_left g c ≡ true)
+pub left-Has : (g : Clustered) (c : ℕ) → Has c (left g) → (0 < c) × (c < clusters g) × (is_left g c ≡ true)
 left-Has g c h =
     let w = filter-Has (is_left g) c (below (clusters g)) h in
     let two = and_parts (not (eqb c 0)) (list_any (leaves g c) (below (edges g))) w.1 in
@@ -86,7 +86,7 @@ pipe-of g P c e above cluster lt leave all =
 -- darts at a border whose segments have one name are of one edge
 module _ (g : Clustered) (is : IsClustered g) (c : ℕ) (cluster : c < clusters g) where
   -- of two edges that leave the cluster
-  name-apart : (d b e f : ℕ) (p q : Vertex) → StandsAt g d e p → StandsAt g b f q → segment_name g d ≡ segment_name g b
+  pub name-apart : (d b e f : ℕ) (p q : Vertex) → StandsAt g d e p → StandsAt g b f q → segment_name g d ≡ segment_name g b
       → e ≡ f
   name-apart d b e f p q s t same =
       let half : d / 2 ≡ b / 2 =

@@ -15,7 +15,7 @@ use Rattle.cp_border.proofs.Numbering.{piece_at}
 use Rattle.cp_maps.specs.Twins.{twin}
 use Rattle.cp_maps.proofs.Twins.{twin_even}
 use Rattle.cp_skel.specs.LoopLists.{loop_darts}
-use Rattle.cp_skel.specs.SkeletonLists.{out_dart}
+use Rattle.cp_skel.specs.SkeletonLists.{in_dart, out_dart}
 use Rattle.cp_skel.specs.Skeletons.{Child, IsVertex, Node, Outside, Vertex, dart_vertex, kept_segments, segment_name, vertex_name}
 use Rattle.cp_skel.specs.SolutionLayouts.{name_dart, name_edge, segment_edges, solved_darts}
 use Rattle.cp_skel.specs.VertexLists.{stock_dart}
@@ -71,12 +71,12 @@ name_dart-is g x lt ne =
     (cases_eq (x % 2) 0)
 
 -- what a vertex is, and the number of what it stands for
-abbrev tag : Vertex → ℕ
+abbrev pub tag : Vertex → ℕ
 tag (Node v) = 0
 tag (Child c) = 1
 tag (Outside c) = 2
 
-abbrev number : Vertex → ℕ
+abbrev pub number : Vertex → ℕ
 number (Node v) = v
 number (Child c) = c
 number (Outside c) = c
@@ -90,7 +90,7 @@ record AtNode (g : Clustered) (v d : ℕ) : Type 0 where
   pub is : d ≡ end_dart g x
 
 -- a dart that stands at a cluster as it is seen from its parent
-record AtChild (g : Clustered) (c d : ℕ) : Type 0 where
+pub record AtChild (g : Clustered) (c d : ℕ) : Type 0 where
   pub e : ℕ
   pub cluster : c < clusters g
   pub lt : e < edges g
@@ -122,7 +122,7 @@ dart-AtNode g is v d h at = by (dart_kind g is d h)
         absurd (omega (arith, no))
 
 -- what stands at a cluster is the dart outside of an edge that leaves it
-dart-AtChild : (g : Clustered) → IsClustered g → (c d : ℕ) → Has (d / 2) (kept_segments g) → dart_vertex g d ≡ Child c
+pub dart-AtChild : (g : Clustered) → IsClustered g → (c d : ℕ) → Has (d / 2) (kept_segments g) → dart_vertex g d ≡ Child c
     → AtChild g c d
 dart-AtChild g is c d h at = by (dart_kind g is d h)
   where
@@ -145,6 +145,37 @@ dart-AtChild g is c d h at = by (dart_kind g is d h)
           left = subst (λ x. leaves g x e ≡ true) equal leave;
           is = subst (λ x. d ≡ out_dart g x e) equal same;
         }
+
+-- a dart that stands at the outside of a cluster
+pub record AtOutside (g : Clustered) (c d : ℕ) : Type 0 where
+  pub e : ℕ
+  pub lt : e < edges g
+  pub left : leaves g c e ≡ true
+  pub is : d ≡ in_dart g c e
+
+-- what stands there is the dart inside of an edge that leaves the cluster
+pub dart-AtOutside : (g : Clustered) → IsClustered g → (c d : ℕ) → Has (d / 2) (kept_segments g)
+    → dart_vertex g d ≡ Outside c → AtOutside g c d
+dart-AtOutside g is c d h at = by (dart_kind g is d h)
+  where
+    by : DartKind g d → AtOutside g c d
+    by (at_node x lt ne same) =
+        let s = end_dart-StandsAt g x lt ne in
+        let no : 0 ≡ 2 = ap tag (sym s.at ∙ ap (dart_vertex g) (sym same) ∙ at) in
+        absurd (omega (arith, no))
+    by (inside b e above cluster lt leave same) =
+        let s = in_dart-StandsAt g is b e lt cluster leave in
+        let equal : b ≡ c = ap number (sym s.at ∙ ap (dart_vertex g) (sym same) ∙ at) in
+        record {
+          e = e;
+          lt = lt;
+          left = subst (λ x. leaves g x e ≡ true) equal leave;
+          is = subst (λ x. d ≡ in_dart g x e) equal same;
+        }
+    by (outside b e above cluster lt leave same) =
+        let s = out_dart-StandsAt g is b e lt cluster leave in
+        let no : 1 ≡ 2 = ap tag (sym s.at ∙ ap (dart_vertex g) (sym same) ∙ at) in
+        absurd (omega (arith, no))
 
 -- lists of the edges of the instance
 module _ (g : Clustered) (is : IsClustered g) (s : ℕ → List ℕ)
