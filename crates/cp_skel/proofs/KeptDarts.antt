@@ -11,6 +11,7 @@ use Rattle.cp_skel.specs.SkeletonLists.{crossing_place, dart_before, dart_behind
 use Rattle.cp_skel.specs.Skeletons.{Child, Node, Outside, Vertex, begins_at_border, dart_vertex, ends_at_border, kept_segments}
 use Rattle.cp_skel.proofs.DartVertices.{begins_vertex, ends_vertex, source_vertex, target_vertex}
 use Rattle.cp_skel.proofs.KeptSegments.{IsSegmentOf, kept-segment}
+use Rattle.cp_skel.proofs.VertexKinds.{kind, number}
 
 -- what a dart of a segment is
 pub data DartKind (g : Clustered) (d : ℕ) : Type 0 where
@@ -48,12 +49,13 @@ behind_kind g is d e i lt within at =
     (λ t. inside c e cross.above cross.cluster lt cross.left (same ∙ sym (cond-false b x y t)))
     (cases_Bool b)
 
--- the dart at a node, by edge and end
-first_end : (g : Clustered) (e : ℕ) → end_dart g (2 * e) ≡ 2 * first_segment g e
+-- the first dart of an edge
+pub first_end : (g : Clustered) (e : ℕ) → end_dart g (2 * e) ≡ 2 * first_segment g e
 first_end g e = end_source g (2 * e) (omega arith)
     ∙ ap (λ (m : ℕ). 2 * first_segment g m) (let h : 2 * e / 2 ≡ e = omega arith in h)
 
-second_end : (g : Clustered) (e : ℕ) → end_dart g (2 * e + 1) ≡ 2 * (first_segment g e + crossed g e) + 1
+-- the second
+pub second_end : (g : Clustered) (e : ℕ) → end_dart g (2 * e + 1) ≡ 2 * (first_segment g e + crossed g e) + 1
 second_end g e = end_target g (2 * e + 1) (λ z. omega arith)
     ∙ ap (λ (m : ℕ). 2 * (first_segment g m + crossed g m) + 1) (let h : (2 * e + 1) / 2 ≡ e = omega arith in h)
 
@@ -83,22 +85,13 @@ dart_kind g is d h =
     (cases_eq r.1 (crossed g r.0)))
     (cases_eq (d % 2) 0)
 
--- whether a vertex is a node, and the number of what it stands for
-abbrev kind : Vertex → ℕ
-kind (Node v) = 0
-kind (Child c) = 1
-kind (Outside c) = 1
+-- a vertex at a border is no node
+kind_cond : (b : Bool) (c : ℕ)
+    → (0 < kind (cond b (Child c) (Outside c))) × (0 < kind (cond b (Outside c) (Child c)))
+kind_cond true c = (omega arith, omega arith)
+kind_cond false c = (omega arith, omega arith)
 
-abbrev number : Vertex → ℕ
-number (Node v) = v
-number (Child c) = c
-number (Outside c) = c
-
--- of vertices at borders these are known
-kind_cond : (b : Bool) (c : ℕ) → (kind (cond b (Child c) (Outside c)) ≡ 1) × (kind (cond b (Outside c) (Child c)) ≡ 1)
-kind_cond true c = (refl, refl)
-kind_cond false c = (refl, refl)
-
+-- and has the number of the cluster
 number_cond : (b : Bool) (c : ℕ)
     → (number (cond b (Child c) (Outside c)) ≡ c) × (number (cond b (Outside c) (Child c)) ≡ c)
 number_cond true c = (refl, refl)
@@ -123,9 +116,9 @@ segment-differ g is t e k of same =
     (λ last. of.no_loop (ap number (sym begin ∙ same ∙ ends_last last)))
     (λ inner.
     let c : ℕ = slice_index (crossings g e) k in
-    let one : 0 ≡ 1 =
-    ap kind (sym begin ∙ same ∙ ends_inner inner) ∙ (kind_cond (contains g c (source g e)) c).1 in
-    omega (arith, one))
+    let one : 0 ≡ kind (ends_at_border g e c) = ap kind (sym begin ∙ same ∙ ends_inner inner) in
+    let two = (kind_cond (contains g c (source g e)) c).1 in
+    omega (arith, one, two))
     (cases_eq k (crossed g e)))
     (λ later.
     let i : ℕ = k - 1 in
@@ -136,9 +129,9 @@ segment-differ g is t e k of same =
     ∙ begins_vertex g e (k - 1) of.edge within in
     ⊎_elim
     (λ last.
-    let one : 1 ≡ 0 =
-    sym (kind_cond (contains g b (source g e)) b).0 ∙ ap kind (sym begin ∙ same ∙ ends_last last) in
-    omega (arith, one))
+    let one : kind (begins_at_border g e b) ≡ 0 = ap kind (sym begin ∙ same ∙ ends_last last) in
+    let two = (kind_cond (contains g b (source g e)) b).0 in
+    omega (arith, one, two))
     (λ inner.
     let c : ℕ = slice_index (crossings g e) k in
     let equal : b ≡ c =

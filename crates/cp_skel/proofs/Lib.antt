@@ -14,6 +14,7 @@ pub mod NumberedSystems
 pub mod Permutations
 mod KeptSegments
 mod DartVertices
+mod VertexKinds
 mod KeptDarts
 mod SkeletonGraph
 mod SkeletonVertices

@@ -35,9 +35,10 @@ use Rattle.cp_skel.proofs.SkeletonGraph.{edge_names-skeletons, find_named, graph
 use Rattle.cp_skel.proofs.SkeletonLevels.{before_more}
 use Rattle.cp_skel.proofs.SkeletonPipes.{All-pipes, left-Has, left-edge, name-apart}
 use Rattle.cp_skel.proofs.SkeletonVertices.{child-IsVertex, kept-IsVertex, outside-IsVertex, vertex_name-apart}
-use Rattle.cp_skel.proofs.SolutionLists.{AtChild, AtOutside, dart-AtChild, dart-AtOutside, number, tag}
+use Rattle.cp_skel.proofs.SolutionLists.{AtChild, AtOutside, dart-AtChild, dart-AtOutside}
 use Rattle.cp_skel.proofs.StockDarts.{edge_count, ends, ends-differ, ends-within, kept-stock, kept_name, skeleton_graph, stock-stands, vertex_count}
 use Rattle.cp_skel.proofs.TabledLists.{map_twice}
+use Rattle.cp_skel.proofs.VertexKinds.{kind, number}
 
 -- the numbers below n are names where n is not too large
 AreNames-below : (n : ℕ) → n ≤ 2 ^ 63 → AreNames (below n)
@@ -247,7 +248,7 @@ module _ (g : Clustered) (is : IsClustered g) where
       has_lacks c cs (subst (λ x. Has x cs) same r.1) once.0) in
       (
         (
-          λ e. let no : 2 ≡ 1 = ap tag (apart (Outside c) (Child c) own.1 own.0 e) in omega (arith, no),
+          λ e. let no : 2 ≡ 1 = ap kind (apart (Outside c) (Child c) own.1 own.0 e) in omega (arith, no),
           other (Child c) own.0 refl,
         ),
         (other (Outside c) own.1 refl, pipe_ends-Distinct ns cs once.1 (λ b h. are b (inr h))),
@@ -294,7 +295,7 @@ module _ (g : Clustered) (is : IsClustered g) where
             let one = child-IsVertex g is c e above cluster lt leave in
             let two = outside-IsVertex g c e above cluster lt leave in
             record {
-              differ = λ same. let no : 1 ≡ 2 = ap tag (vertex_name-apart g (Child c) (Outside c) one two same) in
+              differ = λ same. let no : 1 ≡ 2 = ap kind (vertex_name-apart g (Child c) (Outside c) one two same) in
                   omega (arith, no);
               free_a = free (Child c) one;
               free_b = free (Outside c) two;

@@ -33,7 +33,7 @@ use Rattle.cp_skel.proofs.AgreeingLists.{IsMapOf-kept, IsMapOf-stock, pair-is, s
 use Rattle.cp_skel.proofs.ClosedBorders.{inner_cluster}
 use Rattle.cp_skel.proofs.DartVertices.{StandsAt-kept, leaves-no_loop, end_dart-StandsAt, in_dart-StandsAt, out_dart-StandsAt}
 use Rattle.cp_skel.proofs.GoodLayouts.{good_from}
-use Rattle.cp_skel.proofs.KeptDarts.{DartKind, at_node, dart_kind, inside, outside}
+use Rattle.cp_skel.proofs.KeptDarts.{DartKind, at_node, dart_kind, first_end, inside, outside, second_end}
 use Rattle.cp_skel.proofs.LayoutSolutions.{edge_count-le, kept_list-child, kept_list-outside}
 use Rattle.cp_skel.proofs.NumberedSystems.{AreEdgeLists, arranged-AreEdgeLists}
 use Rattle.cp_skel.proofs.SkeletonGraph.{graph-skeletons}
@@ -61,18 +61,12 @@ loop_ends-are : (g : Clustered) (es : List ℕ) → ((e : ℕ) → Has e es → 
     → map (end_dart g) (loop_darts (map (λ e. 2 * e) es)) ≡ loop_darts (map (λ e. 2 * first_segment g e) es)
 loop_ends-are g [] none = refl
 loop_ends-are g (e ∷ es) none =
-    let first : end_dart g (2 * e) ≡ 2 * first_segment g e =
-    end_source g (2 * e) (omega arith)
-    ∙ ap (λ (m : ℕ). 2 * first_segment g m) (let h : 2 * e / 2 ≡ e = omega arith in h) in
-    let t : twin (2 * e) ≡ 2 * e + 1 = twin_even (2 * e) (omega arith) in
-    let half : (2 * e + 1) / 2 ≡ e = omega arith in
     let second : end_dart g (twin (2 * e)) ≡ twin (2 * first_segment g e) =
-    ap (end_dart g) t ∙ end_target g (2 * e + 1) (λ z. omega arith)
-    ∙ ap (λ (m : ℕ). 2 * (first_segment g m + crossed g m) + 1) half
+    ap (end_dart g) (twin_even (2 * e) (omega arith)) ∙ second_end g e
     ∙ (let h : 2 * (first_segment g e + crossed g e) + 1 ≡ 2 * first_segment g e + 1 =
     omega (arith, none e (inl refl)) in h)
     ∙ sym (twin_even (2 * first_segment g e) (omega arith)) in
-    ap₂ (λ (x : ℕ) (xs : List ℕ). x ∷ xs) first
+    ap₂ (λ (x : ℕ) (xs : List ℕ). x ∷ xs) (first_end g e)
     (ap₂ (λ (x : ℕ) (xs : List ℕ). x ∷ xs) second (loop_ends-are g es (λ d h. none d (inr h))))
 
 -- a loop crosses no border

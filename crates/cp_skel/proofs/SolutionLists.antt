@@ -25,6 +25,7 @@ use Rattle.cp_skel.proofs.NumberedSystems.{AreEdgeLists}
 use Rattle.cp_skel.proofs.SkeletonLevels.{before_more}
 use Rattle.cp_skel.proofs.SkeletonVertices.{child-IsVertex, node-IsVertex}
 use Rattle.cp_skel.proofs.StockDarts.{edge_count, ends, kept-stock, kept_name, skeleton_graph, stock-stands, vertex_count}
+use Rattle.cp_skel.proofs.VertexKinds.{kind, number}
 
 -- the edge of a segment
 segment_edge-is : (g : Clustered) (e k : ℕ) → e < edges g → k ≤ crossed g e
@@ -70,17 +71,6 @@ name_dart-is g x lt ne =
     ∙ (let h : 2 * (x / 2) + 1 ≡ x = omega arith in h))
     (cases_eq (x % 2) 0)
 
--- what a vertex is, and the number of what it stands for
-abbrev pub tag : Vertex → ℕ
-tag (Node v) = 0
-tag (Child c) = 1
-tag (Outside c) = 2
-
-abbrev pub number : Vertex → ℕ
-number (Node v) = v
-number (Child c) = c
-number (Outside c) = c
-
 -- a dart that stands at a node
 record AtNode (g : Clustered) (v d : ℕ) : Type 0 where
   pub x : ℕ
@@ -114,11 +104,11 @@ dart-AtNode g is v d h at = by (dart_kind g is d h)
         }
     by (inside c e above cluster lt leave same) =
         let s = in_dart-StandsAt g is c e lt cluster leave in
-        let no : 2 ≡ 0 = ap tag (sym s.at ∙ ap (dart_vertex g) (sym same) ∙ at) in
+        let no : 2 ≡ 0 = ap kind (sym s.at ∙ ap (dart_vertex g) (sym same) ∙ at) in
         absurd (omega (arith, no))
     by (outside c e above cluster lt leave same) =
         let s = out_dart-StandsAt g is c e lt cluster leave in
-        let no : 1 ≡ 0 = ap tag (sym s.at ∙ ap (dart_vertex g) (sym same) ∙ at) in
+        let no : 1 ≡ 0 = ap kind (sym s.at ∙ ap (dart_vertex g) (sym same) ∙ at) in
         absurd (omega (arith, no))
 
 -- what stands at a cluster is the dart outside of an edge that leaves it
@@ -129,11 +119,11 @@ dart-AtChild g is c d h at = by (dart_kind g is d h)
     by : DartKind g d → AtChild g c d
     by (at_node x lt ne same) =
         let s = end_dart-StandsAt g x lt ne in
-        let no : 0 ≡ 1 = ap tag (sym s.at ∙ ap (dart_vertex g) (sym same) ∙ at) in
+        let no : 0 ≡ 1 = ap kind (sym s.at ∙ ap (dart_vertex g) (sym same) ∙ at) in
         absurd (omega (arith, no))
     by (inside b e above cluster lt leave same) =
         let s = in_dart-StandsAt g is b e lt cluster leave in
-        let no : 2 ≡ 1 = ap tag (sym s.at ∙ ap (dart_vertex g) (sym same) ∙ at) in
+        let no : 2 ≡ 1 = ap kind (sym s.at ∙ ap (dart_vertex g) (sym same) ∙ at) in
         absurd (omega (arith, no))
     by (outside b e above cluster lt leave same) =
         let s = out_dart-StandsAt g is b e lt cluster leave in
@@ -161,7 +151,7 @@ dart-AtOutside g is c d h at = by (dart_kind g is d h)
     by : DartKind g d → AtOutside g c d
     by (at_node x lt ne same) =
         let s = end_dart-StandsAt g x lt ne in
-        let no : 0 ≡ 2 = ap tag (sym s.at ∙ ap (dart_vertex g) (sym same) ∙ at) in
+        let no : 0 ≡ 2 = ap kind (sym s.at ∙ ap (dart_vertex g) (sym same) ∙ at) in
         absurd (omega (arith, no))
     by (inside b e above cluster lt leave same) =
         let s = in_dart-StandsAt g is b e lt cluster leave in
@@ -174,7 +164,7 @@ dart-AtOutside g is c d h at = by (dart_kind g is d h)
         }
     by (outside b e above cluster lt leave same) =
         let s = out_dart-StandsAt g is b e lt cluster leave in
-        let no : 1 ≡ 2 = ap tag (sym s.at ∙ ap (dart_vertex g) (sym same) ∙ at) in
+        let no : 1 ≡ 2 = ap kind (sym s.at ∙ ap (dart_vertex g) (sym same) ∙ at) in
         absurd (omega (arith, no))
 
 -- lists of the edges of the instance

@@ -64,6 +64,17 @@ end_dart-no_loop g x h =
 
 -- an arranged layout
 module _ (g : Clustered) (l : Layout) (is : IsClustered g) (ar : IsArranged g l) where
+  -- a number that is no cluster has no list
+  cluster_list-past : (c : ℕ) → 0 < c → clusters g ≤ c → cluster_list l c ≡ []
+  cluster_list-past c above ge =
+      get_or_past l.clusters (c - 1) []
+      (⊎_elim
+      (λ less.
+      let k = (ar.clusters_right c).expected (omega (arith, less, above)) in
+      absurd (omega (arith, k, ge)))
+      (λ more. more)
+      (cases_lt (c - 1) (length l.clusters)))
+
   -- an edge listed for a cluster leaves it
   pub border_edge : (c e : ℕ) → Has e (border_edges l c)
       → (0 < c) × (c < clusters g) × (e < edges g) × (leaves g c e ≡ true)
@@ -74,12 +85,7 @@ module _ (g : Clustered) (l : Layout) (is : IsClustered g) (ar : IsArranged g l)
       let item : Has e (cluster_list l c) = subst (Has e) (border_edges-inner l c above) h in
       let cluster : c < clusters g = ⊎_elim
       (λ lt. lt)
-      (λ ge.
-      let past : length l.clusters ≤ c - 1 = ⊎_elim
-      (λ less. let k = (ar.clusters_right c).expected (omega (arith, less)) in absurd (omega (arith, k, ge)))
-      (λ more. more)
-      (cases_lt (c - 1) (length l.clusters)) in
-      absurd (subst (Has e) (get_or_past l.clusters (c - 1) [] past) item))
+      (λ ge. absurd (subst (Has e) (cluster_list-past c above (omega arith)) item))
       (cases_lt c (clusters g)) in
       let w = (Exactly-Has (edges g) (leaves g c) (cluster_list l c) (cluster_exact g l ar c above cluster) e).0 item in
       (above, cluster, w.0, w.1))
@@ -101,12 +107,7 @@ module _ (g : Clustered) (l : Layout) (is : IsClustered g) (ar : IsArranged g l)
       ⊎_elim
       (λ lt. subst Distinct (sym (border_edges-inner l c above))
       (Exactly-Distinct (edges g) (leaves g c) (cluster_list l c) (cluster_exact g l ar c above lt)))
-      (λ ge.
-      let past : length l.clusters ≤ c - 1 = ⊎_elim
-      (λ less. let k = (ar.clusters_right c).expected (omega (arith, less)) in absurd (omega (arith, k, ge)))
-      (λ more. more)
-      (cases_lt (c - 1) (length l.clusters)) in
-      subst Distinct (sym (border_edges-inner l c above ∙ get_or_past l.clusters (c - 1) [] past)) tt)
+      (λ ge. subst Distinct (sym (border_edges-inner l c above ∙ cluster_list-past c above (omega arith))) tt)
       (cases_lt c (clusters g)))
       (cases_eq c 0)
 
