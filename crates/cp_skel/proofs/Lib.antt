@@ -17,6 +17,7 @@ mod DartVertices
 mod VertexKinds
 mod KeptDarts
 mod SkeletonGraph
+pub mod SegmentNames
 mod SkeletonVertices
 mod StockDarts
 mod VertexLists

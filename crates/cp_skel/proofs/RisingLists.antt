@@ -1,5 +1,5 @@
 -- Lists of rising numbers: the same items make the same list.
-use Rattle.std.proofs.Common.{◌≡◌, ℕ, zero, suc, ◌+◌, ◌<◌, ◌≤◌, Bool, true, List, [], ◌∷◌, ◌++◌, map, length, sym, refl, ap, ap₂, ◌∙◌, subst, inl, inr, ⊎_elim, arith}
+use Rattle.std.proofs.Common.{◌≡◌, ℕ, zero, suc, ◌+◌, ◌<◌, Bool, List, [], ◌∷◌, ◌++◌, map, length, sym, refl, ap₂, subst, inl, inr, ⊎_elim, arith}
 use Rattle.std.specs.Prelude.{slice_index_or}
 use Rattle.std.specs.List.{filter, range_with_len}
 use Rattle.std.proofs.lemmas.Bool.{cases_Bool}
@@ -22,12 +22,12 @@ rising_same [] (y ∷ ys) up other to from = absurd (from y (inl refl))
 rising_same (x ∷ xs) [] up other to from = absurd (to x (inl refl))
 rising_same (x ∷ xs) (y ∷ ys) up other to from =
     let same : x ≡ y = ⊎_elim
-        (λ e. sym e)
-        (λ k. ⊎_elim
-        (λ e. e)
-        (λ m. let one = other.0 x k in let two = up.0 y m in absurd (omega (arith, one, two)))
-        (from y (inl refl)))
-        (to x (inl refl)) in
+    (λ e. sym e)
+    (λ k. ⊎_elim
+    (λ e. e)
+    (λ m. let one = other.0 x k in let two = up.0 y m in absurd (omega (arith, one, two)))
+    (from y (inl refl)))
+    (to x (inl refl)) in
     ap₂ (λ (z : ℕ) (zs : List ℕ). z ∷ zs) same
     (rising_same xs ys up.1 other.1
     (λ d h. ⊎_elim
@@ -57,22 +57,20 @@ Rising-filter p (x ∷ xs) up = ⊎_elim
 pub Rising-append : (xs ys : List ℕ) → Rising xs → Rising ys → ((x y : ℕ) → Has x xs → Has y ys → x < y)
     → Rising (xs ++ ys)
 Rising-append [] ys up other less = other
-Rising-append (x ∷ xs) ys up other less =
-    (
-      λ y h. ⊎_elim (λ k. up.0 y k) (λ k. less x y (inl refl) k) (Has-append_cases y xs ys h),
-      Rising-append xs ys up.1 other (λ z y h k. less z y (inr h) k),
-    )
+Rising-append (x ∷ xs) ys up other less = (
+  λ y h. ⊎_elim (λ k. up.0 y k) (λ k. less x y (inl refl) k) (Has-append_cases y xs ys h),
+  Rising-append xs ys up.1 other (λ z y h k. less z y (inr h) k),
+)
 
 -- images that rise with the items
 pub Rising-map : (f : ℕ → ℕ) (xs : List ℕ) → Rising xs
     → ((x y : ℕ) → Has x xs → Has y xs → x < y → f x < f y) → Rising (map f xs)
 Rising-map f [] up grows = tt
-Rising-map f (x ∷ xs) up grows =
-    (
-      λ y h. let m = map_on-Has f y xs h in
-          subst (λ z. f x < z) m.2 (grows x m.0 (inl refl) (inr m.1) (up.0 m.0 m.1)),
-      Rising-map f xs up.1 (λ z y h k less. grows z y (inr h) (inr k) less),
-    )
+Rising-map f (x ∷ xs) up grows = (
+  λ y h. let m = map_on-Has f y xs h in
+      subst (λ z. f x < z) m.2 (grows x m.0 (inl refl) (inr m.1) (up.0 m.0 m.1)),
+  Rising-map f xs up.1 (λ z y h k less. grows z y (inr h) (inr k) less),
+)
 
 -- items at rising places rise
 pub rising_at : (xs : List ℕ) (i j : ℕ) → Rising xs → i < j → j < length xs

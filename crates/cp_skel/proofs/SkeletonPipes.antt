@@ -86,7 +86,8 @@ pipe-of g P c e above cluster lt leave all =
 -- darts at a border whose segments have one name are of one edge
 module _ (g : Clustered) (is : IsClustered g) (c : ℕ) (cluster : c < clusters g) where
   -- of two edges that leave the cluster
-  pub name-apart : (d b e f : ℕ) (p q : Vertex) → StandsAt g d e p → StandsAt g b f q → segment_name g d ≡ segment_name g b
+  pub name-apart : (d b e f : ℕ) (p q : Vertex) → StandsAt g d e p → StandsAt g b f q
+      → segment_name g d ≡ segment_name g b
       → e ≡ f
   name-apart d b e f p q s t same =
       let half : d / 2 ≡ b / 2 =

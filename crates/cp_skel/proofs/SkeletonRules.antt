@@ -1,32 +1,30 @@
 -- The skeletons keep the rules of an instance.
-use Rattle.std.proofs.Common.{◌≡◌, ◌≢◌, ◌⊎◌, ℕ, zero, suc, ◌+◌, ◌-◌, ◌*◌, ◌/◌, ◌^◌, ◌<◌, ◌≤◌, Bool, true, List, [], ◌∷◌, ◌++◌, map, length, sym, refl, ap, ◌∙◌, subst, inl, inr, ⊎_elim, arith, IsPermutation}
-use Rattle.std.specs.Prelude.{eqb, slice_index, slice_index_or, Option, Some}
+use Rattle.std.proofs.Common.{◌≡◌, ◌≢◌, ◌⊎◌, ℕ, zero, suc, ◌+◌, ◌*◌, ◌/◌, ◌^◌, ◌<◌, ◌≤◌, true, List, [], ◌∷◌, map, length, sym, refl, ap, ◌∙◌, subst, inl, inr, ⊎_elim, arith, IsPermutation}
+use Rattle.std.specs.Prelude.{slice_index, slice_index_or, Some}
 use Rattle.std.specs.List.{All, Contains, filter, flat_map, range_with_len, zip}
-use Rattle.std.specs.List.Sorted.{IsStrictlyIncreasing}
 use Rattle.std.specs.Option.{option_map}
 use Rattle.std.proofs.lemmas.Bool.{cases_eq, cases_order}
 use Rattle.std.proofs.lemmas.List.Elements.{All-cons, All-nil}
-use Rattle.std.proofs.lemmas.List.FromFn.{get_or-map-range_with_len, get_or-range_with_len, length-map-range_with_len, length-range_with_len}
+use Rattle.std.proofs.lemmas.List.FromFn.{get_or-range_with_len, length-range_with_len}
 use Rattle.cp_lists.specs.CyclicLists.{Distinct, Has, Lacks}
 use Rattle.cp_lists.proofs.DistinctLists.{Has-Contains, Lacks-from, has_lacks}
 use Rattle.cp_lists.proofs.FilteredLists.{Has-filter, filter-Distinct, filter-Has}
 use Rattle.cp_lists.proofs.MappedLists.{Distinct-map_on, Has-map_on, map_on-Has}
-use Rattle.cp_conn.specs.NamedGraphs.{NamedGraph, edges_at, ends_at, rank}
-use Rattle.cp_board.specs.Instances.{AreNames, HasRightEnds, HasRightPairs, IsRightKind, IsSynchronized, cell_of, cells, edge_names, graph, kind_in, pipe_names, vert_names}
-use Rattle.cp_board.specs.Rotations.{ArrangesEdges, dart}
+use Rattle.cp_conn.specs.NamedGraphs.{edges_at, ends_at, rank}
+use Rattle.cp_board.specs.Instances.{AreNames, HasRightEnds, HasRightPairs, IsRightKind, IsSynchronized, cell_of, graph, kind_in, vert_names}
+use Rattle.cp_board.specs.Rotations.{dart}
 use Rattle.cp_board.specs.declared.parts.Kind.TheVariants.{P}
-use Rattle.cp_board.specs.declared.parts.Pipe.{Pipe}
 use Rattle.cp_board.specs.declared.parts.Vert.{Vert}
 use Rattle.cp_cgraph.specs.Clustered.{Clustered, IsClustered, clusters, edges, source, target}
 use Rattle.cp_cgraph.specs.Crossings.{leaves}
-use Rattle.cp_border.specs.Borders.{before, crossed, first_segment}
+use Rattle.cp_border.specs.Borders.{crossed, first_segment}
 use Rattle.cp_border.proofs.Numbering.{before_next}
 use Rattle.cp_skel.specs.SkeletonLists.{in_dart, out_dart}
-use Rattle.cp_skel.specs.Skeletons.{Child, IsVertex, Outside, Vertex, below, border_pairs, dart_vertex, is_left, kept_segments, left, segment_name, segments_of, skeleton_edge, skeleton_pipe, skeletons, vertex_name}
+use Rattle.cp_skel.specs.Skeletons.{Child, IsVertex, Outside, Vertex, below, dart_vertex, is_left, kept_segments, left, segment_name, segments_of, skeleton_edge, skeleton_pipe, skeletons, vertex_name}
 use Rattle.cp_skel.specs.VertexLists.{stock_dart}
 use Rattle.cp_skel.proofs.DartVertices.{StandsAt, StandsAt-kept, in_dart-StandsAt, out_dart-StandsAt}
 use Rattle.cp_skel.proofs.KeptDarts.{segment-differ}
-use Rattle.cp_skel.proofs.KeptSegments.{kept-segment, kept_segments-Distinct, piece-Has, piece_kept, piece_loop, pieces-Has}
+use Rattle.cp_skel.proofs.KeptSegments.{kept-segment, piece-Has, piece_kept, piece_loop, pieces-Has}
 use Rattle.cp_skel.proofs.NumberedSystems.{Has-edges_at, edges_at-Has}
 use Rattle.cp_skel.proofs.Permutations.{IsPermutation-from}
 use Rattle.cp_skel.proofs.Ranges.{Distinct-range, Has-range, range-Has}
@@ -35,8 +33,8 @@ use Rattle.cp_skel.proofs.SkeletonGraph.{edge_names-skeletons, find_named, graph
 use Rattle.cp_skel.proofs.SkeletonLevels.{before_more}
 use Rattle.cp_skel.proofs.SkeletonPipes.{All-pipes, left-Has, left-edge, name-apart}
 use Rattle.cp_skel.proofs.SkeletonVertices.{child-IsVertex, kept-IsVertex, outside-IsVertex, vertex_name-apart}
-use Rattle.cp_skel.proofs.SolutionLists.{AtChild, AtOutside, dart-AtChild, dart-AtOutside}
-use Rattle.cp_skel.proofs.StockDarts.{edge_count, ends, ends-differ, ends-within, kept-stock, kept_name, skeleton_graph, stock-stands, vertex_count}
+use Rattle.cp_skel.proofs.SolutionLists.{dart-AtChild, dart-AtOutside}
+use Rattle.cp_skel.proofs.StockDarts.{edge_count, ends, kept-stock, kept_name, skeleton_graph, stock-stands, vertex_count}
 use Rattle.cp_skel.proofs.TabledLists.{map_twice}
 use Rattle.cp_skel.proofs.VertexKinds.{kind, number}
 
@@ -68,7 +66,8 @@ pipe_names-are g (n ∷ ns) [] long = absurd (omega (arith, long))
 pipe_names-are g (n ∷ ns) (c ∷ cs) long = ap (λ ms. n ∷ ms) (pipe_names-are g ns cs (omega (arith, long)))
 
 -- there is no cell
-no_cells : (ns : List ℕ) → flat_map (λ v. cell_of v.kind) (map (λ v. let x : Vert = record { name = v; kind = P } in x) ns) ≡ []
+no_cells : (ns : List ℕ)
+    → flat_map (λ v. cell_of v.kind) (map (λ v. let x : Vert = record { name = v; kind = P } in x) ns) ≡ []
 no_cells [] = refl
 no_cells (n ∷ ns) = no_cells ns
 
@@ -104,7 +103,7 @@ name-rises g t u ht hu less =
     (λ lt. lt)
     (λ gt.
     let back = rising_at (kept_segments g) (rank (kept_segments g) u) (rank (kept_segments g) t)
-        (pieces-Rising g 0 (edges g)) gt one.0 in
+    (pieces-Rising g 0 (edges g)) gt one.0 in
     absurd (omega (arith, back, one.1, two.1, less))))
     (cases_order (rank (kept_segments g) t) (rank (kept_segments g) u))
 
@@ -242,11 +241,10 @@ module _ (g : Clustered) (is : IsClustered g) where
       let r = pipe_end ns cs (vertex_name g p) h in
       let two = are r.0 (inr r.1) in
       let same : r.0 ≡ c = ⊎_elim
-          (λ e. sym (ap number (apart p (Child r.0) is_p two.0 e)) ∙ num)
-          (λ e. sym (ap number (apart p (Outside r.0) is_p two.1 e)) ∙ num)
-          r.2 in
-      has_lacks c cs (subst (λ x. Has x cs) same r.1) once.0) in
-      (
+      (λ e. sym (ap number (apart p (Child r.0) is_p two.0 e)) ∙ num)
+      (λ e. sym (ap number (apart p (Outside r.0) is_p two.1 e)) ∙ num)
+      r.2 in
+      has_lacks c cs (subst (λ x. Has x cs) same r.1) once.0) in (
         (
           λ e. let no : 2 ≡ 1 = ap kind (apart (Outside c) (Child c) own.1 own.0 e) in omega (arith, no),
           other (Child c) own.0 refl,
@@ -261,7 +259,8 @@ module _ (g : Clustered) (is : IsClustered g) where
       let vert : ℕ → Vert = λ v. record { name = v; kind = P } in
       let live : (v : ℕ) → v < vertex_count g → Contains (vert_names (skeletons g)) v =
       λ v lt. subst (λ names. Contains names v) (sym (vert_names-skeletons g))
-      ((Has-Contains v (below (vertex_count g))).0 (Has-range v 0 (vertex_count g) (omega arith) (omega (arith, lt)))) in
+      ((Has-Contains v (below (vertex_count g))).0
+      (Has-range v 0 (vertex_count g) (omega arith) (omega (arith, lt)))) in
       let at : (t : ℕ) → Has t (kept_segments g)
       → IsVertex g (dart_vertex g (2 * t)) × IsVertex g (dart_vertex g (2 * t + 1)) =
       λ t h. (

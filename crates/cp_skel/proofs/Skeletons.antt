@@ -1,4 +1,5 @@
--- A clustered graph is c-planar exactly where its skeletons can be solved (Bläsius, Rutter 2016). The order of the edges
+-- A clustered graph is c-planar exactly where its skeletons can be solved (Bläsius, Rutter 2016). The order of the
+-- edges
 -- at each node is kept both ways.
 use Rattle.std.proofs.Common.{◌≡◌, ◌↔◌, ℕ, ◌<◌, List, map, ap, ◌∙◌, subst}
 use Rattle.std.specs.List.{filter}

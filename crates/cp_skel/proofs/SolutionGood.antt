@@ -18,7 +18,7 @@ use Rattle.cp_cgraph.specs.Crossings.{crossings, leaves}
 use Rattle.cp_cgraph.specs.declared.layout.Layout.{Layout}
 use Rattle.cp_border.specs.Borders.{crossed, end_dart, first_segment, segments}
 use Rattle.cp_border.specs.Good.{IsArranged, IsGood}
-use Rattle.cp_border.proofs.Rotation.{crossing_at, end_source, end_target}
+use Rattle.cp_border.proofs.Rotation.{crossing_at}
 use Rattle.cp_maps.specs.Genus.{IsFlat}
 use Rattle.cp_maps.specs.Maps.{IsMapOf, next_by}
 use Rattle.cp_maps.specs.Twins.{twin}

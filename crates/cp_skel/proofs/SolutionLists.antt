@@ -112,7 +112,8 @@ dart-AtNode g is v d h at = by (dart_kind g is d h)
         absurd (omega (arith, no))
 
 -- what stands at a cluster is the dart outside of an edge that leaves it
-pub dart-AtChild : (g : Clustered) → IsClustered g → (c d : ℕ) → Has (d / 2) (kept_segments g) → dart_vertex g d ≡ Child c
+pub dart-AtChild : (g : Clustered) → IsClustered g → (c d : ℕ) → Has (d / 2) (kept_segments g)
+    → dart_vertex g d ≡ Child c
     → AtChild g c d
 dart-AtChild g is c d h at = by (dart_kind g is d h)
   where
