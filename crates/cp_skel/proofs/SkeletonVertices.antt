@@ -37,7 +37,7 @@ is_vertex-same (Child c) q e = ap (is_vertex (Child c)) e ∙ eq-eqb c c refl
 is_vertex-same (Outside c) q e = ap (is_vertex (Outside c)) e ∙ eq-eqb c c refl
 
 -- what is among the vertices is one
-IsVertex-from : (g : Clustered) (p : Vertex) → Contains (all_vertices g) p → IsVertex g p
+pub IsVertex-from : (g : Clustered) (p : Vertex) → Contains (all_vertices g) p → IsVertex g p
 IsVertex-from g p c =
     let vs : List Vertex = all_vertices g in
     let passes : is_vertex p (slice_index_or vs c.0 p) ≡ true = is_vertex-same p (slice_index_or vs c.0 p) c.2 in
