@@ -9,6 +9,7 @@ Usage: bench/parse.py [PROGRAM] [LARGEST_NUMBER_OF_MEBIBYTES]
 PROGRAM is the built `cplan`; without it the script builds it.
 """
 import os
+import sys
 import tempfile
 import time
 
@@ -58,6 +59,79 @@ def clusters(size):
             yield "]" * depth + "\n"
             depth = 0
     yield "]" * depth + "]\n"
+
+
+MASK = 2**64 - 1
+
+# How many ids are chosen, and the most that the run of nodes with chosen ids may take, in runs with other ids.
+CHOSEN = 10000
+MOST_TIMES = 3
+
+
+def turned(x, bits):
+    return ((x << bits) | (x >> (64 - bits))) & MASK
+
+
+def sip_round(v0, v1, v2, v3):
+    v0 = (v0 + v1) & MASK
+    v1 = turned(v1, 13) ^ v0
+    v0 = turned(v0, 32)
+    v2 = (v2 + v3) & MASK
+    v3 = turned(v3, 16) ^ v2
+    v0 = (v0 + v3) & MASK
+    v3 = turned(v3, 21) ^ v0
+    v2 = (v2 + v1) & MASK
+    v1 = turned(v1, 17) ^ v2
+    return v0, v1, turned(v2, 32), v3
+
+
+def sip(number):
+    """SipHash-1-3 with both keys 0 of a number in four bytes."""
+    block = 4 << 56 | number
+    v0, v1, v2, v3 = 0x736F6D6570736575, 0x646F72616E646F6D, 0x6C7967656E657261, 0x7465646279746573
+    v0, v1, v2, v3 = sip_round(v0, v1, v2, v3 ^ block)
+    v0 ^= block
+    v2 ^= 0xFF
+    for _ in range(3):
+        v0, v1, v2, v3 = sip_round(v0, v1, v2, v3)
+    return v0 ^ v1 ^ v2 ^ v3
+
+
+def chosen_ids():
+    """Ids that a table hashed with both keys 0 puts into one place: the halves of their hashes, added without
+    carry, have their low 14 bits in a short range."""
+    ids = []
+    number = 0
+    while len(ids) < CHOSEN:
+        number += 1
+        value = sip(number)
+        if (value ^ value >> 32) & 0x3FFF < 128:
+            ids.append(number)
+    return ids
+
+
+def other_ids():
+    """As many ids of as many digits, at even distances."""
+    return range(1000003, 1000003 + 211 * CHOSEN, 211)
+
+
+def measured_ids(program, path):
+    """Rows for nodes whose ids are chosen against a hash with a fixed seed, and for nodes with other ids."""
+    seconds = []
+    for name, ids in (("other ids", other_ids()), ("chosen ids", chosen_ids())):
+        with open(path, "w", encoding="ascii") as out:
+            out.write(REPORT + "graph [\n")
+            out.writelines("node [ id %d ]\n" % number for number in ids)
+            out.write("]\n")
+        length = os.path.getsize(path) / 2**20
+        run, base = measured([Command([program, "check"], path, 1, b"rejected no layout\n"), sha256sum(path)])
+        seconds.append(run.seconds)
+        print_row(
+            [name, "%.1f" % length, "%.3f" % run.seconds, "%.0f" % run.memory]
+            + ["%.1f" % (run.memory / length), "-", "%.3f" % base.seconds, "%.1f" % (run.seconds / base.seconds)]
+        )
+    if seconds[1] > MOST_TIMES * seconds[0]:
+        sys.exit("chosen ids take %.1f times the time of other ids" % (seconds[1] / seconds[0]))
 
 
 def fitted(shape, largest):
@@ -110,6 +184,7 @@ def main():
                     + ["%.1f" % (run.memory / length), shown, "%.3f" % base.seconds, "%.1f" % (run.seconds / base.seconds)]
                 )
                 size *= 8
+        measured_ids(program, path)
 
 
 if __name__ == "__main__":

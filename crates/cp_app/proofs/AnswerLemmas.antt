@@ -1,5 +1,5 @@
 -- Words and bytes have at most one end and text.
-use Rattle.std.proofs.Common.{◌≡◌, ℕ, List, length, drop, refl, sym, ap, ap₂, subst, ◌∙◌, arith}
+use Rattle.std.proofs.Common.{◌≡◌, ℕ, ◌≤◌, List, length, drop, ◌⊎◌, inl, inr, refl, sym, ap, ap₂, subst, ◌∙◌, arith}
 use Rattle.cp_cgraph.specs.Clustered.{Clustered}
 use Rattle.cp_cgraph.specs.GraphFaults as graphs
 use Rattle.cp_cgraph.specs.GraphOf.{graph_of}
@@ -12,15 +12,20 @@ use Rattle.cp_gml.proofs.Unique.{one_list, list_or_fault, one_fault}
 use Rattle.cp_report.specs.declared.report.Report.{Report}
 use Rattle.cp_report.specs.Texts.{report_text, BeginsWith}
 use Rattle.cp_report.proofs.LawLemmas as laws
-use Rattle.cp_app.specs.Input.{IsGraphText, IsGraphFault}
+use Rattle.cp_cgraph.specs.GraphTexts.{IsGraphText, IsGraphFault}
 use Rattle.cp_check.specs.Judging.{IsReason, IsGoodReport}
 use Rattle.cp_check.proofs.Verdicts.{good_no_reason, one_reason}
-use Rattle.cp_app.specs.Answer.{Answer, Checked, Judged}
-use Rattle.cp_app.specs.Answer.Answer.{usage, too_long, checked}
+use Rattle.cp_io.specs.Commands as commands
+use Rattle.cp_io.specs.Commands.Answer.{usage, too_long, told}
+use Rattle.cp_io.specs.Streams.{most_bytes}
+use Rattle.cp_app.specs.Answer.{Answer, Checked, Judged, IsCheck, Asks, Answers, shared_ends}
 use Rattle.cp_app.specs.Answer.Checked.{bad_report, read}
 use Rattle.cp_app.specs.Answer.Judged.{grammar, graph, accepted, rejected}
 use Rattle.cp_app.specs.Texts.{bad_report_line, grammar_name, graph_name, refused_line, rejected_line}
 use Rattle.cp_check.specs.declared.verdict.Reject.{Reject}
+use Rattle.cp_app.specs.Run.{IsAnswer, IsJudged}
+use Rattle.cp_app.specs.declared.command.Asked.{Asked}
+use Rattle.cp_app.specs.declared.command.Asked.TheVariants.{Check}
 use Rattle.cp_app.specs.declared.end.End.{End}
 use Rattle.cp_app.specs.declared.end.End.TheVariants as ends
 
@@ -94,14 +99,82 @@ one_check bytes (read {end = e} {text = line} r n begins is) (read r2 m begins2 
     let same = one_report bytes r r2 n m begins begins2 in
     one_judgement r2 (drop m bytes) (subst (λ k. Judged r2 (drop k bytes) e line) same.1 (subst (λ x. Judged x (drop n bytes) e line) same.0 is)) other
 
+-- words that are not `check` ask for nothing
+pub asks_nothing : (words : List (List ℕ)) → ¬ IsCheck words → (a : Asked) → ¬ Asks words a
+asks_nothing words none Check = none
+
+-- what answers a report and a graph answers what is asked for, since this is `check`
+pub checked_answers : (a : Asked) (bytes : List ℕ) (end : End) (text : List ℕ) → Checked bytes end text → Answers a bytes end text
+checked_answers Check bytes end text is = is
+
 -- words and bytes allow one end and one text
 pub one_end : (words : List (List ℕ)) (bytes : List ℕ) {e f : End} {s t : List ℕ} → Answer words bytes e s → Answer words bytes f t → (e ≡ f) × (s ≡ t)
 one_end words bytes (usage n1) (usage n2) = (refl, refl)
-one_end words bytes (usage n1) (too_long w2 m2) = absurd (n1 w2)
-one_end words bytes (usage n1) (checked w2 k2 is2) = absurd (n1 w2)
-one_end words bytes (too_long w1 m1) (usage n2) = absurd (n2 w1)
-one_end words bytes (too_long w1 m1) (too_long w2 m2) = (refl, refl)
-one_end words bytes (too_long w1 m1) (checked w2 k2 is2) = absurd (omega (arith, m1, k2))
-one_end words bytes (checked w1 k1 is1) (usage n2) = absurd (n2 w1)
-one_end words bytes (checked w1 k1 is1) (too_long w2 m2) = absurd (omega (arith, m2, k1))
-one_end words bytes (checked w1 k1 is1) (checked w2 k2 is2) = one_check bytes is1 is2
+one_end words bytes (usage n1) (too_long a2 w2 m2) = absurd (n1 a2 w2)
+one_end words bytes (usage n1) (told a2 w2 k2 is2) = absurd (n1 a2 w2)
+one_end words bytes (too_long a1 w1 m1) (usage n2) = absurd (n2 a1 w1)
+one_end words bytes (too_long a1 w1 m1) (too_long a2 w2 m2) = (refl, refl)
+one_end words bytes (too_long a1 w1 m1) (told a2 w2 k2 is2) = absurd (omega (arith, m1, k2))
+one_end words bytes (told a1 w1 k1 is1) (usage n2) = absurd (n2 a1 w1)
+one_end words bytes (told a1 w1 k1 is1) (too_long a2 w2 m2) = absurd (omega (arith, m2, k1))
+one_end words bytes (told Check w1 k1 is1) (told Check w2 k2 is2) = one_check bytes is1 is2
+
+-- what is judged behind a report ends in none of the ends that all commands share
+own_judged : (r : Report) (text : List ℕ) {end : End} {line : List ℕ} → Judged r text end line → commands.IsOwn shared_ends end
+own_judged r text (grammar kind at is) = record { usage = λ e. cc; too_long = λ e. cc; read = λ e. cc; write = λ e. cc; memory = λ e. cc }
+own_judged r text (graph kind at is) = record { usage = λ e. cc; too_long = λ e. cc; read = λ e. cc; write = λ e. cc; memory = λ e. cc }
+own_judged r text (accepted g is good) = record { usage = λ e. cc; too_long = λ e. cc; read = λ e. cc; write = λ e. cc; memory = λ e. cc }
+own_judged r text (rejected g is reason why) = record { usage = λ e. cc; too_long = λ e. cc; read = λ e. cc; write = λ e. cc; memory = λ e. cc }
+
+-- no command answers with an end that all commands share
+pub own_answers : (a : Asked) (bytes : List ℕ) (end : End) (text : List ℕ) → Answers a bytes end text → commands.IsOwn shared_ends end
+own_answers Check bytes end text (bad_report kind number is) = record { usage = λ e. cc; too_long = λ e. cc; read = λ e. cc; write = λ e. cc; memory = λ e. cc }
+own_answers Check bytes end text (read r n begins is) = own_judged r (drop n bytes) is
+
+-- the ends that all commands share differ
+pub shared_apart : commands.AreApart shared_ends
+shared_apart = record {
+  usage = record { read = λ e. cc; write = λ e. cc; memory = λ e. cc };
+  too_long = record { read = λ e. cc; write = λ e. cc; memory = λ e. cc };
+  not_too_long = λ e. cc;
+  read_write = λ e. cc;
+  read_memory = λ e. cc;
+  write_memory = λ e. cc;
+}
+
+-- a report and the text of a graph are judged
+judged_graph : (r : Report) (text : List ℕ) (g : Clustered) → IsGraphText text g → {end : End} {line : List ℕ} → Judged r text end line → IsJudged end
+judged_graph r text g is (grammar kind at fault) = absurd (list_or_fault text (tree is.entries) kind at is.list fault)
+judged_graph r text g is (graph kind at fault) = absurd (graph_no_fault text g kind at is fault)
+judged_graph r text g is (accepted h other good) = inl refl
+judged_graph r text g is (rejected h other reason why) = inr (reason, refl)
+
+-- bytes of a report and a graph are judged
+judged_bytes : (bytes : List ℕ) (r : Report) (n : ℕ) (g : Clustered) → BeginsWith bytes r n → IsGraphText (drop n bytes) g
+    → {end : End} {text : List ℕ} → Checked bytes end text → IsJudged end
+judged_bytes bytes r n g begins is (bad_report kind number fault) = absurd (laws.no_fault_in_report r (drop n bytes) bytes kind number begins.within begins.front fault)
+judged_bytes bytes r n g begins is (read s m begins2 judged) =
+    let same = one_report bytes r s n m begins begins2 in
+    judged_graph s (drop m bytes) g (subst (λ k. IsGraphText (drop k bytes) g) same.1 is) judged
+
+-- `check` judges bytes of a report and a graph
+pub judged_answer : (words : List (List ℕ)) (bytes : List ℕ) (r : Report) (n : ℕ) (g : Clustered) → IsCheck words → length bytes ≤ most_bytes
+    → BeginsWith bytes r n → IsGraphText (drop n bytes) g → {end : End} {text : List ℕ} → Answer words bytes end text → IsJudged end
+judged_answer words bytes r n g check short begins is (usage none) = absurd (none Check check)
+judged_answer words bytes r n g check short begins is (too_long a asks long) = absurd (omega (arith, short, long))
+judged_answer words bytes r n g check short begins is (told Check asks k checked) = judged_bytes bytes r n g begins is checked
+
+-- an end that no device caused is an answer or want of memory
+pub answer_or_memory : (P : End → Type 0) (end : End) → ¬ (end ≡ ends.ReadFault) → ¬ (end ≡ ends.WriteFault) → (IsAnswer end → P end) → P end ⊎ (end ≡ ends.Memory)
+answer_or_memory P ends.Memory calm_source calm_sink answer = inr refl
+answer_or_memory P ends.ReadFault calm_source calm_sink answer = absurd (calm_source refl)
+answer_or_memory P ends.WriteFault calm_source calm_sink answer = absurd (calm_sink refl)
+answer_or_memory P ends.Yes calm_source calm_sink answer = inl (answer record { read = λ e. cc; write = λ e. cc; memory = λ e. cc })
+answer_or_memory P ends.No calm_source calm_sink answer = inl (answer record { read = λ e. cc; write = λ e. cc; memory = λ e. cc })
+answer_or_memory P ends.Accepted calm_source calm_sink answer = inl (answer record { read = λ e. cc; write = λ e. cc; memory = λ e. cc })
+answer_or_memory P (ends.Rejected reason) calm_source calm_sink answer = inl (answer record { read = λ e. cc; write = λ e. cc; memory = λ e. cc })
+answer_or_memory P ends.Done calm_source calm_sink answer = inl (answer record { read = λ e. cc; write = λ e. cc; memory = λ e. cc })
+answer_or_memory P (ends.Refused kind at) calm_source calm_sink answer = inl (answer record { read = λ e. cc; write = λ e. cc; memory = λ e. cc })
+answer_or_memory P (ends.BadReport kind line) calm_source calm_sink answer = inl (answer record { read = λ e. cc; write = λ e. cc; memory = λ e. cc })
+answer_or_memory P ends.Usage calm_source calm_sink answer = inl (answer record { read = λ e. cc; write = λ e. cc; memory = λ e. cc })
+answer_or_memory P ends.TooLong calm_source calm_sink answer = inl (answer record { read = λ e. cc; write = λ e. cc; memory = λ e. cc })

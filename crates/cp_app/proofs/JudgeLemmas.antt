@@ -6,7 +6,7 @@ use Rattle.cp_report.specs.Texts.{report_text, BeginsWith}
 use Rattle.cp_check.specs.Judging.{IsVerdict}
 use Rattle.cp_check.specs.declared.verdict.Verdict.{Verdict}
 use Rattle.cp_check.specs.declared.verdict.Verdict.TheVariants.{Accepted, Rejected}
-use Rattle.cp_app.specs.Input.{IsGraphText}
+use Rattle.cp_cgraph.specs.GraphTexts.{IsGraphText}
 use Rattle.cp_app.specs.Verdicts.{Tells}
 use Rattle.cp_app.specs.Answer.{Checked, Judged}
 use Rattle.cp_app.specs.Answer.Checked.{read}

@@ -1,3 +1,3 @@
-pub mod AnswerLemmas
-pub mod JudgeLemmas
-pub mod WordLemmas
+mod AnswerLemmas
+mod JudgeLemmas
+mod WordLemmas

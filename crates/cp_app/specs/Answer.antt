@@ -1,15 +1,18 @@
 -- What a run may end with, and the text that it then writes.
-use Rattle.std.specs.Prelude.{◌≡◌, ℕ, ◌<◌, ◌≤◌, List, [], ◌∷◌, length, drop, codes}
+use Rattle.std.specs.Prelude.{◌≡◌, ℕ, List, [], ◌∷◌, drop, codes}
 use Rattle.cp_cgraph.specs.Clustered.{Clustered}
 use Rattle.cp_gml.specs.Lists as lists
-use Rattle.cp_io.specs.Streams.{most_bytes}
+use Rattle.cp_io.specs.Commands as commands
+use Rattle.cp_io.specs.declared.command.Ends.{Ends}
 use Rattle.cp_report.specs.declared.report.Report.{Report}
 use Rattle.cp_report.specs.Texts.{BeginsWith}
 use Rattle.cp_report.specs.Faults as reports
-use Rattle.cp_app.specs.Input.{IsGraphText, IsGraphFault}
+use Rattle.cp_cgraph.specs.GraphTexts.{IsGraphText, IsGraphFault}
 use Rattle.cp_check.specs.Judging.{IsReason, IsGoodReport}
-use Rattle.cp_app.specs.Texts.{usage_line, too_long_line, bad_report_line, grammar_name, graph_name, refused_line, accepted_line, rejected_line}
+use Rattle.cp_app.specs.Texts.{usage_line, bad_report_line, grammar_name, graph_name, refused_line, accepted_line, rejected_line}
 use Rattle.cp_check.specs.declared.verdict.Reject.{Reject}
+use Rattle.cp_app.specs.declared.command.Asked.{Asked}
+use Rattle.cp_app.specs.declared.command.Asked.TheVariants.{Check}
 use Rattle.cp_app.specs.declared.end.End.{End}
 use Rattle.cp_app.specs.declared.end.End.TheVariants as ends
 
@@ -29,8 +32,19 @@ pub data Checked (bytes : List ℕ) : End → List ℕ → Type 0 where
   bad_report : (kind number : ℕ) → reports.IsFaultOf bytes kind number → Checked bytes (ends.BadReport kind number) (bad_report_line kind number)
   read : {end : End} {text : List ℕ} → (r : Report) (n : ℕ) → BeginsWith bytes r n → Judged r (drop n bytes) end text → Checked bytes end text
 
--- for these words and bytes the run may end so and write this text
-pub data Answer (words : List (List ℕ)) (bytes : List ℕ) : End → List ℕ → Type 0 where
-  usage : ¬ IsCheck words → Answer words bytes ends.Usage usage_line
-  too_long : IsCheck words → most_bytes < length bytes → Answer words bytes ends.TooLong too_long_line
-  checked : {end : End} {text : List ℕ} → IsCheck words → length bytes ≤ most_bytes → Checked bytes end text → Answer words bytes end text
+-- the words ask for this
+abbrev pub Asks : List (List ℕ) → Asked → Type 0
+Asks words Check = IsCheck words
+
+-- the bytes are answered so
+abbrev pub Answers : Asked → List ℕ → End → List ℕ → Type 0
+Answers Check = Checked
+
+-- the ends that all commands share
+abbrev pub shared_ends : Ends End
+shared_ends = record { usage = ends.Usage; too_long = ends.TooLong; read_fault = ends.ReadFault; write_fault = ends.WriteFault; memory = ends.Memory }
+
+-- for these words and bytes the run may end so and write this text: the words ask for nothing, or the bytes are
+-- too many, or what they ask for is answered so
+abbrev pub Answer : List (List ℕ) → List ℕ → End → List ℕ → Type 0
+Answer = commands.Answer Asks Answers shared_ends usage_line

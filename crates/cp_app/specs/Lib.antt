@@ -1,6 +1,7 @@
+-- what contracts rest on
 pub mod Ends
 pub mod Texts
-pub mod Input
-pub mod Verdicts
 pub mod Answer
 pub mod Run
+-- what functions inside promise each other
+pub mod Verdicts

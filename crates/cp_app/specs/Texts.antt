@@ -10,12 +10,6 @@ line text = text ++ 10 ∷ []
 abbrev pub usage_line : List ℕ
 usage_line = line (codes "usage: cplan COMMAND [N]")
 
-abbrev pub read_fault_line : List ℕ
-read_fault_line = line (codes "read fault")
-
-abbrev pub too_long_line : List ℕ
-too_long_line = line (codes "input too long")
-
 abbrev pub accepted_line : List ℕ
 accepted_line = line (codes "accepted")
 

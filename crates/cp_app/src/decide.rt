@@ -1,13 +1,12 @@
 // The answer to all bytes of an input.
-ghost use Rattle.std.specs.Prelude.{◌≢◌, IfOk};
+ghost use Rattle.std.specs.Prelude.{IfOk};
 ghost use Rattle.cp_app.specs.Answer.{Checked, Judged};
 ghost use Rattle.cp_app.specs.Verdicts.{Tells};
-ghost use Rattle.cp_app.specs.Run.{IsAnswer};
 
-use crate::graph::{TextFault, graph_of};
 use crate::judge::verdict;
 use crate::{End, texts};
 use cp_base::Memory;
+use cp_cgraph::{TextFault, read_graph};
 use cp_check::Verdict;
 use cp_report::{Report, ReportFault, read_report};
 use std::alloc::Global;
@@ -24,11 +23,9 @@ fn told(alloc: Global, verdict: Verdict) -> Result<(End, Vec<u8>), Memory>
 
 // The answer to a report and the text behind it.
 fn judged(alloc: Global, report: &Report, text: &[u8]) -> Result<(End, Vec<u8>), Memory>
-    ensures answer { IfOk result (λ a. Judged report.now text.now a.0 a.1.items) }
-    ensures kind { IfOk result (λ a. IsAnswer a.0) }
-    ensures short { IfOk result (λ a. a.0 ≢ End.TooLong) }
+    ensures { IfOk result (λ a. Judged report.now text.now a.0 a.1.items) }
 {
-    match graph_of(alloc, text) {
+    match read_graph(alloc, text) {
         Ok(graph) => told(alloc, verdict(alloc, &graph, report)?),
         Err(TextFault::Grammar { kind, at }) => {
             let line = texts::grammar_fault(alloc, kind, at)?;
@@ -45,9 +42,7 @@ fn judged(alloc: Global, report: &Report, text: &[u8]) -> Result<(End, Vec<u8>),
 /// The end and its text. Linear in the number of bytes and of the places where edges cross borders, on
 /// average, since ids are looked up by a hash.
 pub(crate) fn decide(alloc: Global, bytes: &[u8]) -> Result<(End, Vec<u8>), Memory>
-    ensures answer { IfOk result (λ a. Checked bytes.now a.0 a.1.items) }
-    ensures kind { IfOk result (λ a. IsAnswer a.0) }
-    ensures short { IfOk result (λ a. a.0 ≢ End.TooLong) }
+    ensures { IfOk result (λ a. Checked bytes.now a.0 a.1.items) }
 {
     match read_report(alloc, bytes) {
         Ok((report, length)) => {

@@ -1,9 +1,9 @@
 //! The one call that the program makes: words of the command line in, bytes in, an end and a text out.
 #![tactic(auto)]
 
+mod command;
 mod decide;
 mod end;
-mod graph;
 mod judge;
 mod laws;
 mod running;

@@ -11,7 +11,7 @@ const TRIANGLE: &str =
     "cplan-report 1\nyes\nnode 0: 0s 2t\nnode 1: 0t 1s\nnode 2: 1t 2s\nend\ngraph [\nnode [ id 1 ] node [ id 2 ] node [ id 3 ]\nedge [ source 1 target 2 ]\nedge [ source 2 target 3 ]\nedge [ source 3 target 1 ]\n]\n";
 
 // Inputs, each with its status and its line.
-const CHECKS: [(&str, u8, &str); 20] = [
+const CHECKS: [(&str, u8, &str); 22] = [
     (TRIANGLE, 0, "accepted\n"),
     // an empty cluster beside isolated nodes: each node is a face and a component of its own
     (
@@ -98,6 +98,12 @@ const CHECKS: [(&str, u8, &str); 20] = [
         "cplan-report 9\nyes\nend\ngraph [ ]",
         2,
         "bad report 1 line 1\n",
+    ),
+    ("cplan-report 1\nmaybe\n", 2, "bad report 2 line 2\n"),
+    (
+        "cplan-report 1\nyes\nnode 1:\nend\n",
+        2,
+        "bad report 3 line 3\n",
     ),
     (
         "cplan-report 1\nyes\nnode 0: 01s\nend\n",

@@ -8,10 +8,6 @@ use std::alloc::Global;
 
 pub(crate) const USAGE: &[u8] = b"usage: cplan COMMAND [N]\n";
 
-pub(crate) const READ_FAULT: &[u8] = b"read fault\n";
-
-pub(crate) const TOO_LONG: &[u8] = b"input too long\n";
-
 pub(crate) const ACCEPTED: &[u8] = b"accepted\n";
 
 /// The line that tells why a layout is rejected.

@@ -1,15 +1,20 @@
-mod Named
-mod Tests
-mod Examples
-mod Poles
+pub mod NamedLists
+pub mod NewNames
+pub mod NumberOfNewNames
+pub mod Rules
+pub mod FirstBroken
+pub mod EdgesOfVertices
+pub mod DroppedPipes
+pub mod ShapeEquations
+pub mod PlantedRows
+pub mod ListTests
+mod WheelShape
+mod BrokenRules
+mod CrossingBlocks
+mod CutTests
+mod PolesOfBonds
+mod RuleTests
+mod SolutionTests
 mod Wheel
-mod Crossing
-mod Laws
-mod Solved
-mod Dropped
-mod Planting
-mod Moved
-mod Uncut
-mod Broken
-mod Rewriting
-mod Greatest
+mod WorkedRewrites
+mod WorkedRun

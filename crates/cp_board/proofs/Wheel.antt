@@ -10,7 +10,7 @@ use Rattle.cp_board.specs.Plantings.{Plants, PlantsAll, Planted}
 use Rattle.cp_board.specs.Effects.{After}
 use Rattle.cp_board.specs.Rows.{vert, edge, pipe, fixed}
 use Rattle.cp_board.specs.Plantings as plantings
-use Rattle.cp_board.proofs.Tests.{IsSynchronized-from_tests}
+use Rattle.cp_board.proofs.RuleTests.{IsSynchronized-from_tests}
 
 abbrev pub wheel_pipe : Pipe
 wheel_pipe = pipe 0 0 5 ((0, 8) ∷ (1, 9) ∷ (2, 10) ∷ (3, 11) ∷ [])

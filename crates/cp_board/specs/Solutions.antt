@@ -45,6 +45,10 @@ IsSolvable i = (s : ℕ → List ℕ) × Solves i s
 abbrev pub list_in : List (ℕ × List ℕ) → ℕ → List ℕ
 list_in lists v = option_map_or (λ x. x.1) (find (λ x. eqb x.0 v) lists) []
 
+-- the rows where vertex v has another list
+abbrev pub with_list : ℕ → List ℕ → List (ℕ × List ℕ) → List (ℕ × List ℕ)
+with_list v list lists = map (λ x. cond (eqb x.0 v) (v, list) x) lists
+
 -- the lists are named by the vertices, and solve the instance
 pub record IsSolution (i : Synchronized) (lists : List (ℕ × List ℕ)) : Type 0 where
   pub names : map (λ x. x.0) lists ≡ vert_names i

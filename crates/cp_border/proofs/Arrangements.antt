@@ -29,6 +29,7 @@ pub record IsFour (n : ℕ) (p : ℕ → Bool) (a b c d : ℕ) : Type 0 where
   pub third_fourth : c ≢ d
   pub no_other : (x : ℕ) → x < n → p x ≡ true → (x ≡ a) ⊎ ((x ≡ b) ⊎ ((x ≡ c) ⊎ (x ≡ d)))
 
+-- four numbers that alone pass, and are distinct, are exactly what passes
 pub Exactly-four : (n : ℕ) (p : ℕ → Bool) (a b c d : ℕ) → IsFour n p a b c d → Exactly n p (a ∷ b ∷ c ∷ d ∷ [])
 Exactly-four n p a b c d four = record {
   each_passes = λ i lt. passing i 0 lt;
@@ -82,7 +83,9 @@ pub Contains-map : (f : ℕ → ℕ) (xs : List ℕ) (x : ℕ) → Contains xs x
 Contains-map f xs x c = (c.0, omega (arith, length-map xs f, c.1), get_or-map f xs c.0 x (f x) c.1 ∙ ap f c.2)
 
 -- an exact list, renamed by what carries the numbers that pass one test to those that pass another
-pub Exactly-map : (m n : ℕ) (p q : ℕ → Bool) (f : ℕ → ℕ) (xs : List ℕ) → Exactly m p xs → ((d : ℕ) → d < m → p d ≡ true → (f d < n) × (q (f d) ≡ true)) → ((d e : ℕ) → d < m → e < m → f d ≡ f e → d ≡ e) → ((x : ℕ) → x < n → q x ≡ true → (d : ℕ) × (d < m) × (p d ≡ true) × (f d ≡ x)) → Exactly n q (map f xs)
+pub Exactly-map : (m n : ℕ) (p q : ℕ → Bool) (f : ℕ → ℕ) (xs : List ℕ) → Exactly m p xs →
+    ((d : ℕ) → d < m → p d ≡ true → (f d < n) × (q (f d) ≡ true)) → ((d e : ℕ) → d < m → e < m → f d ≡ f e → d ≡ e) →
+    ((x : ℕ) → x < n → q x ≡ true → (d : ℕ) × (d < m) × (p d ≡ true) × (f d ≡ x)) → Exactly n q (map f xs)
 Exactly-map m n p q f xs ex into apart onto = record {
   each_passes = λ i lt.
       let l : i < length xs = omega (arith, length-map xs f) in

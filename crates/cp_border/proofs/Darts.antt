@@ -21,6 +21,7 @@ toward_target g e i = 2 * (first_segment g e + i + 1)
 abbrev pub begin_dart : Clustered → Layout → ℕ → ℕ → ℕ
 begin_dart g l c k = 2 * (first_border_edge g l c + k)
 
+-- the second dart of a border edge, at the item behind
 abbrev pub finish_dart : Clustered → Layout → ℕ → ℕ → ℕ
 finish_dart g l c k = 2 * (first_border_edge g l c + k) + 1
 
@@ -32,15 +33,19 @@ segment_size g e = 2 * (crossed g e + 1)
 abbrev pub border_length : Layout → ℕ → ℕ
 border_length l k = length (cluster_list l (k + 1))
 
+-- how many darts the border of a cluster has
 abbrev pub border_size : Layout → ℕ → ℕ
 border_size l k = 2 * length (cluster_list l (k + 1))
 
+-- the vertices of the darts of all segments
 abbrev pub segment_at : Clustered → List ℕ
 segment_at g = flat_map (segment_ends g) (range_with_len 0 (edges g))
 
+-- the vertices of the darts of all borders
 abbrev pub border_at : Clustered → Layout → List ℕ
 border_at g l = flat_map (border_ends g l) (range_with_len 1 (length g.parents))
 
+-- how many darts the segments of an edge have
 length-segment_ends : (g : Clustered) (e : ℕ) → length (segment_ends g e) ≡ segment_size g e
 length-segment_ends g e =
     let inner : length (pairs (λ b. b) (λ b. b) (first_border g e) (crossed g e)) ≡ 2 * crossed g e = length-pairs (λ b. b) (λ b. b) (first_border g e) (crossed g e) in
@@ -48,37 +53,48 @@ length-segment_ends g e =
     length-append (pairs (λ b. b) (λ b. b) (first_border g e) (crossed g e)) (target g e ∷ []) in
     ap suc whole ∙ (let h : suc (length (pairs (λ b. b) (λ b. b) (first_border g e) (crossed g e)) + 1) ≡ 2 * (crossed g e + 1) = omega arith in h)
 
+-- how many darts the border of a cluster has
 length-border_ends : (g : Clustered) (l : Layout) (c : ℕ) → length (border_ends g l c) ≡ 2 * length (cluster_list l c)
 length-border_ends g l c = length-pairs (λ i. border_vertex g (slice_index (cluster_list l c) i) c) (λ i. border_vertex g (slice_index (cluster_list l c) (place_after (length (cluster_list l c)) i)) c) 0 (length (cluster_list l c))
 
+-- the sum of doubled values is the doubled sum
 before_doubled : (q : ℕ → ℕ) (n : ℕ) → before (λ e. 2 * q e) n ≡ 2 * before q n
 before_doubled q zero = refl
 before_doubled q (suc n) = omega (arith, before_doubled q n)
 
+-- the sum of twice one more than each value
 before_pairs : (q : ℕ → ℕ) (n : ℕ) → before (λ e. 2 * (q e + 1)) n ≡ 2 * (n + before q n)
 before_pairs q zero = refl
 before_pairs q (suc n) = omega (arith, before_pairs q n)
 
+-- how many darts the segments of the edges before one have
 pub segment_sizes : (g : Clustered) (e : ℕ) → before (segment_size g) e ≡ 2 * first_segment g e
 segment_sizes g e = before_pairs (crossed g) e
 
+-- how many darts the borders before one have
 pub border_sizes : (l : Layout) (k : ℕ) → before (border_size l) k ≡ 2 * before (border_length l) k
 border_sizes l k = before_doubled (border_length l) k
 
+-- each edge adds the darts of its segments
 segment_piece : (g : Clustered) (k : ℕ) → length (segment_ends g (0 + k)) ≡ segment_size g k
 segment_piece g k = ap (λ (m : ℕ). length (segment_ends g m)) (let e : 0 + k ≡ k = omega arith in e) ∙ length-segment_ends g k
 
+-- each cluster adds the darts of its border
 border_piece : (g : Clustered) (l : Layout) (k : ℕ) → length (border_ends g l (1 + k)) ≡ border_size l k
 border_piece g l k = ap (λ (m : ℕ). length (border_ends g l m)) (let e : 1 + k ≡ k + 1 = omega arith in e) ∙ length-border_ends g l (k + 1)
 
+-- how many darts all segments have
 pub length-segment_at : (g : Clustered) → length (segment_at g) ≡ 2 * segments g
 length-segment_at g = pieces_length (segment_ends g) (segment_size g) 0 (edges g) (λ k lt. segment_piece g k) ∙ segment_sizes g (edges g)
 
-pub length-border_at : (g : Clustered) (l : Layout) → length (border_at g l) ≡ 2 * before (border_length l) (length g.parents)
+-- how many darts all borders have
+pub length-border_at : (g : Clustered) (l : Layout) →
+    length (border_at g l) ≡ 2 * before (border_length l) (length g.parents)
 length-border_at g l = pieces_length (border_ends g l) (border_size l) 1 (length g.parents) (λ k lt. border_piece g l k) ∙ border_sizes l (length g.parents)
 
 -- the darts are two for each segment and each border edge
-pub length-borders_at : (g : Clustered) (l : Layout) → length (borders g l).at ≡ 2 * (segments g + before (border_length l) (length g.parents))
+pub length-borders_at : (g : Clustered) (l : Layout) →
+    length (borders g l).at ≡ 2 * (segments g + before (border_length l) (length g.parents))
 length-borders_at g l =
     length-append (segment_at g) (border_at g l) ∙ ap₂ (λ (a b : ℕ). a + b) (length-segment_at g) (length-border_at g l)
     ∙ (let h : 2 * segments g + 2 * before (border_length l) (length g.parents) ≡ 2 * (segments g + before (border_length l) (length g.parents)) = omega arith in h)
@@ -90,7 +106,8 @@ first_segment-le g e i lt within =
     omega (arith, segment_sizes g e, segment_sizes g (edges g))
 
 -- dart j of the segments of edge e
-segment_stands : (g : Clustered) (l : Layout) (e j : ℕ) → e < edges g → j < segment_size g e → slice_index (borders g l).at (2 * first_segment g e + j) ≡ slice_index (segment_ends g e) j
+segment_stands : (g : Clustered) (l : Layout) (e j : ℕ) → e < edges g → j < segment_size g e →
+    slice_index (borders g l).at (2 * first_segment g e + j) ≡ slice_index (segment_ends g e) j
 segment_stands g l e j lt within =
     let below : before (segment_size g) e + j < before (segment_size g) (edges g) = before_within (segment_size g) e j (edges g) lt within in
     ap (slice_index (borders g l).at) (let h : 2 * first_segment g e + j ≡ before (segment_size g) e + j = omega (arith, segment_sizes g e) in h)
@@ -99,7 +116,8 @@ segment_stands g l e j lt within =
     ∙ ap (λ (m : ℕ). slice_index (segment_ends g m) j) (let h : 0 + e ≡ e = omega arith in h)
 
 -- dart j of the border edges of cluster c
-border_stands : (g : Clustered) (l : Layout) (c j : ℕ) → 0 < c → c < clusters g → j < 2 * length (cluster_list l c) → slice_index (borders g l).at (2 * first_border_edge g l c + j) ≡ slice_index (border_ends g l c) j
+border_stands : (g : Clustered) (l : Layout) (c j : ℕ) → 0 < c → c < clusters g → j < 2 * length (cluster_list l c) →
+    slice_index (borders g l).at (2 * first_border_edge g l c + j) ≡ slice_index (border_ends g l c) j
 border_stands g l c j above lt within =
     let same : border_size l (c - 1) ≡ 2 * length (cluster_list l c) = ap (λ (m : ℕ). 2 * length (cluster_list l m)) (let h : c - 1 + 1 ≡ c = omega arith in h) in
     ap (slice_index (borders g l).at) (let h : 2 * first_border_edge g l c + j ≡ length (segment_at g) + (before (border_size l) (c - 1) + j) = omega (arith, length-segment_at g, border_sizes l (c - 1)) in h)
@@ -108,18 +126,21 @@ border_stands g l c j above lt within =
     ∙ ap (λ (m : ℕ). slice_index (border_ends g l m) j) (let h : 1 + (c - 1) ≡ c = omega arith in h)
 
 -- the first dart of an edge stands at its source
-pub stands_source : (g : Clustered) (l : Layout) (e : ℕ) → e < edges g → slice_index (borders g l).at (2 * first_segment g e) ≡ source g e
+pub stands_source : (g : Clustered) (l : Layout) (e : ℕ) → e < edges g →
+    slice_index (borders g l).at (2 * first_segment g e) ≡ source g e
 stands_source g l e lt = ap (slice_index (borders g l).at) (let h : 2 * first_segment g e ≡ 2 * first_segment g e + 0 = omega arith in h) ∙ segment_stands g l e 0 lt (omega arith)
 
 -- the last one at its target
-pub stands_target : (g : Clustered) (l : Layout) (e : ℕ) → e < edges g → slice_index (borders g l).at (2 * (first_segment g e + crossed g e) + 1) ≡ target g e
+pub stands_target : (g : Clustered) (l : Layout) (e : ℕ) → e < edges g →
+    slice_index (borders g l).at (2 * (first_segment g e + crossed g e) + 1) ≡ target g e
 stands_target g l e lt =
     ap (slice_index (borders g l).at) (let h : 2 * (first_segment g e + crossed g e) + 1 ≡ 2 * first_segment g e + suc (2 * crossed g e) = omega arith in h)
     ∙ segment_stands g l e (suc (2 * crossed g e)) lt (omega arith)
     ∙ get_or_at (pairs (λ b. b) (λ b. b) (first_border g e) (crossed g e)) (target g e) [] 0 (2 * crossed g e) (length-pairs (λ b. b) (λ b. b) (first_border g e) (crossed g e))
 
 -- the two darts between neighbouring segments at the border vertex between them
-pub stands_toward_source : (g : Clustered) (l : Layout) (e i : ℕ) → e < edges g → i < crossed g e → slice_index (borders g l).at (toward_source g e i) ≡ first_border g e + i
+pub stands_toward_source : (g : Clustered) (l : Layout) (e i : ℕ) → e < edges g → i < crossed g e →
+    slice_index (borders g l).at (toward_source g e i) ≡ first_border g e + i
 stands_toward_source g l e i lt within =
     let long : length (pairs (λ b. b) (λ b. b) (first_border g e) (crossed g e)) ≡ 2 * crossed g e = length-pairs (λ b. b) (λ b. b) (first_border g e) (crossed g e) in
     ap (slice_index (borders g l).at) (let h : toward_source g e i ≡ 2 * first_segment g e + suc (2 * i) = omega arith in h)
@@ -127,7 +148,9 @@ stands_toward_source g l e i lt within =
     ∙ get_or_append_left (pairs (λ b. b) (λ b. b) (first_border g e) (crossed g e)) (target g e ∷ []) 0 (2 * i) (omega arith)
     ∙ pairs_first (λ b. b) (λ b. b) (first_border g e) (crossed g e) i within
 
-pub stands_toward_target : (g : Clustered) (l : Layout) (e i : ℕ) → e < edges g → i < crossed g e → slice_index (borders g l).at (toward_target g e i) ≡ first_border g e + i
+-- where the dart toward the target of an edge stands at a crossing
+pub stands_toward_target : (g : Clustered) (l : Layout) (e i : ℕ) → e < edges g → i < crossed g e →
+    slice_index (borders g l).at (toward_target g e i) ≡ first_border g e + i
 stands_toward_target g l e i lt within =
     let long : length (pairs (λ b. b) (λ b. b) (first_border g e) (crossed g e)) ≡ 2 * crossed g e = length-pairs (λ b. b) (λ b. b) (first_border g e) (crossed g e) in
     ap (slice_index (borders g l).at) (let h : toward_target g e i ≡ 2 * first_segment g e + suc (2 * i + 1) = omega arith in h)
@@ -136,7 +159,8 @@ stands_toward_target g l e i lt within =
     ∙ pairs_second (λ b. b) (λ b. b) (first_border g e) (crossed g e) i within
 
 -- a border edge runs from the border vertex of its item
-pub stands_begin : (g : Clustered) (l : Layout) (c k : ℕ) → 0 < c → c < clusters g → k < length (cluster_list l c) → slice_index (borders g l).at (begin_dart g l c k) ≡ border_vertex g (slice_index (cluster_list l c) k) c
+pub stands_begin : (g : Clustered) (l : Layout) (c k : ℕ) → 0 < c → c < clusters g → k < length (cluster_list l c) →
+    slice_index (borders g l).at (begin_dart g l c k) ≡ border_vertex g (slice_index (cluster_list l c) k) c
 stands_begin g l c k above lt within =
     ap (slice_index (borders g l).at) (let h : begin_dart g l c k ≡ 2 * first_border_edge g l c + 2 * k = omega arith in h)
     ∙ border_stands g l c (2 * k) above lt (omega arith)
@@ -144,7 +168,8 @@ stands_begin g l c k above lt within =
     ∙ ap (λ (m : ℕ). border_vertex g (slice_index (cluster_list l c) m) c) (let h : 0 + k ≡ k = omega arith in h)
 
 -- to the border vertex of the item behind it
-pub stands_finish : (g : Clustered) (l : Layout) (c k : ℕ) → 0 < c → c < clusters g → k < length (cluster_list l c) → slice_index (borders g l).at (finish_dart g l c k) ≡ border_vertex g (slice_index (cluster_list l c) (place_after (length (cluster_list l c)) k)) c
+pub stands_finish : (g : Clustered) (l : Layout) (c k : ℕ) → 0 < c → c < clusters g → k < length (cluster_list l c) →
+    slice_index (borders g l).at (finish_dart g l c k) ≡ border_vertex g (slice_index (cluster_list l c) (place_after (length (cluster_list l c)) k)) c
 stands_finish g l c k above lt within =
     ap (slice_index (borders g l).at) (let h : finish_dart g l c k ≡ 2 * first_border_edge g l c + (2 * k + 1) = omega arith in h)
     ∙ border_stands g l c (2 * k + 1) above lt (omega arith)
@@ -157,11 +182,14 @@ pub data DartOf (g : Clustered) (l : Layout) (x : ℕ) : Type 0 where
   reaches_target : (e : ℕ) → e < edges g → x ≡ 2 * (first_segment g e + crossed g e) + 1 → DartOf g l x
   looks_to_source : (e i : ℕ) → e < edges g → i < crossed g e → x ≡ toward_source g e i → DartOf g l x
   looks_to_target : (e i : ℕ) → e < edges g → i < crossed g e → x ≡ toward_target g e i → DartOf g l x
-  begins_border : (c k : ℕ) → 0 < c → c < clusters g → k < length (cluster_list l c) → x ≡ begin_dart g l c k → DartOf g l x
-  finishes_border : (c k : ℕ) → 0 < c → c < clusters g → k < length (cluster_list l c) → x ≡ finish_dart g l c k → DartOf g l x
+  begins_border : (c k : ℕ) → 0 < c → c < clusters g → k < length (cluster_list l c) → x ≡ begin_dart g l c k →
+      DartOf g l x
+  finishes_border : (c k : ℕ) → 0 < c → c < clusters g → k < length (cluster_list l c) → x ≡ finish_dart g l c k →
+      DartOf g l x
 
 -- a dart of edge e, by its place among the darts of the edge
-segment_kind : (g : Clustered) (l : Layout) (x e j : ℕ) → e < edges g → j < segment_size g e → x ≡ 2 * first_segment g e + j → DartOf g l x
+segment_kind : (g : Clustered) (l : Layout) (x e j : ℕ) → e < edges g → j < segment_size g e →
+    x ≡ 2 * first_segment g e + j → DartOf g l x
 segment_kind g l x e j lt within is =
     ⊎_elim
     (λ even. ⊎_elim
@@ -175,7 +203,8 @@ segment_kind g l x e j lt within is =
     (cases_eq (j % 2) 0)
 
 -- a dart of the border of cluster k + 1, by its place among the darts of that border
-border_kind : (g : Clustered) (l : Layout) (x k j : ℕ) → k < length g.parents → j < border_size l k → x ≡ 2 * (segments g + before (border_length l) k) + j → DartOf g l x
+border_kind : (g : Clustered) (l : Layout) (x k j : ℕ) → k < length g.parents → j < border_size l k →
+    x ≡ 2 * (segments g + before (border_length l) k) + j → DartOf g l x
 border_kind g l x k j lt within is =
     let start : first_border_edge g l (k + 1) ≡ segments g + before (border_length l) k = ap (λ (m : ℕ). segments g + before (border_length l) m) (let h : k + 1 - 1 ≡ k = omega arith in h) in
     ⊎_elim

@@ -20,6 +20,7 @@ before-le f i (suc n) le = ⊎_elim (λ e. rw e (omega arith)) (λ ne. omega (ar
 pub before_next : (f : ℕ → ℕ) (i n : ℕ) → i < n → before f i + f i ≤ before f n
 before_next f i n lt = let h : before f (suc i) ≤ before f n = before-le f (suc i) n (omega arith) in h
 
+-- a place in a piece lies below the sum of all pieces
 pub before_within : (f : ℕ → ℕ) (i j n : ℕ) → i < n → j < f i → before f i + j < before f n
 before_within f i j n lt within = omega (arith, before_next f i n lt)
 
@@ -31,6 +32,7 @@ pub record Place (f : ℕ → ℕ) (n x : ℕ) : Type 0 where
   pub is_place : place < f piece
   pub is : x ≡ before f piece + place
 
+-- each number below the sum of all pieces lies in one piece, at one place
 pub located : (f : ℕ → ℕ) (n x : ℕ) → x < before f n → Place f n x
 located f zero x lt = absurd (omega arith)
 located f (suc n) x lt =
@@ -50,7 +52,8 @@ before_apart f i j h k within_i within_h e =
     (cases_order i h)
 
 -- one piece more
-flat_map_last : {A : Type 0} (F : ℕ → List A) (a n : ℕ) → flat_map F (range_with_len a (suc n)) ≡ flat_map F (range_with_len a n) ++ F (a + n)
+flat_map_last : {A : Type 0} (F : ℕ → List A) (a n : ℕ) →
+    flat_map F (range_with_len a (suc n)) ≡ flat_map F (range_with_len a n) ++ F (a + n)
 flat_map_last F a zero = append-nil (F a) ∙ ap F (let e : a ≡ a + 0 = omega arith in e)
 flat_map_last {A = A} F a (suc n) =
     ap (λ (xs : List A). F a ++ xs) (flat_map_last F (a + 1) n)
@@ -58,14 +61,17 @@ flat_map_last {A = A} F a (suc n) =
     ∙ ap (λ (m : ℕ). (F a ++ flat_map F (range_with_len (a + 1) n)) ++ F m) (let e : a + 1 + n ≡ a + suc n = omega arith in e)
 
 -- the pieces together are as long as the sum of their lengths
-pub pieces_length : {A : Type 0} (F : ℕ → List A) (f : ℕ → ℕ) (a n : ℕ) → ((k : ℕ) → k < n → length (F (a + k)) ≡ f k) → length (flat_map F (range_with_len a n)) ≡ before f n
+pub pieces_length : {A : Type 0} (F : ℕ → List A) (f : ℕ → ℕ) (a n : ℕ) → ((k : ℕ) → k < n → length (F (a + k)) ≡ f k) →
+    length (flat_map F (range_with_len a n)) ≡ before f n
 pieces_length F f a zero same = refl
 pieces_length F f a (suc n) same =
     ap length (flat_map_last F a n) ∙ length-append (flat_map F (range_with_len a n)) (F (a + n))
     ∙ ap₂ (λ (x y : ℕ). x + y) (pieces_length F f a n (λ k lt. same k (omega arith))) (same n (lt-suc_self n))
 
 -- item j of piece i stands behind the earlier pieces
-pub piece_at : {A : Type 0} (F : ℕ → List A) (f : ℕ → ℕ) (a n i j : ℕ) (d : A) → ((k : ℕ) → k < n → length (F (a + k)) ≡ f k) → i < n → j < f i → get_or (flat_map F (range_with_len a n)) (before f i + j) d ≡ get_or (F (a + i)) j d
+pub piece_at : {A : Type 0} (F : ℕ → List A) (f : ℕ → ℕ) (a n i j : ℕ) (d : A) →
+    ((k : ℕ) → k < n → length (F (a + k)) ≡ f k) → i < n → j < f i →
+    get_or (flat_map F (range_with_len a n)) (before f i + j) d ≡ get_or (F (a + i)) j d
 piece_at F f a zero i j d same lt within = absurd (omega arith)
 piece_at {A = A} F f a (suc n) i j d same lt within =
     let so_long : length (flat_map F (range_with_len a n)) ≡ before f n = pieces_length F f a n (λ k l. same k (omega arith)) in
@@ -84,10 +90,12 @@ piece_at {A = A} F f a (suc n) i j d same lt within =
 abbrev pub pairs : (ℕ → ℕ) → (ℕ → ℕ) → ℕ → ℕ → List ℕ
 pairs A B a n = flat_map (λ i. A i ∷ B i ∷ []) (range_with_len a n)
 
+-- the list of pairs has two items for each
 pub length-pairs : (A B : ℕ → ℕ) (a n : ℕ) → length (pairs A B a n) ≡ 2 * n
 length-pairs A B a zero = refl
 length-pairs A B a (suc n) = omega (arith, length-pairs A B (a + 1) n)
 
+-- the first item of a pair
 pub pairs_first : (A B : ℕ → ℕ) (a n k : ℕ) → k < n → slice_index (pairs A B a n) (2 * k) ≡ A (a + k)
 pairs_first A B a zero k lt = absurd (omega arith)
 pairs_first A B a (suc n) zero lt = ap A (let e : a ≡ a + 0 = omega arith in e)
@@ -95,6 +103,7 @@ pairs_first A B a (suc n) (suc k) lt =
     ap (slice_index (pairs A B a (suc n))) (let e : 2 * suc k ≡ suc (suc (2 * k)) = omega arith in e)
     ∙ pairs_first A B (a + 1) n k (omega arith) ∙ ap A (let e : a + 1 + k ≡ a + suc k = omega arith in e)
 
+-- the second item of a pair
 pub pairs_second : (A B : ℕ → ℕ) (a n k : ℕ) → k < n → slice_index (pairs A B a n) (2 * k + 1) ≡ B (a + k)
 pairs_second A B a zero k lt = absurd (omega arith)
 pairs_second A B a (suc n) zero lt = ap B (let e : a ≡ a + 0 = omega arith in e)
@@ -107,10 +116,12 @@ before_sum : (f h : ℕ → ℕ) (n : ℕ) → before (λ k. f k + h k) n ≡ be
 before_sum f h zero = refl
 before_sum f h (suc n) = omega (arith, before_sum f h n)
 
+-- the sum of ones for what passes is how many pass
 before_ones : (p : ℕ → Bool) (n : ℕ) → before (λ e. cond (p e) 1 0) n ≡ count n p
 before_ones p zero = refl
 before_ones p (suc n) = omega (arith, before_ones p n)
 
+-- the sum of zeros is zero
 before_nothing : (n : ℕ) → before (λ e. 0) n ≡ 0
 before_nothing zero = refl
 before_nothing (suc n) = omega (arith, before_nothing n)

@@ -15,14 +15,17 @@ abbrev pub occurs : ℕ → List ℕ → ℕ
 occurs c [] = 0
 occurs c (x ∷ xs) = cond (x == c) 1 0 + occurs c xs
 
+-- a number occurs in two lists together as often as in both
 occurs-append : (c : ℕ) (xs ys : List ℕ) → occurs c (xs ++ ys) ≡ occurs c xs + occurs c ys
 occurs-append c [] ys = omega arith
 occurs-append c (x ∷ xs) ys = let rest : occurs c (xs ++ ys) ≡ occurs c xs + occurs c ys = occurs-append c xs ys in omega arith
 
+-- a number occurs in a list reversed onto another as often as in both
 occurs-reverse_onto : (c : ℕ) (xs ys : List ℕ) → occurs c (reverse_aux xs ys) ≡ occurs c xs + occurs c ys
 occurs-reverse_onto c [] ys = omega arith
 occurs-reverse_onto c (x ∷ xs) ys = let rest : occurs c (reverse_aux xs (x ∷ ys)) ≡ occurs c xs + occurs c (x ∷ ys) = occurs-reverse_onto c xs (x ∷ ys) in omega arith
 
+-- a number occurs in a reversed list as often as in the list
 occurs-reverse : (c : ℕ) (xs : List ℕ) → occurs c (reverse xs) ≡ occurs c xs
 occurs-reverse c xs = let h : occurs c (reverse_aux xs []) ≡ occurs c xs + occurs c [] = occurs-reverse_onto c xs [] in omega arith
 
@@ -52,6 +55,7 @@ occurs_exact n p xs c ex lt =
     (λ f. occurs_none c xs (λ i within e. false≢true (sym f ∙ ap p (sym e) ∙ (ex.each_passes i within).1)) ∙ ap (λ (b : Bool). cond b 1 0) (sym f))
     (cases_Bool (p c))
 
+-- a number occurs in a list at most as often as it has items
 occurs-le : (c : ℕ) (xs : List ℕ) → occurs c xs ≤ length xs
 occurs-le c [] = omega arith
 occurs-le c (x ∷ xs) =
@@ -71,7 +75,9 @@ pub record HasRisen (g : Clustered) (e outer inner : ℕ) (before counts : List 
   pub size : length counts ≡ length before
   pub risen : (c : ℕ) → slice_index counts c ≡ slice_index before c + (occurs c left + occurs c entered)
 
-HasRisen-start : (g : Clustered) (e : ℕ) (before : List ℕ) → IsClustered g → e < edges g → HasRisen g e (home g (source g e)) (home g (target g e)) before before
+-- nothing has risen at the start
+HasRisen-start : (g : Clustered) (e : ℕ) (before : List ℕ) → IsClustered g → e < edges g →
+    HasRisen g e (home g (source g e)) (home g (target g e)) before before
 HasRisen-start g e before is lt = record {
   left = [];
   entered = [];
@@ -82,12 +88,14 @@ HasRisen-start g e before is lt = record {
 }
 
 -- the same, where the two homes go by other names
-pub HasRisen-begin : (g : Clustered) (e outer inner : ℕ) (before : List ℕ) → IsClustered g → e < edges g → outer ≡ home g (source g e) → inner ≡ home g (target g e) → HasRisen g e outer inner before before
+pub HasRisen-begin : (g : Clustered) (e outer inner : ℕ) (before : List ℕ) → IsClustered g → e < edges g →
+    outer ≡ home g (source g e) → inner ≡ home g (target g e) → HasRisen g e outer inner before before
 HasRisen-begin g e outer inner before is lt out into =
     subst (λ n. HasRisen g e n inner before before) (sym out) (subst (λ n. HasRisen g e (home g (source g e)) n before before) (sym into) (HasRisen-start g e before is lt))
 
 -- one count more
-pub one_more : (counts : List ℕ) (a c : ℕ) → a < length counts → slice_index (set counts a (slice_index counts a + 1)) c ≡ slice_index counts c + cond (a == c) 1 0
+pub one_more : (counts : List ℕ) (a c : ℕ) → a < length counts →
+    slice_index (set counts a (slice_index counts a + 1)) c ≡ slice_index counts c + cond (a == c) 1 0
 one_more counts a c lt =
     ⊎_elim
     (λ e. ap (slice_index (set counts a (slice_index counts a + 1))) (sym e) ∙ get_or-set_same counts a (slice_index counts a + 1) 0 lt ∙ ap₂ (λ (n : ℕ) (b : Bool). slice_index counts n + cond b 1 0) e (sym (eq-eqb a c e)))
@@ -95,7 +103,9 @@ one_more counts a c lt =
     (cases_eq a c)
 
 -- the walk that stands at the higher number counts there, and goes on
-pub HasRisen-left : (g : Clustered) → IsClustered g → (e outer inner : ℕ) (before counts : List ℕ) → HasRisen g e outer inner before counts → inner < outer → clusters g ≤ length before → HasRisen g e (parent g outer) inner before (set counts outer (slice_index counts outer + 1))
+pub HasRisen-left : (g : Clustered) → IsClustered g → (e outer inner : ℕ) (before counts : List ℕ) →
+    HasRisen g e outer inner before counts → inner < outer → clusters g ≤ length before →
+    HasRisen g e (parent g outer) inner before (set counts outer (slice_index counts outer + 1))
 HasRisen-left g is e outer inner before counts so lt room =
     let lower : parent g outer < outer = is.inside_a_lower outer (omega arith) so.between.outer_cluster in
     record {
@@ -107,7 +117,10 @@ HasRisen-left g is e outer inner before counts so lt room =
       risen = λ c. omega (arith, one_more counts outer c (omega (arith, so.size, so.between.outer_cluster)), so.risen c, occurs_more c outer so.left);
     }
 
-pub HasRisen-entered : (g : Clustered) → IsClustered g → (e outer inner : ℕ) (before counts : List ℕ) → HasRisen g e outer inner before counts → outer < inner → clusters g ≤ length before → HasRisen g e outer (parent g inner) before (set counts inner (slice_index counts inner + 1))
+-- the count rises at a cluster that the edge enters
+pub HasRisen-entered : (g : Clustered) → IsClustered g → (e outer inner : ℕ) (before counts : List ℕ) →
+    HasRisen g e outer inner before counts → outer < inner → clusters g ≤ length before →
+    HasRisen g e outer (parent g inner) before (set counts inner (slice_index counts inner + 1))
 HasRisen-entered g is e outer inner before counts so lt room =
     let lower : parent g inner < inner = is.inside_a_lower inner (omega arith) so.between.inner_cluster in
     record {
@@ -120,14 +133,17 @@ HasRisen-entered g is e outer inner before counts so lt room =
     }
 
 -- no count has risen far
-pub HasRisen-le : (g : Clustered) → IsClustered g → (e outer inner c : ℕ) (before counts : List ℕ) → e < edges g → HasRisen g e outer inner before counts → slice_index before c ≤ e → slice_index counts c ≤ e + 2 * clusters g
+pub HasRisen-le : (g : Clustered) → IsClustered g → (e outer inner c : ℕ) (before counts : List ℕ) → e < edges g →
+    HasRisen g e outer inner before counts → slice_index before c ≤ e → slice_index counts c ≤ e + 2 * clusters g
 HasRisen-le g is e outer inner c before counts lt so few =
     let s : home g (source g e) < clusters g = is.home_is_cluster (source g e) (is.source_is_node e lt) in
     let t : home g (target g e) < clusters g = is.home_is_cluster (target g e) (is.target_is_node e lt) in
     omega (arith, so.risen c, so.fallen, occurs-le c so.left, occurs-le c so.entered)
 
 -- where the walks meet, the edge is counted at each cluster that it leaves
-pub HasRisen-end : (g : Clustered) → IsClustered g → (e outer inner : ℕ) (before counts : List ℕ) → e < edges g → HasRisen g e outer inner before counts → outer ≡ inner → (c : ℕ) → c < clusters g → slice_index before c ≡ count e (leaves g c) → slice_index counts c ≡ count (e + 1) (leaves g c)
+pub HasRisen-end : (g : Clustered) → IsClustered g → (e outer inner : ℕ) (before counts : List ℕ) → e < edges g →
+    HasRisen g e outer inner before counts → outer ≡ inner → (c : ℕ) → c < clusters g →
+    slice_index before c ≡ count e (leaves g c) → slice_index counts c ≡ count (e + 1) (leaves g c)
 HasRisen-end g is e outer inner before counts lt so met c within counted =
     let whole : so.left ++ reverse so.entered ≡ crossings g e = IsBetween-end g is e outer inner so.left so.entered so.between met in
     let here : occurs c so.left + occurs c so.entered ≡ cond (leaves g c e) 1 0 =

@@ -3,7 +3,9 @@ use Rattle.std.proofs.Common.{◌≡◌, ℕ, suc, ◌+◌, ◌<◌, List, [], �
 use Rattle.std.specs.List.{flat_map, range_with_len}
 
 -- pieces by the numbers of a list's places are pieces by its items
-pub flat_map_places : {X A : Type 0} (F : ℕ → List A) (f : X → List A) (d : X) (a : ℕ) (xs : List X) → ((i : ℕ) → i < length xs → F (a + i) ≡ f (get_or xs i d)) → flat_map F (range_with_len a (length xs)) ≡ flat_map f xs
+pub flat_map_places : {X A : Type 0} (F : ℕ → List A) (f : X → List A) (d : X) (a : ℕ) (xs : List X) →
+    ((i : ℕ) → i < length xs → F (a + i) ≡ f (get_or xs i d)) →
+    flat_map F (range_with_len a (length xs)) ≡ flat_map f xs
 flat_map_places {X = X} {A = A} F f d a [] same = refl
 flat_map_places {X = X} {A = A} F f d a (x ∷ xs) same =
     let first : F a ≡ f x = ap F (let e : a ≡ a + 0 = omega arith in e) ∙ same 0 (omega arith) in

@@ -37,6 +37,7 @@ pub plain_crossings : (g : Clustered) → IsClustered g → g.parents ≡ [] →
 plain_crossings g is none e =
     ap₂ (λ (xs ys : List ℕ). filter (λ c. not (contains g c (target g e))) xs ++ reverse (filter (λ c. not (contains g c (source g e))) ys)) (plain_around g is none (source g e)) (plain_around g is none (target g e))
 
+-- an edge of a graph with no cluster but the root crosses no border
 pub plain_crossed : (g : Clustered) → IsClustered g → g.parents ≡ [] → (e : ℕ) → crossed g e ≡ 0
 plain_crossed g is none e = ap length (plain_crossings g is none e)
 
@@ -62,12 +63,14 @@ pub plain_end_dart : (g : Clustered) → IsClustered g → g.parents ≡ [] → 
 plain_end_dart g is none d = side_dart d (first_segment g (d / 2)) (crossed g (d / 2)) (plain_first_segment g is none (d / 2)) (plain_crossed g is none (d / 2))
 
 -- and runs between the nodes of the edge
-plain_segment_ends : (g : Clustered) → IsClustered g → g.parents ≡ [] → (e : ℕ) → segment_ends g e ≡ source g e ∷ target g e ∷ []
+plain_segment_ends : (g : Clustered) → IsClustered g → g.parents ≡ [] → (e : ℕ) →
+    segment_ends g e ≡ source g e ∷ target g e ∷ []
 plain_segment_ends g is none e =
     ap (λ (n : ℕ). source g e ∷ flat_map (λ (b : ℕ). b ∷ b ∷ []) (range_with_len (first_border g e) n) ++ target g e ∷ []) (plain_crossed g is none e)
 
 -- the border graph of a graph without clusters is the graph, with the nodes' lists
-pub borders-plain : (g : Clustered) (l : Layout) → IsClustered g → g.parents ≡ [] → borders g l ≡ record { vertices = nodes g; at = dart_nodes g.ends; lists = l.nodes }
+pub borders-plain : (g : Clustered) (l : Layout) → IsClustered g → g.parents ≡ [] →
+    borders g l ≡ record { vertices = nodes g; at = dart_nodes g.ends; lists = l.nodes }
 borders-plain g l is none =
     let same_vertices : first_border g (edges g) ≡ nodes g = omega (arith, before_zero (crossed g) (plain_crossed g is none) (edges g)) in
     let same_segments : flat_map (segment_ends g) (range_with_len 0 (edges g)) ≡ dart_nodes g.ends =
@@ -92,6 +95,7 @@ length-dart_nodes (e ∷ es) = let rest : length (dart_nodes es) ≡ 2 * length 
 abbrev stands : List (ℕ × ℕ) → ℕ → ℕ
 stands ends d = cond (d % 2 == 0) (slice_index_or ends (d / 2) (0, 0)).0 (slice_index_or ends (d / 2) (0, 0)).1
 
+-- the node of a dart, in the list of the nodes of all darts
 dart_nodes_at : (ends : List (ℕ × ℕ)) (d : ℕ) → slice_index (dart_nodes ends) d ≡ stands ends d
 dart_nodes_at [] d = ⊎_elim (λ even. rw even refl) (λ odd. rw odd refl) (cases_Bool (d % 2 == 0))
 dart_nodes_at (e ∷ es) zero = refl
@@ -106,34 +110,43 @@ pub slice_index-dart_nodes : (g : Clustered) (d : ℕ) → slice_index (dart_nod
 slice_index-dart_nodes g d = dart_nodes_at g.ends d
 
 -- what is exact for the darts of a node in the graph is exact in the list
-exact_there : (g : Clustered) (i : ℕ) (xs : List ℕ) → Exactly (2 * edges g) (λ d. node_of g d == i) xs → Arranges (dart_nodes g.ends) i xs
+exact_there : (g : Clustered) (i : ℕ) (xs : List ℕ) → Exactly (2 * edges g) (λ d. node_of g d == i) xs →
+    Arranges (dart_nodes g.ends) i xs
 exact_there g i xs ex =
     subst (λ n. Exactly n (λ d. slice_index (dart_nodes g.ends) d == i) xs) (sym (length-dart_nodes g.ends))
     (Exactly-agree (2 * edges g) (λ d. node_of g d == i) (λ d. slice_index (dart_nodes g.ends) d == i) xs (λ x lt. ap (λ (y : ℕ). y == i) (sym (slice_index-dart_nodes g x))) ex)
 
-exact_back : (g : Clustered) (i : ℕ) (xs : List ℕ) → Arranges (dart_nodes g.ends) i xs → Exactly (2 * edges g) (λ d. node_of g d == i) xs
+-- an arrangement of the darts at a node is exactly its darts
+exact_back : (g : Clustered) (i : ℕ) (xs : List ℕ) → Arranges (dart_nodes g.ends) i xs →
+    Exactly (2 * edges g) (λ d. node_of g d == i) xs
 exact_back g i xs ex =
     Exactly-agree (2 * edges g) (λ d. slice_index (dart_nodes g.ends) d == i) (λ d. node_of g d == i) xs (λ x lt. ap (λ (y : ℕ). y == i) (slice_index-dart_nodes g x))
     (subst (λ n. Exactly n (λ d. slice_index (dart_nodes g.ends) d == i) xs) (length-dart_nodes g.ends) ex)
 
 -- the list of a node is right in the layout where it is right in the rotation system
-pub IsRightList-from_node : (g : Clustered) (l : Layout) (i : ℕ) → IsRightNode g l i → IsRightList (nodes g) (dart_nodes g.ends) l.nodes i
+pub IsRightList-from_node : (g : Clustered) (l : Layout) (i : ℕ) → IsRightNode g l i →
+    IsRightList (nodes g) (dart_nodes g.ends) l.nodes i
 IsRightList-from_node g l i right = record {
   present = λ lt. let h : (i < length l.nodes) × Exactly (2 * edges g) (λ d. node_of g d == i) (node_list l i) = right.present lt in (h.0, exact_there g i (node_list l i) h.1);
   expected = right.expected;
 }
 
-pub IsRightNode-from_list : (g : Clustered) (l : Layout) (i : ℕ) → IsRightList (nodes g) (dart_nodes g.ends) l.nodes i → IsRightNode g l i
+-- a line that is right by lists is right
+pub IsRightNode-from_list : (g : Clustered) (l : Layout) (i : ℕ) → IsRightList (nodes g) (dart_nodes g.ends) l.nodes i →
+    IsRightNode g l i
 IsRightNode-from_list g l i right = record {
   present = λ lt. let h : (i < length l.nodes) × Arranges (dart_nodes g.ends) i (node_list l i) = right.present lt in (h.0, exact_back g i (node_list l i) h.1);
   expected = right.expected;
 }
 
-pub IsRightNode-iff_list : (g : Clustered) (l : Layout) (i : ℕ) → IsRightNode g l i ↔ IsRightList (nodes g) (dart_nodes g.ends) l.nodes i
+-- a line is right exactly where it is right by lists
+pub IsRightNode-iff_list : (g : Clustered) (l : Layout) (i : ℕ) →
+    IsRightNode g l i ↔ IsRightList (nodes g) (dart_nodes g.ends) l.nodes i
 IsRightNode-iff_list g l i = (IsRightList-from_node g l i, IsRightNode-from_list g l i)
 
 -- so the first wrong node line is the first wrong list
-pub IsFirstWrongNode-iff_list : (g : Clustered) (l : Layout) (i : ℕ) → IsFirstWrongNode g l i ↔ IsFirstWrong (nodes g) (dart_nodes g.ends) l.nodes i
+pub IsFirstWrongNode-iff_list : (g : Clustered) (l : Layout) (i : ℕ) →
+    IsFirstWrongNode g l i ↔ IsFirstWrong (nodes g) (dart_nodes g.ends) l.nodes i
 IsFirstWrongNode-iff_list g l i = (there, back)
   where
     there : IsFirstWrongNode g l i → IsFirstWrong (nodes g) (dart_nodes g.ends) l.nodes i
@@ -143,14 +156,16 @@ IsFirstWrongNode-iff_list g l i = (there, back)
     back first = record { wrong = λ right. first.wrong (IsRightList-from_node g l i right); right_before = λ j lt. IsRightNode-from_list g l j (first.right_before j lt) }
 
 -- without clusters and without lists of clusters, no cluster line is wrong
-pub IsRightCluster-plain : (g : Clustered) (l : Layout) → g.parents ≡ [] → l.clusters ≡ [] → (k : ℕ) → IsRightCluster g l k
+pub IsRightCluster-plain : (g : Clustered) (l : Layout) → g.parents ≡ [] → l.clusters ≡ [] → (k : ℕ) →
+    IsRightCluster g l k
 IsRightCluster-plain g l none empty k = record {
   present = λ above within. absurd (omega (arith, ap length none));
   expected = λ within. omega (arith, ap length none, ap length empty);
 }
 
 -- so lists that are right make an arranged layout
-pub IsArranged-plain : (g : Clustered) (l : Layout) → g.parents ≡ [] → l.clusters ≡ [] → ((i : ℕ) → IsRightList (nodes g) (dart_nodes g.ends) l.nodes i) → IsArranged g l
+pub IsArranged-plain : (g : Clustered) (l : Layout) → g.parents ≡ [] → l.clusters ≡ [] →
+    ((i : ℕ) → IsRightList (nodes g) (dart_nodes g.ends) l.nodes i) → IsArranged g l
 IsArranged-plain g l none empty right = record {
   nodes_right = λ i. IsRightNode-from_list g l i (right i);
   clusters_right = IsRightCluster-plain g l none empty;
@@ -177,7 +192,9 @@ node_of-is_node g is d lt =
     (cases_Bool (d % 2 == 0))
 
 -- and lists that are right make a rotation system
-pub IsRotation-plain_lists : (g : Clustered) (lists : List (List ℕ)) → IsClustered g → ((i : ℕ) → IsRightList (nodes g) (dart_nodes g.ends) lists i) → IsRotation record { vertices = nodes g; at = dart_nodes g.ends; lists = lists }
+pub IsRotation-plain_lists : (g : Clustered) (lists : List (List ℕ)) → IsClustered g →
+    ((i : ℕ) → IsRightList (nodes g) (dart_nodes g.ends) lists i) →
+    IsRotation record { vertices = nodes g; at = dart_nodes g.ends; lists = lists }
 IsRotation-plain_lists g lists is right = record {
   paired = omega (arith, length-dart_nodes g.ends);
   placed = λ d lt. rw (slice_index-dart_nodes g d) (node_of-is_node g is d (omega (arith, length-dart_nodes g.ends)));
@@ -186,5 +203,6 @@ IsRotation-plain_lists g lists is right = record {
 }
 
 -- the border graph of a graph without clusters is a rotation system where each list is right
-pub IsRotation-plain : (g : Clustered) (l : Layout) → IsClustered g → g.parents ≡ [] → ((i : ℕ) → IsRightList (nodes g) (dart_nodes g.ends) l.nodes i) → IsRotation (borders g l)
+pub IsRotation-plain : (g : Clustered) (l : Layout) → IsClustered g → g.parents ≡ [] →
+    ((i : ℕ) → IsRightList (nodes g) (dart_nodes g.ends) l.nodes i) → IsRotation (borders g l)
 IsRotation-plain g l is none right = subst IsRotation (sym (borders-plain g l is none)) (IsRotation-plain_lists g l.nodes is right)

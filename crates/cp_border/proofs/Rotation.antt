@@ -30,7 +30,9 @@ pub record IsCrossing (g : Clustered) (e i c : ℕ) : Type 0 where
 above_root : (g : Clustered) (e c : ℕ) → leaves g c e ≡ true → 0 < c
 above_root g e c left = ⊎_elim (λ z. absurd (false≢true (ap (λ (b : ℕ). leaves g b e) (sym z) ∙ left))) (λ nz. omega arith) (cases_eq c 0)
 
-pub crossing_at : (g : Clustered) → IsClustered g → (e i : ℕ) → e < edges g → i < crossed g e → IsCrossing g e i (slice_index (crossings g e) i)
+-- what is known of the crossing at a place along an edge
+pub crossing_at : (g : Clustered) → IsClustered g → (e i : ℕ) → e < edges g → i < crossed g e →
+    IsCrossing g e i (slice_index (crossings g e) i)
 crossing_at g is e i lt within =
     let ex = crossings-Exactly g is e lt in
     let passes = ex.each_passes i within in
@@ -43,7 +45,9 @@ crossing_at g is e i lt within =
       place_is = place_is (crossings g e) i (slice_index (crossings g e) i) ex.each_once within refl;
     }
 
-pub crossing_of : (g : Clustered) → IsClustered g → (e c : ℕ) → e < edges g → c < clusters g → leaves g c e ≡ true → IsCrossing g e (position_or_len (λ x. x == c) (crossings g e)) c
+-- what is known of the crossing of an edge and a border that it leaves
+pub crossing_of : (g : Clustered) → IsClustered g → (e c : ℕ) → e < edges g → c < clusters g → leaves g c e ≡ true →
+    IsCrossing g e (position_or_len (λ x. x == c) (crossings g e)) c
 crossing_of g is e c lt cluster left =
     let ex = crossings-Exactly g is e lt in
     let at = place_at (crossings g e) c (ex.all c cluster left) in
@@ -57,16 +61,22 @@ pub record IsItem (g : Clustered) (l : Layout) (c k e : ℕ) : Type 0 where
   pub is : slice_index (cluster_list l c) k ≡ e
   pub place_is : position_or_len (λ x. x == e) (cluster_list l c) ≡ k
 
-pub cluster_exact : (g : Clustered) (l : Layout) → IsArranged g l → (c : ℕ) → 0 < c → c < clusters g → Exactly (edges g) (leaves g c) (cluster_list l c)
+-- the list of a cluster is exactly the edges that leave it
+pub cluster_exact : (g : Clustered) (l : Layout) → IsArranged g l → (c : ℕ) → 0 < c → c < clusters g →
+    Exactly (edges g) (leaves g c) (cluster_list l c)
 cluster_exact g l ar c above lt = ((ar.clusters_right c).present above lt).1
 
-pub item_at : (g : Clustered) (l : Layout) → IsArranged g l → (c k : ℕ) → 0 < c → c < clusters g → k < length (cluster_list l c) → IsItem g l c k (slice_index (cluster_list l c) k)
+-- what is known of the item at a place of the list of a cluster
+pub item_at : (g : Clustered) (l : Layout) → IsArranged g l → (c k : ℕ) → 0 < c → c < clusters g →
+    k < length (cluster_list l c) → IsItem g l c k (slice_index (cluster_list l c) k)
 item_at g l ar c k above lt within =
     let ex = cluster_exact g l ar c above lt in
     let passes = ex.each_passes k within in
     record { edge = passes.0; left = passes.1; within = within; is = refl; place_is = place_is (cluster_list l c) k (slice_index (cluster_list l c) k) ex.each_once within refl }
 
-pub item_of : (g : Clustered) (l : Layout) → IsArranged g l → (c e : ℕ) → 0 < c → c < clusters g → e < edges g → leaves g c e ≡ true → IsItem g l c (position_or_len (λ x. x == e) (cluster_list l c)) e
+-- what is known of the item of an edge in the list of a cluster that it leaves
+pub item_of : (g : Clustered) (l : Layout) → IsArranged g l → (c e : ℕ) → 0 < c → c < clusters g → e < edges g →
+    leaves g c e ≡ true → IsItem g l c (position_or_len (λ x. x == e) (cluster_list l c)) e
 item_of g l ar c e above lt edge left =
     let at = place_at (cluster_list l c) e ((cluster_exact g l ar c above lt).all e edge left) in
     record { edge = edge; left = left; within = at.0; is = at.1; place_is = refl }
@@ -83,24 +93,28 @@ length-node_lists g l ar =
 abbrev pub edge_lists : Clustered → Layout → ℕ → List (List ℕ)
 edge_lists g l e = map (border_list g l e) (range_with_len 0 (crossed g e))
 
+-- each edge adds the lists of its border vertices
 edge_piece : (g : Clustered) (l : Layout) (k : ℕ) → length (edge_lists g l (0 + k)) ≡ crossed g k
 edge_piece g l k = length-map-range_with_len (border_list g l (0 + k)) 0 (crossed g (0 + k)) ∙ ap (crossed g) (let h : 0 + k ≡ k = omega arith in h)
 
 -- one list a vertex
-pub length-border_lists : (g : Clustered) (l : Layout) → IsArranged g l → length (borders g l).lists ≡ first_border g (edges g)
+pub length-border_lists : (g : Clustered) (l : Layout) → IsArranged g l →
+    length (borders g l).lists ≡ first_border g (edges g)
 length-border_lists g l ar =
     length-append (map (map (end_dart g)) l.nodes) (flat_map (edge_lists g l) (range_with_len 0 (edges g)))
     ∙ ap₂ (λ (a b : ℕ). a + b) (length-map l.nodes (map (end_dart g)) ∙ length-node_lists g l ar) (pieces_length (edge_lists g l) (crossed g) 0 (edges g) (λ k lt. edge_piece g l k))
 
 -- the list of a node
-pub list_of_node : (g : Clustered) (l : Layout) → IsArranged g l → (v : ℕ) → v < nodes g → list_of (borders g l) v ≡ map (end_dart g) (node_list l v)
+pub list_of_node : (g : Clustered) (l : Layout) → IsArranged g l → (v : ℕ) → v < nodes g →
+    list_of (borders g l) v ≡ map (end_dart g) (node_list l v)
 list_of_node g l ar v lt =
     let long : length l.nodes ≡ nodes g = length-node_lists g l ar in
     get_or_append_left (map (map (end_dart g)) l.nodes) (flat_map (edge_lists g l) (range_with_len 0 (edges g))) [] v (omega (arith, length-map l.nodes (map (end_dart g))))
     ∙ get_or-map (map (end_dart g)) l.nodes v [] [] (omega arith)
 
 -- the list of a border vertex
-pub list_of_border : (g : Clustered) (l : Layout) → IsArranged g l → (e i : ℕ) → e < edges g → i < crossed g e → list_of (borders g l) (first_border g e + i) ≡ border_list g l e i
+pub list_of_border : (g : Clustered) (l : Layout) → IsArranged g l → (e i : ℕ) → e < edges g → i < crossed g e →
+    list_of (borders g l) (first_border g e + i) ≡ border_list g l e i
 list_of_border g l ar e i lt within =
     let long : length (map (map (end_dart g)) l.nodes) ≡ nodes g = length-map l.nodes (map (end_dart g)) ∙ length-node_lists g l ar in
     ap (λ (m : ℕ). slice_index_or (borders g l).lists m []) (let h : first_border g e + i ≡ length (map (map (end_dart g)) l.nodes) + (before (crossed g) e + i) = omega arith in h)
@@ -113,12 +127,16 @@ list_of_border g l ar e i lt within =
 pub end_source : (g : Clustered) (d : ℕ) → d % 2 ≡ 0 → end_dart g d ≡ 2 * first_segment g (d / 2)
 end_source g d even = cond-true (d % 2 == 0) (2 * first_segment g (d / 2)) (2 * (first_segment g (d / 2) + crossed g (d / 2)) + 1) (eq-eqb (d % 2) 0 even)
 
-pub end_target : (g : Clustered) (d : ℕ) → d % 2 ≢ 0 → end_dart g d ≡ 2 * (first_segment g (d / 2) + crossed g (d / 2)) + 1
+-- the dart of a segment at the target of an edge
+pub end_target : (g : Clustered) (d : ℕ) → d % 2 ≢ 0 →
+    end_dart g d ≡ 2 * (first_segment g (d / 2) + crossed g (d / 2)) + 1
 end_target g d odd = cond-false (d % 2 == 0) (2 * first_segment g (d / 2)) (2 * (first_segment g (d / 2) + crossed g (d / 2)) + 1) (ne_eqb (d % 2) 0 odd)
 
+-- an even dart stands at the source of its edge
 node_at_source : (g : Clustered) (d : ℕ) → d % 2 ≡ 0 → node_of g d ≡ source g (d / 2)
 node_at_source g d even = cond-true (d % 2 == 0) (source g (d / 2)) (target g (d / 2)) (eq-eqb (d % 2) 0 even)
 
+-- an odd dart stands at the target of its edge
 node_at_target : (g : Clustered) (d : ℕ) → d % 2 ≢ 0 → node_of g d ≡ target g (d / 2)
 node_at_target g d odd = cond-false (d % 2 == 0) (source g (d / 2)) (target g (d / 2)) (ne_eqb (d % 2) 0 odd)
 
@@ -131,7 +149,8 @@ end_dart-lt g l d lt =
     (cases_eq (d % 2) 0)
 
 -- which stands where the graph's dart stands
-pub end_dart_stands : (g : Clustered) (l : Layout) (d : ℕ) → d < 2 * edges g → slice_index (borders g l).at (end_dart g d) ≡ node_of g d
+pub end_dart_stands : (g : Clustered) (l : Layout) (d : ℕ) → d < 2 * edges g →
+    slice_index (borders g l).at (end_dart g d) ≡ node_of g d
 end_dart_stands g l d lt =
     ⊎_elim
     (λ even. ap (slice_index (borders g l).at) (end_source g d even) ∙ stands_source g l (d / 2) (omega arith) ∙ sym (node_at_source g d even))
@@ -139,9 +158,11 @@ end_dart_stands g l d lt =
     (cases_eq (d % 2) 0)
 
 -- and differs from those of other darts
-segment_place : (g : Clustered) (e j h k : ℕ) → j < segment_size g e → k < segment_size g h → 2 * first_segment g e + j ≡ 2 * first_segment g h + k → (e ≡ h) × (j ≡ k)
+segment_place : (g : Clustered) (e j h k : ℕ) → j < segment_size g e → k < segment_size g h →
+    2 * first_segment g e + j ≡ 2 * first_segment g h + k → (e ≡ h) × (j ≡ k)
 segment_place g e j h k within_e within_h same = before_apart (segment_size g) e j h k within_e within_h (omega (arith, segment_sizes g e, segment_sizes g h))
 
+-- darts whose segments end alike are one dart
 pub end_dart-apart : (g : Clustered) (d b : ℕ) → end_dart g d ≡ end_dart g b → d ≡ b
 end_dart-apart g d b same =
     ⊎_elim

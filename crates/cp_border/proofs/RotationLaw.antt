@@ -35,9 +35,12 @@ IsAtBorder g l e i x =
 -- dart x stands at vertex v, which is a node or a border vertex
 pub data StandsAt (g : Clustered) (l : Layout) (x v : ℕ) : Type 0 where
   at_node : (d : ℕ) → d < 2 * edges g → end_dart g d ≡ x → node_of g d ≡ v → StandsAt g l x v
-  at_border : (e i : ℕ) → e < edges g → i < crossed g e → first_border g e + i ≡ v → IsAtBorder g l e i x → StandsAt g l x v
+  at_border : (e i : ℕ) → e < edges g → i < crossed g e → first_border g e + i ≡ v → IsAtBorder g l e i x →
+      StandsAt g l x v
 
-pub stands_at : (g : Clustered) (l : Layout) → IsClustered g → IsArranged g l → (x : ℕ) → DartOf g l x → StandsAt g l x (slice_index (borders g l).at x)
+-- each dart of the border graph stands where its kind says
+pub stands_at : (g : Clustered) (l : Layout) → IsClustered g → IsArranged g l → (x : ℕ) → DartOf g l x →
+    StandsAt g l x (slice_index (borders g l).at x)
 stands_at g l is ar x (leaves_source e lt same) =
     let d : end_dart g (2 * e) ≡ x = end_source g (2 * e) (omega arith) ∙ ap (λ (m : ℕ). 2 * first_segment g m) (let h : 2 * e / 2 ≡ e = omega arith in h) ∙ sym same in
     at_node (2 * e) (omega arith) d (sym (end_dart_stands g l (2 * e) (omega arith)) ∙ ap (slice_index (borders g l).at) d)
@@ -63,11 +66,13 @@ stands_at g l is ar x (finishes_border c k above lt within same) =
     (inr (inr (inl (same ∙ sym (ap (λ (b : ℕ). finish_dart g l b (place_before (length (cluster_list l b)) (position_or_len (λ (y : ℕ). y == slice_index (cluster_list l c) (place_after (length (cluster_list l c)) k)) (cluster_list l b)))) cross.is ∙ ap (λ (m : ℕ). finish_dart g l c (place_before (length (cluster_list l c)) m)) item.place_is ∙ ap (finish_dart g l c) (place_before_after (length (cluster_list l c)) k within))))))
 
 -- border vertices come behind the nodes
-pub border_vertex-lt : (g : Clustered) (e i : ℕ) → e < edges g → i < crossed g e → first_border g e + i < first_border g (edges g)
+pub border_vertex-lt : (g : Clustered) (e i : ℕ) → e < edges g → i < crossed g e →
+    first_border g e + i < first_border g (edges g)
 border_vertex-lt g e i lt within = omega (arith, before_within (crossed g) e i (edges g) lt within)
 
 -- the list of a node is exact
-node_arranged : (g : Clustered) (l : Layout) → IsClustered g → IsArranged g l → (v : ℕ) → v < nodes g → Arranges (borders g l).at v (map (end_dart g) (node_list l v))
+node_arranged : (g : Clustered) (l : Layout) → IsClustered g → IsArranged g l → (v : ℕ) → v < nodes g →
+    Arranges (borders g l).at v (map (end_dart g) (node_list l v))
 node_arranged g l is ar v lt =
     Exactly-map (2 * edges g) (length (borders g l).at) (λ d. node_of g d == v) (λ d. slice_index (borders g l).at d == v) (end_dart g) (node_list l v) ((ar.nodes_right v).present lt).1
     (λ d within passes. (end_dart-lt g l d within, ap (λ (w : ℕ). w == v) (end_dart_stands g l d within) ∙ passes))
@@ -79,13 +84,18 @@ node_arranged g l is ar v lt =
     found x stands (at_border e i lte within vertex four) = absurd (omega arith)
 
 -- the four darts at a border vertex
-pub begin_dart-lt : (g : Clustered) (l : Layout) (c k : ℕ) → 0 < c → c < clusters g → k < length (cluster_list l c) → (segments g ≤ first_border_edge g l c + k) × (first_border_edge g l c + k < segments g + before (border_length l) (length g.parents))
+pub begin_dart-lt : (g : Clustered) (l : Layout) (c k : ℕ) → 0 < c → c < clusters g → k < length (cluster_list l c) →
+    (segments g ≤ first_border_edge g l c + k) × (first_border_edge g l c + k < segments g + before (border_length l) (length g.parents))
 begin_dart-lt g l c k above lt within =
     let same : border_length l (c - 1) ≡ length (cluster_list l c) = ap (λ (m : ℕ). length (cluster_list l m)) (let h : c - 1 + 1 ≡ c = omega arith in h) in
     let inside : before (border_length l) (c - 1) + k < before (border_length l) (length g.parents) = before_within (border_length l) (c - 1) k (length g.parents) (omega arith) (omega arith) in
     (omega arith, omega arith)
 
-border_four : (g : Clustered) (l : Layout) → IsClustered g → IsArranged g l → (e i c k : ℕ) → e < edges g → IsCrossing g e i c → IsItem g l c k e → ((x : ℕ) → x < length (borders g l).at → slice_index (borders g l).at x ≡ first_border g e + i → (x ≡ begin_dart g l c k) ⊎ ((x ≡ toward_source g e i) ⊎ ((x ≡ finish_dart g l c (place_before (length (cluster_list l c)) k)) ⊎ (x ≡ toward_target g e i)))) → IsFour (length (borders g l).at) (λ d. slice_index (borders g l).at d == (first_border g e + i)) (begin_dart g l c k) (toward_source g e i) (finish_dart g l c (place_before (length (cluster_list l c)) k)) (toward_target g e i)
+-- where no other dart stands at a border vertex, its four darts are exactly those that stand there
+border_four : (g : Clustered) (l : Layout) → IsClustered g → IsArranged g l → (e i c k : ℕ) → e < edges g →
+    IsCrossing g e i c → IsItem g l c k e →
+    ((x : ℕ) → x < length (borders g l).at → slice_index (borders g l).at x ≡ first_border g e + i → (x ≡ begin_dart g l c k) ⊎ ((x ≡ toward_source g e i) ⊎ ((x ≡ finish_dart g l c (place_before (length (cluster_list l c)) k)) ⊎ (x ≡ toward_target g e i)))) →
+    IsFour (length (borders g l).at) (λ d. slice_index (borders g l).at d == (first_border g e + i)) (begin_dart g l c k) (toward_source g e i) (finish_dart g l c (place_before (length (cluster_list l c)) k)) (toward_target g e i)
 border_four g l is ar e i c k lt cross item others =
     let before_within_list : place_before (length (cluster_list l c)) k < length (cluster_list l c) = place_before-lt (length (cluster_list l c)) k item.within in
     let begin_range = begin_dart-lt g l c k cross.above cross.cluster item.within in
@@ -115,14 +125,17 @@ border_four g l is ar e i c k lt cross item others =
     }
 
 -- no other dart stands there
-border_others : (g : Clustered) (l : Layout) → IsClustered g → IsArranged g l → (e i : ℕ) → e < edges g → i < crossed g e → (x : ℕ) → slice_index (borders g l).at x ≡ first_border g e + i → StandsAt g l x (slice_index (borders g l).at x) → IsAtBorder g l e i x
+border_others : (g : Clustered) (l : Layout) → IsClustered g → IsArranged g l → (e i : ℕ) → e < edges g →
+    i < crossed g e → (x : ℕ) → slice_index (borders g l).at x ≡ first_border g e + i →
+    StandsAt g l x (slice_index (borders g l).at x) → IsAtBorder g l e i x
 border_others g l is ar e i lt within x stands (at_node d ltd same node) = let h : node_of g d < nodes g = node_of-is_node g is d ltd in absurd (omega arith)
 border_others g l is ar e i lt within x stands (at_border b j ltb within_b vertex four) =
     let same : (b ≡ e) × (j ≡ i) = before_apart (crossed g) b j e i within_b within (omega arith) in
     subst (λ (m : ℕ). IsAtBorder g l m i x) same.0 (subst (λ (m : ℕ). IsAtBorder g l b m x) same.1 four)
 
 -- so the list of a border vertex is exact
-border_arranged : (g : Clustered) (l : Layout) → IsClustered g → IsArranged g l → (e i : ℕ) → e < edges g → i < crossed g e → Arranges (borders g l).at (first_border g e + i) (border_list g l e i)
+border_arranged : (g : Clustered) (l : Layout) → IsClustered g → IsArranged g l → (e i : ℕ) → e < edges g →
+    i < crossed g e → Arranges (borders g l).at (first_border g e + i) (border_list g l e i)
 border_arranged g l is ar e i lt within =
     let cross : IsCrossing g e i (slice_index (crossings g e) i) = crossing_at g is e i lt within in
     let item : IsItem g l (slice_index (crossings g e) i) (place_on_border g l e i) e = item_of g l ar (slice_index (crossings g e) i) e cross.above cross.cluster lt cross.left in
@@ -154,7 +167,8 @@ IsRotation-borders g l is ar = record {
     placed d (at_border e i lt within vertex four) = omega (arith, border_vertex-lt g e i lt within)
 
 -- as many border edges as border vertices: both count the pairs of an edge and a cluster that it leaves
-pub border_edges-vertices : (g : Clustered) (l : Layout) → IsClustered g → IsArranged g l → before (border_length l) (length g.parents) ≡ before (crossed g) (edges g)
+pub border_edges-vertices : (g : Clustered) (l : Layout) → IsClustered g → IsArranged g l →
+    before (border_length l) (length g.parents) ≡ before (crossed g) (edges g)
 border_edges-vertices g l is ar =
     before_agree (border_length l) (λ k. count (edges g) (leaves g (k + 1))) (length g.parents) (λ k lt. Exactly-length (edges g) (leaves g (k + 1)) (cluster_list l (k + 1)) ((ar.clusters_right (k + 1)).present (omega arith) (omega arith)).1)
     ∙ counted_twice (λ k e. leaves g (k + 1) e) (length g.parents) (edges g)
@@ -164,5 +178,6 @@ border_edges-vertices g l is ar =
     ∙ sym (Exactly-length (clusters g) (λ c. leaves g c e) (crossings g e) (crossings-Exactly g is e lt)))
 
 -- so the number of darts is known from the graph alone
-pub length-borders_at-graph : (g : Clustered) (l : Layout) → IsClustered g → IsArranged g l → length (borders g l).at ≡ 2 * (segments g + before (crossed g) (edges g))
+pub length-borders_at-graph : (g : Clustered) (l : Layout) → IsClustered g → IsArranged g l →
+    length (borders g l).at ≡ 2 * (segments g + before (crossed g) (edges g))
 length-borders_at-graph g l is ar = omega (arith, length-borders_at g l, border_edges-vertices g l is ar)

@@ -1,16 +1,37 @@
 -- Tables of the border graph.
-use Rattle.std.specs.Prelude.{◌≡◌, ℕ, ◌-◌, ◌<◌, ◌≤◌, ◌==◌, List, [], length, slice_index, slice_index_or}
+use Rattle.std.specs.Prelude.{◌≡◌, ℕ, ◌+◌, ◌*◌, ◌^◌, ◌<◌, ◌≤◌, ◌==◌, List, length, slice_index}
 use Rattle.std.specs.List.{flat_map, position_or_len, range_with_len}
 use Rattle.cp_cgraph.specs.Clustered.{Clustered, nodes, edges}
 use Rattle.cp_cgraph.specs.Crossings.{crossings}
 use Rattle.cp_cgraph.specs.declared.layout.Layout.{Layout}
-use Rattle.cp_rot.specs.Systems.{list_of}
-use Rattle.cp_border.specs.Borders.{borders, before, crossed, first_border, border_vertex, segment_ends, cluster_list, border_list}
+use Rattle.cp_border.specs.Borders.{before, crossed, border_vertex, segment_ends, cluster_list, border_list}
 
 -- the first n places of the list hold the first n values of f
 pub record IsTable (n : ℕ) (xs : List ℕ) (f : ℕ → ℕ) : Type 0 where
   pub size : n ≤ length xs
   pub told : (i : ℕ) → i < n → slice_index xs i ≡ f i
+
+-- The tables: for each edge the number of border vertices before it, for each dart its vertex and the dart
+-- behind it, for each border vertex the first dart of its list.
+pub record Tables : Type 0 where
+  pub first : List ℕ
+  pub at : List ℕ
+  pub following : List ℕ
+  pub begins : List ℕ
+
+-- the tables have the places of the border graph of so many nodes, edges and border vertices, and no sum of
+-- these numbers overflows
+pub record HasPlaces (nodes edges borders : ℕ) (t : Tables) : Type 0 where
+  pub few_vertices : nodes + borders < 2 ^ 59
+  pub few_edges : edges + 2 * borders < 2 ^ 59
+  pub first_places : length t.first ≡ edges + 1
+  pub at_places : length t.at ≡ 2 * (edges + 2 * borders)
+  pub following_places : length t.following ≡ 2 * (edges + 2 * borders)
+  pub begins_places : length t.begins ≡ borders
+
+-- the tables have the places for a graph
+abbrev pub HasPlacesFor : Clustered → Tables → Type 0
+HasPlacesFor g t = HasPlaces (nodes g) (edges g) (before (crossed g) (edges g)) t
 
 -- the vertices at which the darts of the segments stand
 abbrev pub segment_vertices : Clustered → List ℕ
@@ -23,17 +44,3 @@ list_at g l c k = let e = slice_index (cluster_list l c) k in border_list g l e 
 -- the border vertex of the edge at place k of the list of cluster c
 abbrev pub border_at : Clustered → Layout → ℕ → ℕ → ℕ
 border_at g l c k = border_vertex g (slice_index (cluster_list l c) k) c
-
--- the lists of the border vertices, behind the nodes, have that of vertex v
-abbrev pub HasVertexList : Clustered → Layout → List (List ℕ) → ℕ → Type 0
-HasVertexList g l lists v = slice_index_or lists (v - nodes g) [] ≡ list_of (borders g l) v
-
--- there are the lists of the border vertices of the clusters below c, and of the first k edges of the list of c
-pub record HasBorderLists (g : Clustered) (l : Layout) (c k : ℕ) (lists : List (List ℕ)) : Type 0 where
-  pub earlier : (b j : ℕ) → 0 < b → b < c → j < length (cluster_list l b) → HasVertexList g l lists (border_at g l b j)
-  pub here : (j : ℕ) → j < k → HasVertexList g l lists (border_at g l c j)
-
--- there are the lists of all border vertices, and no more
-pub record AreBorderLists (g : Clustered) (l : Layout) (lists : List (List ℕ)) : Type 0 where
-  pub size : length lists ≡ before (crossed g) (edges g)
-  pub told : (v : ℕ) → nodes g ≤ v → v < first_border g (edges g) → HasVertexList g l lists v

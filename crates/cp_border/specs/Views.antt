@@ -1,11 +1,11 @@
 -- Tables by which the border graph is looked up without being stored.
-use Rattle.std.specs.Prelude.{◌≡◌, ℕ, ◌+◌, ◌-◌, ◌^◌, ◌<◌, ◌≤◌, List, length, slice_index}
+use Rattle.std.specs.Prelude.{◌≡◌, ℕ, ◌+◌, ◌-◌, ◌<◌, ◌≤◌, List, length, slice_index}
 use Rattle.cp_cgraph.specs.Clustered.{Clustered, IsClustered, nodes, edges}
 use Rattle.cp_cgraph.specs.declared.layout.Layout.{Layout}
 use Rattle.cp_rot.specs.Systems.{System, darts, list_of, next, vertex_of}
 use Rattle.cp_border.specs.Borders.{borders, before, cluster_list, crossed, first_border}
 use Rattle.cp_border.specs.Good.{IsArranged}
-use Rattle.cp_border.specs.Tables.{IsTable, border_at}
+use Rattle.cp_border.specs.Tables.{Tables, IsTable, HasPlacesFor, border_at}
 
 -- the table tells the next dart of each dart that stands at vertex v
 abbrev pub HasTurn : System → List ℕ → ℕ → Type 0
@@ -33,13 +33,11 @@ pub record Drawn : Type 0 where
 
 -- The tables tell the border graph of an arranged layout: for each edge the border vertices before it,
 -- for each dart its vertex and the next dart, for each border vertex the first dart of its list.
-pub record IsTold (g : Clustered) (l : Layout) (first at following begins : List ℕ) : Type 0 where
+pub record IsTold (g : Clustered) (l : Layout) (t : Tables) : Type 0 where
   pub clustered : IsClustered g
   pub arranged : IsArranged g l
-  pub few_vertices : first_border g (edges g) < 2 ^ 59
-  pub few_darts : darts (borders g l) < 2 ^ 60
-  pub first_told : IsTable (edges g + 1) first (before (crossed g))
-  pub at_told : IsTable (darts (borders g l)) at (vertex_of (borders g l))
-  pub next_told : IsTable (darts (borders g l)) following (next (borders g l))
-  pub begins_size : before (crossed g) (edges g) ≤ length begins
-  pub begins_told : (v : ℕ) → nodes g ≤ v → v < first_border g (edges g) → slice_index begins (v - nodes g) ≡ slice_index (list_of (borders g l) v) 0
+  pub places : HasPlacesFor g t
+  pub first_told : IsTable (edges g + 1) t.first (before (crossed g))
+  pub at_told : IsTable (darts (borders g l)) t.at (vertex_of (borders g l))
+  pub next_told : IsTable (darts (borders g l)) t.following (next (borders g l))
+  pub begins_told : (v : ℕ) → nodes g ≤ v → v < first_border g (edges g) → slice_index t.begins (v - nodes g) ≡ slice_index (list_of (borders g l) v) 0

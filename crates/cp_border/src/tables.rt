@@ -1,17 +1,95 @@
-// The tables of a border graph, written into places that the caller lends.
-ghost use Rattle.std.specs.Prelude.{◌≡◌, ◌==◌, ℕ, true, ◌+◌, ◌*◌, ◌^◌, ◌<◌, ◌≤◌, length, slice_index};
-ghost use Rattle.std.specs.List.{position_or_len};
-ghost use Rattle.cp_cgraph.specs.Clustered.{Clustered, nodes, edges, clusters};
-ghost use Rattle.cp_cgraph.specs.Crossings.{crossings, leaves};
-ghost use Rattle.cp_rot.specs.Systems.{darts, place_after, vertex_of};
-ghost use Rattle.cp_border.specs.Borders.{borders, before, border_vertex, cluster_list, crossed, first_border, first_border_edge, first_segment, place_before, segments};
+// The tables by which the border graph is looked up.
+ghost use Rattle.std.specs.Prelude.{◌≡◌, ◌+◌, ◌*◌, ◌^◌, ◌<◌, ◌≤◌, IfOk, IfSome, length};
+ghost use Rattle.cp_cgraph.specs.Clustered.{nodes, edges};
+ghost use Rattle.cp_border.specs.Borders.{before, crossed};
 ghost use Rattle.cp_border.specs.Good.{IsArranged};
-ghost use Rattle.cp_border.specs.Tables.{IsTable, list_at, segment_vertices};
+ghost use Rattle.cp_border.specs.Tables.{HasPlaces, HasPlacesFor, IsTable};
+ghost use Rattle.cp_border.specs.Views.{IsTold};
 
+use crate::arranged::Arranged;
+use cp_base::Memory;
 use cp_cgraph::{CGraph, Layout};
+use std::alloc::Global;
+use std::marker::Model;
+
+// No memory holds the tables of a border graph of as many vertices or edges, and below it no sum of
+// sizes overflows.
+const MOST: usize = 1 << 59;
+
+// The number of border vertices, unless the border graph is too great.
+fn border_count(g: &CGraph) -> Option<usize>
+    ensures { IfSome result (λ n. (n ≡ before (crossed g.now) (edges g.now)) × (nodes g.now + n < 2 ^ 59) × (edges g.now + 2 * n < 2 ^ 59)) }
+{
+    let mut count = 0;
+    for e in 0..g.edges() {
+        let crossed = g.crossed(e);
+        if crossed >= MOST - count {
+            return None;
+        }
+        count += crossed;
+    }
+    if g.nodes() + count < MOST && g.edges() + 2 * count < MOST {
+        Some(count)
+    } else {
+        None
+    }
+}
+
+/// The tables by which the border graph of an arranged layout is looked up: for each edge the number
+/// of border vertices before it, for each dart its vertex and the dart behind it, and for each
+/// border vertex the first dart of its list. They serve each graph with the same numbers of nodes,
+/// edges and border vertices; what stands in them is written by `write_tables`.
+#[derive(Drop)]
+pub struct BorderTables {
+    pub(crate) first: Vec<usize>,
+    pub(crate) at: Vec<usize>,
+    pub(crate) next: Vec<usize>,
+    pub(crate) begins: Vec<usize>,
+}
+
+impl Model for BorderTables {
+    ghost use Rattle.cp_border.specs.Tables.{Tables};
+
+    ghost Value = { Tables };
+
+    ghost view = { λ t. record { first = t.first.items; at = t.at.items; following = t.next.items; begins = t.begins.items } };
+}
+
+impl BorderTables {
+    /// The tables for layouts of the graph, not written yet. `Memory` where an allocation fails, or
+    /// where the border graph has more vertices or edges than any memory holds. Linear in the
+    /// numbers of edges and border vertices.
+    pub fn for_graph(alloc: Global, g: &CGraph) -> Result<BorderTables, Memory>
+        ensures { IfOk result (λ tables. HasPlacesFor g.now tables) }
+    {
+        match border_count(g) {
+            None => Err(Memory),
+            Some(borders) => {
+                let darts = 2 * (g.edges() + 2 * borders);
+                let first = vec![in alloc; 0; g.edges() + 1]?;
+                let at = vec![in alloc; 0; darts]?;
+                let next = vec![in alloc; 0; darts]?;
+                let begins = vec![in alloc; 0; borders]?;
+                Ok(BorderTables {
+                    first,
+                    at,
+                    next,
+                    begins,
+                })
+            }
+        }
+    }
+
+    /// The number of border vertices for which there are places.
+    pub fn borders(&self) -> usize
+        ensures { result ≡ length self.now.begins }
+    {
+        self.begins.len()
+    }
+}
 
 // Writes for each edge the number of border vertices of the edges before it, and last that of all.
-pub(crate) fn write_first(g: &CGraph, first: &mut [usize])
+fn write_first(g: &CGraph, first: &mut [usize])
     requires room { edges g.now + 1 ≤ length first.old }
     requires size { before (crossed g.now) (edges g.now) < 2 ^ 60 }
     ensures { IsTable (edges g.now + 1) first.new (before (crossed g.now)) }
@@ -22,182 +100,43 @@ pub(crate) fn write_first(g: &CGraph, first: &mut [usize])
     }
 }
 
-// Writes where the darts of the segments of edge `e` stand, behind those of the edges before it.
-fn write_edge(g: &CGraph, first: &[usize], e: usize, at: &mut [usize])
-    requires edge { e < edges g.now }
-    requires first { IsTable (edges g.now + 1) first.now (before (crossed g.now)) }
-    requires size { nodes g.now + before (crossed g.now) (edges g.now) < 2 ^ 60 }
-    requires room { 2 * segments g.now ≤ length at.old }
-    requires done { IsTable (2 * first_segment g.now e) at.old (slice_index (segment_vertices g.now)) }
-    ensures { IsTable (2 * first_segment g.now (e + 1)) at.new (slice_index (segment_vertices g.now)) }
-{
-    let (source, target) = g.ends(e);
-    let border = g.nodes() + first[e];
-    let start = 2 * (e + first[e]);
-    let count = g.crossed(e);
-    at[start] = source;
-    for i in 0..count {
-        at[start + 2 * i + 1] = border + i;
-        at[start + 2 * i + 2] = border + i;
-    }
-    at[start + 2 * count + 1] = target;
-}
-
-// Writes where the darts of all segments stand.
-pub(crate) fn write_segments(g: &CGraph, first: &[usize], at: &mut [usize])
-    requires first { IsTable (edges g.now + 1) first.now (before (crossed g.now)) }
-    requires size { nodes g.now + before (crossed g.now) (edges g.now) < 2 ^ 60 }
-    requires room { 2 * segments g.now ≤ length at.old }
-    ensures { IsTable (2 * segments g.now) at.new (slice_index (segment_vertices g.now)) }
-{
-    for e in 0..g.edges() {
-        write_edge(g, first, e, at);
-    }
-}
-
-// The border vertex at which edge `e` crosses the border of cluster `c`.
-fn vertex_at(g: &CGraph, first: &[usize], e: usize, c: usize) -> usize
-    requires edge { e < edges g.now }
-    requires cluster { c < clusters g.now }
-    requires left { leaves g.now c e ≡ true }
-    requires first { IsTable (edges g.now + 1) first.now (before (crossed g.now)) }
-    requires size { nodes g.now + before (crossed g.now) (edges g.now) < 2 ^ 60 }
-    ensures { result ≡ border_vertex g.now e c }
-{
-    g.nodes() + first[e] + g.place(e, c)
-}
-
-// The edges that cross the border of cluster `c`, in the order of the layout.
-pub(crate) fn border_items(lay: &Layout, c: usize) -> &[usize]
-    requires inner { 0 < c }
-    requires cluster { c < length lay.now.clusters + 1 }
-    ensures { result.now ≡ cluster_list lay.now c }
-{
-    lay.clusters.items()[c - 1].items()
-}
-
-// The place behind place `k` in a cyclic list of `count` items.
-pub(crate) fn place_behind(count: usize, k: usize) -> usize
-    requires { k < count }
-    ensures { result ≡ place_after count k }
-{
-    if k + 1 == count { 0 } else { k + 1 }
-}
-
-// The border vertex of the edge at place `k` of the list of cluster `c`.
-pub(crate) fn item_vertex(g: &CGraph, lay: &Layout, first: &[usize], c: usize, k: usize) -> usize
-    requires inner { 0 < c }
-    requires cluster { c < clusters g.now }
-    requires arranged { IsArranged g.now lay.now }
-    requires place { k < length (cluster_list lay.now c) }
-    requires first { IsTable (edges g.now + 1) first.now (before (crossed g.now)) }
-    requires size { nodes g.now + before (crossed g.now) (edges g.now) < 2 ^ 60 }
-    ensures { result ≡ border_vertex g.now (slice_index (cluster_list lay.now c) k) c }
-{
-    vertex_at(g, first, border_items(lay, c)[k], c)
-}
-
-// Writes where the darts of the border edges of cluster `c` stand, from place `start` on.
-fn write_border(g: &CGraph, lay: &Layout, first: &[usize], c: usize, start: usize, at: &mut [usize])
-    requires inner { 0 < c }
-    requires cluster { c < clusters g.now }
-    requires arranged { IsArranged g.now lay.now }
-    requires first { IsTable (edges g.now + 1) first.now (before (crossed g.now)) }
-    requires size { nodes g.now + before (crossed g.now) (edges g.now) < 2 ^ 60 }
-    requires room { darts (borders g.now lay.now) ≤ length at.old }
-    requires start { start ≡ 2 * first_border_edge g.now lay.now c }
-    requires done { IsTable start at.old (vertex_of (borders g.now lay.now)) }
-    ensures { IsTable (start + 2 * length (cluster_list lay.now c)) at.new (vertex_of (borders g.now lay.now)) }
-{
-    let count = border_items(lay, c).len();
-    for k in 0..count {
-        at[start + 2 * k] = item_vertex(g, lay, first, c, k);
-        at[start + 2 * k + 1] = item_vertex(g, lay, first, c, place_behind(count, k));
-    }
-}
-
-// Writes for each dart of the border graph the vertex at which it stands.
-pub(crate) fn write_at(g: &CGraph, lay: &Layout, first: &[usize], at: &mut [usize])
-    requires arranged { IsArranged g.now lay.now }
-    requires first { IsTable (edges g.now + 1) first.now (before (crossed g.now)) }
-    requires size { nodes g.now + before (crossed g.now) (edges g.now) < 2 ^ 60 }
-    requires room { darts (borders g.now lay.now) ≤ length at.old }
-    ensures { IsTable (darts (borders g.now lay.now)) at.new (vertex_of (borders g.now lay.now)) }
-{
-    write_segments(g, first, at);
-    let mut start = 2 * (g.edges() + first[g.edges()]);
-    for c in 1..g.clusters() {
-        write_border(g, lay, first, c, start, at);
-        start += 2 * border_items(lay, c).len();
-    }
-}
-
-// The place before place `k` in a cyclic list of `count` items.
-fn place_ahead(count: usize, k: usize) -> usize
-    requires { k < count }
-    ensures { result ≡ place_before count k }
-{
-    if k == 0 { count - 1 } else { k - 1 }
-}
-
-// The edge at place `k` of the list of cluster `c`.
-fn border_item(g: &CGraph, lay: &Layout, c: usize, k: usize) -> usize
-    requires inner { 0 < c }
-    requires cluster { c < clusters g.now }
-    requires arranged { IsArranged g.now lay.now }
-    requires place { k < length (cluster_list lay.now c) }
-    ensures value { result ≡ slice_index (cluster_list lay.now c) k }
-    ensures edge { result < edges g.now }
-    ensures left { leaves g.now c result ≡ true }
-{
-    border_items(lay, c)[k]
-}
-
-// The number of the segment that edge `e` ends with before it crosses the border of cluster `c`.
-fn segment_before(g: &CGraph, first: &[usize], e: usize, c: usize) -> usize
-    requires edge { e < edges g.now }
-    requires cluster { c < clusters g.now }
-    requires left { leaves g.now c e ≡ true }
-    requires first { IsTable (edges g.now + 1) first.now (before (crossed g.now)) }
-    requires size { nodes g.now + before (crossed g.now) (edges g.now) < 2 ^ 60 }
-    ensures value { result ≡ first_segment g.now e + position_or_len (λ x. x == c) (crossings g.now e) }
-    ensures bound { result < 2 ^ 61 }
-{
-    let _edges = g.edges();
-    e + (vertex_at(g, first, e, c) - g.nodes())
-}
-
-// The list of the border vertex of the edge at place `k` of the list of cluster `c`, whose border
-// edges have the darts from `start` on.
-pub(crate) fn border_darts(
+// Writes the tables into four slices.
+fn write_slices(
     g: &CGraph,
     lay: &Layout,
-    first: &[usize],
-    c: usize,
-    k: usize,
-    start: usize,
-) -> [usize; 4]
-    requires inner { 0 < c }
-    requires cluster { c < clusters g.now }
+    first: &mut [usize],
+    at: &mut [usize],
+    next: &mut [usize],
+    begins: &mut [usize],
+)
     requires arranged { IsArranged g.now lay.now }
-    requires place { k < length (cluster_list lay.now c) }
-    requires first { IsTable (edges g.now + 1) first.now (before (crossed g.now)) }
-    requires size { nodes g.now + before (crossed g.now) (edges g.now) < 2 ^ 60 }
-    requires start { start ≡ 2 * first_border_edge g.now lay.now c }
-    requires fits { start < 2 ^ 62 }
-    ensures { result ≡ list_at g.now lay.now c k }
+    requires places { HasPlacesFor g.now record { first = first.old; at = at.old; following = next.old; begins = begins.old } }
+    ensures { IsTold g.now lay.now record { first = first.new; at = at.new; following = next.new; begins = begins.new } }
 {
     let _nodes = g.nodes();
-    let count = border_items(lay, c).len();
-    let e = border_item(g, lay, c, k);
-    let segment = segment_before(g, first, e, c);
-    let (source, _target) = g.ends(e);
-    let ahead = place_ahead(count, k);
-    let begins = start + 2 * k;
-    let finishes = start + 2 * ahead + 1;
-    if g.contains(c, source) {
-        [begins, 2 * segment + 1, finishes, 2 * segment + 2]
-    } else {
-        [begins, 2 * segment + 2, finishes, 2 * segment + 1]
-    }
+    write_first(g, first);
+    let arranged = Arranged {
+        graph: g,
+        layout: lay,
+        first,
+    };
+    arranged.write_at(at);
+    arranged.write_turns(next, begins);
+}
+
+/// Writes the tables by which the border graph of an arranged layout is looked up. Takes no memory.
+/// Linear in the numbers of nodes, clusters, edges, items and crossings.
+pub fn write_tables(g: &CGraph, lay: &Layout, tables: &mut BorderTables)
+    requires arranged { IsArranged g.now lay.now }
+    requires places { HasPlacesFor g.now tables.old }
+    ensures { IsTold g.now lay.now tables.new }
+{
+    write_slices(
+        g,
+        lay,
+        &mut tables.first,
+        &mut tables.at,
+        &mut tables.next,
+        &mut tables.begins,
+    );
 }

@@ -21,9 +21,13 @@ without_round ps b xs = filter (λ c. not (encloses ps c b)) xs
 -- two walks outward, from a_first and from b_first, stand at a and b. The lists hold what was left on
 -- the way, and below where they stand the clusters enclose a start just as they enclose the place reached.
 pub record HasWalked (ps : List ℕ) (a_first b_first a b : ℕ) (left entered : List ℕ) : Type 0 where
+  -- a step outward from the first cluster leaves it
   pub from_first : without_round ps b_first (chain ps a_first) ≡ left ++ without_round ps b_first (chain ps a)
+  -- a step outward from the second cluster enters it
   pub from_second : without_round ps a_first (chain ps b_first) ≡ entered ++ without_round ps a_first (chain ps b)
+  -- clusters further out enclose the second cluster as before
   pub round_second : (c : ℕ) → c ≤ a → encloses ps c b_first ≡ encloses ps c b
+  -- and the first
   pub round_first : (c : ℕ) → c ≤ b → encloses ps c a_first ≡ encloses ps c a
 
 -- at the start nothing is left
@@ -52,6 +56,7 @@ HasWalked-first ps low a_first b_first a b left entered so lt =
       round_first = λ c le. so.round_first c le ∙ encloses_step ps low c a (omega arith);
     }
 
+-- the walk goes on by a step outward from the second cluster
 pub HasWalked-second : (ps : List ℕ) → IsLower ps → (a_first b_first a b : ℕ) (left entered : List ℕ) → HasWalked ps a_first b_first a b left entered → a < b → HasWalked ps a_first b_first a (slice_index ps (b - 1)) left (entered ++ b ∷ [])
 HasWalked-second ps low a_first b_first a b left entered so lt =
     let less : slice_index ps (b - 1) < b = low.lower b (omega arith) in
@@ -78,6 +83,7 @@ EachOnce-falls xs falls i j lti ltj e =
     (⊎_elim (λ lt. absurd (omega (arith, falls i j 0 lt ltj))) (λ gt. absurd (omega (arith, falls j i 0 gt lti))))
     (cases_order i j)
 
+-- a list reversed has each item once where the list has
 EachOnce-reverse : (xs : List ℕ) → EachOnce xs → EachOnce (reverse xs)
 EachOnce-reverse xs once i j lti ltj e =
     let n : length (reverse xs) ≡ length xs = length-reverse xs in
@@ -108,11 +114,13 @@ EachOnce-append p xs ys once_xs once_ys fail pass i j lti ltj e =
         let upper : slice_index (xs ++ ys) m ≡ slice_index ys (m - length xs) = get_or-append_right xs ys (length xs) m 0 refl r in
         false≢true (sym (fail k 0 l) ∙ ap p (sym lower ∙ f ∙ upper) ∙ pass (m - length xs) 0 (omega arith))
 
+-- what holds of all items holds of those of the list reversed
 All-reverse : (P : ℕ → Type 0) (xs : List ℕ) → All P xs → All P (reverse xs)
 All-reverse P xs all k d lt =
     let n : length (reverse xs) ≡ length xs = length-reverse xs in
     subst P (sym (get_or-reverse xs k d (omega arith))) (all (length xs - 1 - k) d (omega arith))
 
+-- an item of a list is one of the list reversed
 Contains-reverse : (xs : List ℕ) (x : ℕ) → Contains xs x → Contains (reverse xs) x
 Contains-reverse xs x c =
     let n : length (reverse xs) ≡ length xs = length-reverse xs in
@@ -136,6 +144,7 @@ filter_keeps p c (x ∷ xs) pc t =
     (cases_Bool (p x)))
     (cases_eq x c)
 
+-- a number that is found in a list is in it
 Contains-from_test : (c : ℕ) (xs : List ℕ) → list_any (λ x. x == c) xs ≡ true → Contains xs c
 Contains-from_test c xs t =
     let found = Any-from_list_any (λ (x : ℕ). x == c) xs t in
@@ -152,6 +161,7 @@ left_contains ps a b c above en out =
 leaves_source : (g : Clustered) (c e : ℕ) → contains g c (source g e) ≡ true → contains g c (target g e) ≡ false → leaves g c e ≡ true
 leaves_source g c e s t = cond-true (contains g c (source g e)) (not (contains g c (target g e))) (contains g c (target g e)) s ∙ not_from_false (contains g c (target g e)) t
 
+-- an edge leaves a cluster that has its target and not its source
 leaves_target : (g : Clustered) (c e : ℕ) → contains g c (source g e) ≡ false → contains g c (target g e) ≡ true → leaves g c e ≡ true
 leaves_target g c e s t = cond-false (contains g c (source g e)) (not (contains g c (target g e))) (contains g c (target g e)) s ∙ t
 
@@ -162,6 +172,7 @@ left_facts ps low a b k d lt =
     let out = filter_passes (λ (c : ℕ). not (encloses ps c b)) (chain ps a) k d lt in
     (on.within, on.around, not-true (encloses ps (slice_index_or (without_round ps b (chain ps a)) k d) b) out)
 
+-- the clusters that are left are each left once
 once_left : (ps : List ℕ) → IsLower ps → (a b : ℕ) → EachOnce (without_round ps b (chain ps a))
 once_left ps low a b = EachOnce-falls (without_round ps b (chain ps a)) (AllPairs-filter (λ (x y : ℕ). y < x) (λ (c : ℕ). not (encloses ps c b)) (chain ps a) (chain_falls ps low a a (omega arith)))
 
@@ -218,25 +229,32 @@ crossings-Exactly g is e lt = record { each_passes = λ i within. passes i 0 wit
 
 -- the walks outward from the two homes of edge e, as far as they have come
 pub record IsBetween (g : Clustered) (e outer inner : ℕ) (left entered : List ℕ) : Type 0 where
+  -- the outer end of the walk is a cluster
   pub outer_cluster : outer < clusters g
+  -- so is the inner one
   pub inner_cluster : inner < clusters g
+  -- the walk between the homes of the ends
   pub walked : HasWalked g.parents (home g (source g e)) (home g (target g e)) outer inner left entered
 
+-- the walk begins at the homes of the two ends
 pub IsBetween-start : (g : Clustered) (e : ℕ) → home g (source g e) < clusters g → home g (target g e) < clusters g → IsBetween g e (home g (source g e)) (home g (target g e)) [] []
 IsBetween-start g e s t = record { outer_cluster = s; inner_cluster = t; walked = HasWalked-start g.parents (home g (source g e)) (home g (target g e)) }
 
+-- it goes on outward from the higher number, which is left
 pub IsBetween-left : (g : Clustered) → IsClustered g → (e outer inner : ℕ) (left entered : List ℕ) → IsBetween g e outer inner left entered → inner < outer → IsBetween g e (parent g outer) inner (left ++ outer ∷ []) entered
 IsBetween-left g is e outer inner left entered so lt =
     let low : IsLower g.parents = IsLower-clustered g is in
     let less : parent g outer < outer = low.lower outer (omega arith) in
     record { outer_cluster = omega (arith, so.outer_cluster); inner_cluster = so.inner_cluster; walked = HasWalked-first g.parents low (home g (source g e)) (home g (target g e)) outer inner left entered so.walked lt }
 
+-- or from the higher number, which is entered
 pub IsBetween-entered : (g : Clustered) → IsClustered g → (e outer inner : ℕ) (left entered : List ℕ) → IsBetween g e outer inner left entered → outer < inner → IsBetween g e outer (parent g inner) left (entered ++ inner ∷ [])
 IsBetween-entered g is e outer inner left entered so lt =
     let low : IsLower g.parents = IsLower-clustered g is in
     let less : parent g inner < inner = low.lower inner (omega arith) in
     record { outer_cluster = so.outer_cluster; inner_cluster = omega (arith, so.inner_cluster); walked = HasWalked-second g.parents low (home g (source g e)) (home g (target g e)) outer inner left entered so.walked lt }
 
+-- where both ends meet, what was left and then what was entered, reversed, is crossed
 pub IsBetween-end : (g : Clustered) → IsClustered g → (e outer inner : ℕ) (left entered : List ℕ) → IsBetween g e outer inner left entered → outer ≡ inner → left ++ reverse entered ≡ crossings g e
 IsBetween-end g is e outer inner left entered so met =
     let whole = HasWalked-end g.parents (IsLower-clustered g is) (home g (source g e)) (home g (target g e)) outer inner left entered so.walked met in

@@ -1,16 +1,18 @@
-pub mod Ancestors
+-- for callers: facts about the definitions
 pub mod Crossing
-pub mod Counted
-pub mod Nesting
-pub mod Reading
-pub mod Places
-pub mod Walk
-pub mod Firsts
-pub mod NameSteps
-pub mod NodeSteps
-pub mod RootParts
-pub mod ReadParts
-pub mod Tables
-pub mod Gathered
-pub mod Whole
 pub mod FaultLaw
+-- what the proofs of this crate rest on
+mod Ancestors
+mod Counted
+mod Nesting
+mod Reading
+mod Places
+mod Walk
+mod Firsts
+mod NameSteps
+mod NodeSteps
+mod RootParts
+mod ReadParts
+mod Tables
+mod Gathered
+mod Whole

@@ -3,18 +3,18 @@ ghost use Rattle.std.specs.Prelude.{◌≡◌, [], ◌∷◌, ◌++◌, IfOk};
 ghost use Rattle.std.specs.List.{position};
 ghost use Rattle.std.specs.Ordering.{int_eq};
 
+use crate::hashes::Seeded;
 use cp_base::Memory;
 use indexmap::IndexMap;
 use std::alloc::Global;
-use std::hash::{BuildHasherDefault, DefaultHasher};
 use std::marker::Model;
 
 // A row of ids, which contracts see as the list of them, and a table of the first place of each id, in the
 // order of the first places.
-#[derive(Debug, Drop)]
+#[derive(Drop)]
 pub(crate) struct Ids {
     ids: Vec<i32>,
-    places: IndexMap<i32, usize, BuildHasherDefault<DefaultHasher>>,
+    places: IndexMap<i32, usize, Seeded>,
 }
 
 impl Model for Ids {
@@ -31,12 +31,13 @@ impl Model for Ids {
 }
 
 impl Ids {
-    pub fn new(alloc: Global) -> Ids
+    // No ids, where those to come have the digest.
+    pub fn new(alloc: Global, digest: u64) -> Ids
         ensures { result ≡ [] }
     {
         Ids {
             ids: Vec::new(alloc),
-            places: IndexMap::with_hasher(alloc, BuildHasherDefault::new()),
+            places: IndexMap::with_hasher(alloc, Seeded::by(digest)),
         }
     }
 

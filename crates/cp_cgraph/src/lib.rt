@@ -6,6 +6,8 @@ mod edges;
 mod entries;
 mod fault;
 mod graph;
+mod graph_text;
+mod hashes;
 mod ids;
 mod law;
 mod layout;
@@ -22,6 +24,7 @@ mod walks;
 
 pub use fault::GraphFault;
 pub use graph::CGraph;
+pub use graph_text::{TextFault, read_graph};
 pub use law::one_graph;
 pub use layout::{CycLists, Layout};
 pub use reader::build;

@@ -5,6 +5,7 @@ ghost use Rattle.cp_cgraph.specs.GraphOf.{home_by};
 
 use crate::clusters::Name;
 use crate::fault::Fault;
+use crate::hashes::digest_of_names;
 use crate::ids::Ids;
 use cp_base::{Items, Memory};
 use std::alloc::Global;
@@ -44,7 +45,7 @@ pub(crate) fn read_names(
     ensures named { IfOk result (λ named. named ≡ map (λ m. m.id) names.now) }
     ensures faults { OnOk result (faults.new ≡ faults.old ++ names_faults ids.now [] names.now) }
 {
-    let mut named = Ids::new(alloc);
+    let mut named = Ids::new(alloc, digest_of_names(names));
     'names: for name in names {
         let id = id_of(name);
         check_name(id, name.at, ids, &named, faults)?;

@@ -9,6 +9,7 @@ use crate::clusters::{Clusters, Name};
 use crate::edges::read_edges;
 use crate::fault::{Fault, GraphFault, first_fault};
 use crate::graph::CGraph;
+use crate::hashes::digest_of_lists;
 use crate::ids::Ids;
 use crate::names::{homes, read_names};
 use crate::nodes::read_nodes;
@@ -20,7 +21,7 @@ use std::alloc::Global;
 
 // What is read of a list: the ids of its nodes, the ends of its edges, the parents of its clusters, the
 // names of nodes and their ids, and all faults.
-#[derive(Debug, Drop)]
+#[derive(Drop)]
 struct Parts {
     ids: Ids,
     ends: Items<(usize, usize)>,
@@ -36,7 +37,7 @@ fn read_parts(alloc: Global, entries: &[Entry], end: usize) -> Result<Parts, Mem
 {
     let mut known = Items::new(alloc);
     let graph = graph_list(entries, end, &mut known)?;
-    let ids = read_nodes(graph, Ids::new(alloc), &mut known)?;
+    let ids = read_nodes(graph, Ids::new(alloc, digest_of_lists(graph)), &mut known)?;
     let ends = read_edges(alloc, graph, &ids, &mut known)?;
     let Clusters {
         parents,
@@ -78,8 +79,8 @@ fn graph(alloc: Global, parts: &Parts, end: usize, entries: &[Entry]) -> Result<
 /// The clustered graph that a list of keys and values says (the format is Himsolt's GML, with clusters
 /// in nested lists of their own), or its first fault. Memory linear in the number of entries, and time
 /// linear in that number and the number of times that an edge leaves a cluster, on average; a call inside
-/// the other for each cluster that is open. Ids are looked up by a hash whose seed is fixed (SipHash-1-3),
-/// so those chosen against it may make the time quadratic in the number of entries, and no more.
+/// the other for each cluster that is open. Ids are looked up by a hash (SipHash-1-3) that takes a digest of
+/// all ids before each id.
 ///
 /// Nodes and edges are the `node` and `edge` entries of the first `graph` entry, and are numbered in
 /// their order; an edge names its ends by the ids of nodes, which may stand after it. The root list is

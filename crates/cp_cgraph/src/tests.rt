@@ -31,7 +31,7 @@ fn crossed(alloc: Global, text: &[u8]) -> Result<(Vec<usize>, Vec<usize>), Memor
 #[test]
 fn clusters_are_left_outward_and_entered_inward(rt: HostRuntime) {
     let alloc = rt.alloc();
-    let rows: [(&[u8], &[usize], &[usize]); 5] = [
+    let rows: [(&[u8], &[usize], &[usize]); 7] = [
         (
             b"rootcluster [ cluster [ cluster [ vertex 1 ] ] ] graph [ node [ id 1 ] node [ id 2 ] edge [ source 1 target 1 ] edge [ source 1 target 2 ] edge [ source 1 target 2 ] ]",
             &[2, 1],
@@ -49,6 +49,16 @@ fn clusters_are_left_outward_and_entered_inward(rt: HostRuntime) {
         ),
         (
             b"rootcluster [ cluster [ vertex 1 vertex 2 ] cluster [ ] ] graph [ node [ id 1 ] node [ id 2 ] edge [ source 2 target 1 ] ]",
+            &[],
+            &[],
+        ),
+        (
+            b"graph [ node [ id 1 ] node [ id 2 ] edge [ source 1 target 2 ] rootcluster [ cluster [ vertex 1 ] ] ]",
+            &[1],
+            &[0],
+        ),
+        (
+            b"graph [ node [ id 1 ] node [ id 2 ] node [ id 3 ] edge [ source 1 target 2 ] ] rootcluster [ cluster [ vertex 1 vertex 2 vertex 3 ] ]",
             &[],
             &[],
         ),

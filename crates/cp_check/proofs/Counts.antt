@@ -1,42 +1,29 @@
 -- How large the counts of a border graph are, and what they tell of a layout.
-use Rattle.std.proofs.Common.{◌≡◌, ℕ, List, sym, ◌+◌, ◌*◌, ◌/◌, ◌^◌, ◌<◌, Option, None, Some, MatchOption, subst, Fits as FitsIn, w64, arith}
-use Rattle.cp_cgraph.specs.Clustered.{Clustered, IsClustered}
+use Rattle.std.proofs.Common.{◌≡◌, ℕ, ◌+◌, ◌*◌, ◌/◌, ◌^◌, ◌<◌, Option, None, Some, MatchOption, subst, Fits as FitsIn, w64, arith}
+use Rattle.cp_cgraph.specs.Clustered.{Clustered}
 use Rattle.cp_cgraph.specs.declared.layout.Layout.{Layout}
 use Rattle.cp_rot.specs.Systems.{System, darts}
 use Rattle.cp_rot.specs.Genus.{FaceCount, ComponentCount, HasGenusZero}
 use Rattle.cp_rot.proofs.Euler.{FaceCount-le, ComponentCount-le}
 use Rattle.cp_border.specs.Borders.{borders}
 use Rattle.cp_border.specs.Good.{IsArranged, IsGood}
-use Rattle.cp_border.specs.Views.{IsTold}
-use Rattle.cp_border.proofs.RotationLaw.{length-borders_at-graph}
-use Rattle.cp_check.specs.Sizes.{Sizes, Fits, dart_number}
 use Rattle.cp_check.specs.Judging.{HasWrongGenus, IsGenusReason, IsLayoutReason}
 use Rattle.cp_check.specs.declared.verdict.Reject.{Reject}
 use Rattle.cp_check.specs.declared.verdict.Reject.TheVariants.{NoLayout, NodeLine, ClusterLine, Genus}
 
 -- counts that are not too many fit 64 bits
-pub small_sums : (r : System) (v n f c : ℕ) → v ≡ r.vertices → n ≡ darts r → v < 2 ^ 60 → n < 2 ^ 60 → FaceCount r f → ComponentCount r c → FitsIn w64 (v + f) × FitsIn w64 (2 * c) × FitsIn w64 (n / 2 + 2 * c)
+pub small_sums : (r : System) (v n f c : ℕ) → v ≡ r.vertices → n ≡ darts r → v < 2 ^ 60 → n < 2 ^ 60 → FaceCount r f →
+    ComponentCount r c → FitsIn w64 (v + f) × FitsIn w64 (2 * c) × FitsIn w64 (n / 2 + 2 * c)
 small_sums r v n f c ev en bv bn faces components =
     let few = FaceCount-le r f faces in
     let fewer = ComponentCount-le r c components in
     (omega (arith, ev, en, bv, bn, few), omega (arith, ev, bv, fewer), omega (arith, ev, bv, bn, fewer))
 
--- the border graph of each arranged layout has the same number of darts
-pub dart_total : (g : Clustered) (l : Layout) (s : Sizes) → IsClustered g → IsArranged g l → Fits s g → darts (borders g l) ≡ dart_number s
-dart_total g l s is arranged fits = omega (arith, length-borders_at-graph g l is arranged, fits.edges_fit, fits.borders_fit)
-
 -- what is told of the border graph of an arranged layout is told of the layout
-pub layout_told : (g : Clustered) (l : Layout) (r : System) → r ≡ borders g l → IsArranged g l → (o : Option Reject) → MatchOption o (HasGenusZero r) (IsGenusReason r) → MatchOption o (IsGood g l) (IsLayoutReason g l)
+pub layout_told : (g : Clustered) (l : Layout) (r : System) → r ≡ borders g l → IsArranged g l → (o : Option Reject) →
+    MatchOption o (HasGenusZero r) (IsGenusReason r) → MatchOption o (IsGood g l) (IsLayoutReason g l)
 layout_told g l r is arranged None zero = record { arranged = arranged; flat = subst HasGenusZero is zero }
 layout_told g l r is arranged (Some NoLayout) why = why
 layout_told g l r is arranged (Some (NodeLine i)) why = absurd why
 layout_told g l r is arranged (Some (ClusterLine k)) why = absurd why
 layout_told g l r is arranged (Some (Genus v e f c)) why = record { arranged = arranged; counts = subst (λ s. HasWrongGenus s v e f c) is why }
-
--- equal tables tell the same
-pub told_again : (g : Clustered) (l : Layout) (first at next begins first' at' next' begins' : List ℕ) → first' ≡ first → at' ≡ at → next' ≡ next → begins' ≡ begins → IsTold g l first at next begins → IsTold g l first' at' next' begins'
-told_again g l first at next begins first' at' next' begins' same_first same_at same_next same_begins told =
-    let one = subst (λ z. IsTold g l z at next begins) (sym same_first) told in
-    let two = subst (λ z. IsTold g l first' z next begins) (sym same_at) one in
-    let three = subst (λ z. IsTold g l first' at' z begins) (sym same_next) two in
-    subst (λ z. IsTold g l first' at' next' z) (sym same_begins) three

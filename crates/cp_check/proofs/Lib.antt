@@ -1,2 +1,4 @@
-pub mod Counts
+-- for callers: facts about the definitions
 pub mod Verdicts
+-- what the proofs of this crate rest on
+mod Counts

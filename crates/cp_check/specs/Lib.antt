@@ -1,2 +1,3 @@
+-- what contracts rest on
 pub mod Sizes
 pub mod Judging

@@ -2,7 +2,7 @@
 ghost use Rattle.std.specs.Prelude.{◌≡◌, ℕ, ◌≤◌, ◌↔◌, MatchOption, length};
 ghost use Rattle.cp_rot.specs.Systems.{darts};
 ghost use Rattle.cp_rot.specs.Genus.{HasGenusZero};
-ghost use Rattle.cp_border.specs.Good.{IsArranged, IsFirstWrongNode, IsGood, IsRightCluster, IsRightNode};
+ghost use Rattle.cp_border.specs.Good.{IsArranged, IsCPlanar, IsFirstWrongNode, IsGood, IsRightCluster, IsRightNode};
 ghost use Rattle.cp_border.specs.Lines.{IsFirstWrongBorder};
 ghost use Rattle.cp_check.specs.Judging.{IsGenusReason, IsGoodReport, IsLayoutReason, IsVerdict};
 ghost use Rattle.cp_check.specs.Sizes.{Fits};
@@ -60,9 +60,8 @@ fn wrong_genus(g: &CGraph, lay: &Layout, s: &mut Scratch) -> Option<Reject>
     ensures reason { MatchOption result (IsGood g.now lay.now) (IsLayoutReason g.now lay.now) }
     ensures kept { s.new ≡ s.old }
 {
-    let _nodes = g.nodes();
-    write_tables(g, lay, &mut s.first, &mut s.at, &mut s.next, &mut s.begins);
-    let view = View::new(g, lay, &s.first, &s.at, &s.next, &s.begins);
+    write_tables(g, lay, &mut s.tables);
+    let view = View::new(g, lay, &s.tables);
     genus_reason(&view, &mut s.dart_marks, &mut s.marks, &mut s.stack)
 }
 
@@ -81,12 +80,13 @@ fn layout_reason(g: &CGraph, lay: &Layout, s: &mut Scratch) -> Option<Reject>
     wrong_genus(g, lay, s)
 }
 
-/// Whether the report has a good layout for the graph, or the first reason why it has none. Takes no
-/// memory, and the scratch fits the graph afterwards. Linear in the graph, the report and the border
+/// Whether the report has a good layout for the graph, or the first reason why it has none. A graph with a good
+/// layout is c-planar (Feng, Cohen, Eades 1995). Takes no memory, and the scratch fits the graph afterwards. Linear in the graph, the report and the border
 /// graph.
 pub fn check(g: &CGraph, report: &Report, s: &mut Scratch) -> Verdict
     requires { Fits s.old g.now }
     ensures accepted { (result ≡ Verdict.Accepted) ↔ IsGoodReport g.now report.now }
+    ensures planar { result ≡ Verdict.Accepted → IsCPlanar g.now }
     ensures verdict { IsVerdict g.now report.now result }
     ensures kept { s.new ≡ s.old }
 {

@@ -1,35 +1,13 @@
 // The room in which layouts of a graph are checked.
-ghost use Rattle.std.specs.Prelude.{◌≡◌, ◌+◌, ◌*◌, ◌^◌, ◌<◌, ◌↔◌, IsTrue, IfOk, IfSome};
-ghost use Rattle.cp_cgraph.specs.Clustered.{nodes, edges};
-ghost use Rattle.cp_check.specs.Sizes.{AreSmall, Fits, border_vertices};
+ghost use Rattle.std.specs.Prelude.{◌≡◌, ◌↔◌, IsTrue, IfOk, length};
+ghost use Rattle.cp_border.specs.Tables.{HasPlaces};
+ghost use Rattle.cp_check.specs.Sizes.{Fits, border_vertices};
 
 use cp_base::Memory;
+use cp_border::BorderTables;
 use cp_cgraph::CGraph;
 use std::alloc::Global;
 use std::marker::Model;
-
-// No memory holds the room for as many vertices or edges of a border graph, and below it no sum of
-// sizes overflows.
-const MOST: usize = 1 << 59;
-
-// The number of border vertices, unless the border graph is too great.
-fn border_count(g: &CGraph) -> Option<usize>
-    ensures { IfSome result (λ n. (n ≡ border_vertices g.now) × (nodes g.now + n < 2 ^ 59) × (edges g.now + 2 * n < 2 ^ 59)) }
-{
-    let mut count = 0;
-    for e in 0..g.edges() {
-        let crossed = g.crossed(e);
-        if crossed >= MOST - count {
-            return None;
-        }
-        count += crossed;
-    }
-    if g.nodes() + count < MOST && g.edges() + 2 * count < MOST {
-        Some(count)
-    } else {
-        None
-    }
-}
 
 // Whether the edges have exactly so many border vertices. No sum is formed.
 fn has_borders(g: &CGraph, count: usize) -> bool
@@ -55,10 +33,7 @@ pub struct Scratch {
     pub(crate) edges: usize,
     pub(crate) clusters: usize,
     pub(crate) borders: usize,
-    pub(crate) first: Vec<usize>,
-    pub(crate) at: Vec<usize>,
-    pub(crate) next: Vec<usize>,
-    pub(crate) begins: Vec<usize>,
+    pub(crate) tables: BorderTables,
     pub(crate) node_counts: Vec<usize>,
     pub(crate) cluster_counts: Vec<usize>,
     pub(crate) dart_marks: Vec<bool>,
@@ -74,30 +49,26 @@ impl Model for Scratch {
 
     ghost view = { λ t. record { nodes = t.nodes; edges = t.edges; clusters = t.clusters; borders = t.borders } };
 
-    ghost invariant = { λ t. HasRoom record { nodes = t.nodes; edges = t.edges; clusters = t.clusters; borders = t.borders } (vec_len t.first) (vec_len t.at) (vec_len t.next) (vec_len t.begins) (vec_len t.node_counts) (vec_len t.cluster_counts) (vec_len t.dart_marks) (vec_len t.marks) (vec_len t.stack) };
+    ghost invariant = { λ t. HasRoom record { nodes = t.nodes; edges = t.edges; clusters = t.clusters; borders = t.borders } t.tables (vec_len t.node_counts) (vec_len t.cluster_counts) (vec_len t.dart_marks) (vec_len t.marks) (vec_len t.stack) };
 }
 
 impl Scratch {
-    // The room for these numbers.
-    fn with_sizes(
+    // The room for these numbers, with tables for as many border vertices as they have places for.
+    fn with_tables(
         alloc: Global,
         nodes: usize,
         edges: usize,
         clusters: usize,
-        borders: usize,
+        tables: BorderTables,
     ) -> Result<Scratch, Memory>
-        requires { AreSmall record { nodes = nodes; edges = edges; clusters = clusters; borders = borders } }
-        ensures { IfOk result (λ s. s ≡ record { nodes = nodes; edges = edges; clusters = clusters; borders = borders }) }
+        requires { HasPlaces nodes edges (length tables.begins) tables }
+        ensures { IfOk result (λ s. s ≡ record { nodes = nodes; edges = edges; clusters = clusters; borders = length tables.begins }) }
     {
+        let borders = tables.borders();
         let vertices = nodes + borders;
-        let darts = 2 * (edges + 2 * borders);
-        let first = vec![in alloc; 0; edges + 1]?;
-        let at = vec![in alloc; 0; darts]?;
-        let next = vec![in alloc; 0; darts]?;
-        let begins = vec![in alloc; 0; borders]?;
         let node_counts = vec![in alloc; 0; nodes]?;
         let cluster_counts = vec![in alloc; 0; clusters]?;
-        let dart_marks = vec![in alloc; false; darts]?;
+        let dart_marks = vec![in alloc; false; 2 * (edges + 2 * borders)]?;
         let marks = vec![in alloc; false; vertices]?;
         let stack = vec![in alloc; 0; vertices]?;
         Ok(Scratch {
@@ -105,10 +76,7 @@ impl Scratch {
             edges,
             clusters,
             borders,
-            first,
-            at,
-            next,
-            begins,
+            tables,
             node_counts,
             cluster_counts,
             dart_marks,
@@ -123,12 +91,8 @@ impl Scratch {
     pub fn for_graph(alloc: Global, g: &CGraph) -> Result<Scratch, Memory>
         ensures { IfOk result (λ s. Fits s g.now) }
     {
-        match border_count(g) {
-            None => Err(Memory),
-            Some(borders) => {
-                Scratch::with_sizes(alloc, g.nodes(), g.edges(), g.clusters(), borders)
-            }
-        }
+        let tables = BorderTables::for_graph(alloc, g)?;
+        Scratch::with_tables(alloc, g.nodes(), g.edges(), g.clusters(), tables)
     }
 
     /// Whether layouts of the graph can be checked here: it has the same numbers of nodes, edges,

@@ -1,15 +1,15 @@
 -- A bond in the block of a vertex is a bond in the whole graph.
-use Rattle.std.proofs.Common.{◌≡◌, ◌≢◌, ℕ, zero, suc, ◌*◌, ◌/◌, ◌<◌, ◌⊎◌, ◌↔◌, Bool, true, ◌&&◌, List, [], ◌∷◌, length, get_or, sym, refl, ap, ◌∙◌, subst, inl, inr, ⊎_elim, arith}
+use Rattle.std.proofs.Common.{◌≡◌, ◌≢◌, ℕ, zero, suc, ◌/◌, ◌<◌, Bool, true, ◌&&◌, List, [], ◌∷◌, length, get_or, sym, refl, ap, ◌∙◌, subst, inl, inr, ⊎_elim, arith}
 use Rattle.std.specs.List.{Contains, filter}
 use Rattle.std.proofs.lemmas.Bool.{cases_eq, and_from, and_parts}
 use Rattle.cp_lists.specs.CyclicLists.{Distinct}
 use Rattle.cp_orbits.specs.Connected.{Joins, Connected, here, step}
 use Rattle.cp_orbits.proofs.ClassLabels.{Connected-more, Connected-sym, Connected-trans}
 use Rattle.cp_conn.specs.Blocks.{HaveNoLoop, HasEdge, AreInOneBlock}
-use Rattle.cp_conn.specs.Bonds.{ConnectedWithout, IsBond, GoesOn, IsAlong}
+use Rattle.cp_conn.specs.Bonds.{ConnectedWithout, IsBond, IsAlong}
 use Rattle.cp_conn.specs.CutVertex.{avoids, without_vertex}
-use Rattle.cp_conn.specs.Darts.{start, finish}
-use Rattle.cp_conn.specs.NamedGraphs.{NamedGraph, pairs, ends_at, edges_at, far, only, rank, IsBlockOf, IsCut}
+use Rattle.cp_conn.specs.Darts.{finish}
+use Rattle.cp_conn.specs.NamedGraphs.{NamedGraph, pairs, edges_at, far, only, rank, IsBlockOf, IsCut}
 use Rattle.cp_conn.proofs.BlockClasses.{block-sym, block-trans}
 use Rattle.cp_conn.proofs.BlockPaths.{path_in_block}
 use Rattle.cp_conn.proofs.CutBlocks.{one_block_uncut}

@@ -1,12 +1,12 @@
 -- A number for the block of each edge, so that to be in one block is a test.
-use Rattle.std.proofs.Common.{◌≡◌, ℕ, zero, suc, ◌+◌, ◌<◌, ◌⊎◌, ◌↔◌, Bool, true, ◌&&◌, ◌||◌, eqb, List, [], ◌∷◌, ◌++◌, length, get_or, sym, refl, ap, ap₂, ◌∙◌, subst, inl, inr, ⊎_elim, arith}
+use Rattle.std.proofs.Common.{◌≡◌, ℕ, zero, suc, ◌<◌, ◌⊎◌, ◌↔◌, Bool, true, ◌&&◌, ◌||◌, eqb, List, [], ◌∷◌, ◌++◌, length, get_or, sym, refl, ap, ◌∙◌, subst, inl, inr, ⊎_elim, arith}
 use Rattle.std.specs.List.{Contains, filter}
 use Rattle.std.proofs.lemmas.Bool.{cases_eq, eq-eqb, eqb-true, and_from, and_parts, or_cases, or_left, or_right}
 use Rattle.std.proofs.lemmas.List.Elements.{Contains-append_left, Contains-append_right, Contains-append_cases}
 use Rattle.cp_orbits.specs.Classes.{labels}
 use Rattle.cp_orbits.specs.Connected.{Joins, Connected, here, step}
 use Rattle.cp_orbits.proofs.ClassLabels.{Contains-head, Contains-tail, Contains-cons_cases, connected_labels, labels_connected}
-use Rattle.cp_conn.specs.Blocks.{HaveNoLoop, AreInOneBlock, Touches}
+use Rattle.cp_conn.specs.Blocks.{HaveNoLoop, AreInOneBlock}
 use Rattle.cp_conn.specs.CutVertex.{without_vertex}
 use Rattle.cp_conn.specs.Grouping.{touches, other_end}
 use Rattle.cp_conn.proofs.BlockClasses.{block_connected, connected_block}
@@ -39,7 +39,7 @@ abbrev pub meeting_pairs : List (ℕ × ℕ) → List (ℕ × ℕ)
 meeting_pairs es = filter (meet es) (number_pairs (length es) (length es))
 
 -- a number for the block of edge e: the least edge that is in one block with it
-pub block_of : List (ℕ × ℕ) → ℕ → ℕ
+unfoldable pub block_of : List (ℕ × ℕ) → ℕ → ℕ
 block_of es e = labels (meeting_pairs es) e
 
 -- each number below n is paired with e

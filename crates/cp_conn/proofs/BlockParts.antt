@@ -1,8 +1,8 @@
 -- Blocks of a graph that stands in another one: where with each edge its whole block is there, the blocks are the same.
-use Rattle.std.proofs.Common.{◌≡◌, ℕ, zero, suc, ◌+◌, ◌-◌, ◌*◌, ◌/◌, ◌<◌, ◌≤◌, ◌⊎◌, ◌↔◌, List, [], ◌∷◌, length, get_or, sym, refl, ap, ◌∙◌, subst, subst₂, inl, inr, ⊎_elim, arith}
+use Rattle.std.proofs.Common.{◌≡◌, ℕ, zero, suc, ◌+◌, ◌-◌, ◌*◌, ◌/◌, ◌<◌, ◌↔◌, List, [], ◌∷◌, length, get_or, sym, refl, ap, ◌∙◌, subst, subst₂, inl, inr, ⊎_elim, arith}
 use Rattle.cp_base.specs.Graphs.{AreWithin}
 use Rattle.cp_orbits.specs.Connected.{Joins}
-use Rattle.cp_conn.specs.Blocks.{IsSimpleCycle, HasEdge, AreInOneBlock}
+use Rattle.cp_conn.specs.Blocks.{IsSimpleCycle, AreInOneBlock}
 use Rattle.cp_conn.specs.Darts.{start, finish}
 use Rattle.cp_conn.proofs.DartChains.{dart_at, dart_joins, finish_within, Joins-sym, start_within}
 use Rattle.cp_conn.proofs.OneBlock.{Joins_cases}

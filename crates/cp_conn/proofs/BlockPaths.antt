@@ -1,9 +1,9 @@
 -- A block stays connected where a vertex is removed, and a simple path between two of its vertices lies in it.
-use Rattle.std.proofs.Common.{◌≡◌, ◌≢◌, ℕ, ◌*◌, ◌/◌, ◌<◌, ◌⊎◌, List, [], ◌∷◌, length, get_or, sym, refl, ap, ◌∙◌, subst, inl, inr, ⊎_elim, arith}
+use Rattle.std.proofs.Common.{◌≡◌, ◌≢◌, ℕ, ◌/◌, ◌<◌, List, [], ◌∷◌, length, get_or, sym, ap, ◌∙◌, subst, ⊎_elim, arith}
 use Rattle.std.proofs.lemmas.Bool.{cases_eq}
 use Rattle.cp_orbits.specs.Classes.{labels}
 use Rattle.cp_orbits.specs.Connected.{Joins, Connected, here}
-use Rattle.cp_orbits.proofs.ClassLabels.{Connected-sym, Connected-trans, connected_labels, labels_connected}
+use Rattle.cp_orbits.proofs.ClassLabels.{Connected-sym, Connected-trans, connected_labels}
 use Rattle.cp_conn.specs.Blocks.{HaveNoLoop, AreInOneBlock, HasEdge}
 use Rattle.cp_conn.specs.CutVertex.{avoids, without_vertex}
 use Rattle.cp_conn.specs.Darts.{start, finish}

@@ -1,12 +1,10 @@
 -- The parts of the edges at a vertex, by the components of what is left without it, are its blocks.
-use Rattle.std.proofs.Common.{◌≡◌, ℕ, ◌+◌, ◌<◌, ◌≤◌, ◌⊎◌, ◌↔◌, Bool, true, false, ◌||◌, eqb, List, [], length, get_or, sym, refl, ap, ◌∙◌, subst, inl, inr, ⊎_elim, arith}
-use Rattle.std.proofs.lemmas.Bool.{cases_eq, eq-eqb, eqb-true, ne_eqb, false≢true}
+use Rattle.std.proofs.Common.{◌≡◌, ℕ, ◌+◌, ◌<◌, ◌≤◌, ◌↔◌, true, List, [], length, get_or, sym, ap, ◌∙◌, subst, arith}
 use Rattle.cp_base.specs.Graphs.{AreWithin}
 use Rattle.cp_orbits.specs.Classes.{labels}
-use Rattle.cp_orbits.specs.Connected.{Joins}
 use Rattle.cp_conn.specs.CutVertex.{without_vertex}
 use Rattle.cp_conn.specs.Grouping.{touches, other_end, key_of, AreGrouped, IsPlaced, IsPut}
-use Rattle.cp_conn.specs.Blocks.{HaveNoLoop, AreInOneBlock, Touches, AreBlocksAt, item}
+use Rattle.cp_conn.specs.Blocks.{HaveNoLoop, AreInOneBlock, AreBlocksAt, item}
 use Rattle.cp_conn.proofs.EdgeEnds.{touches_true, touches_of, other_joins, other_differs, other_within}
 use Rattle.cp_conn.proofs.OneBlock.{one_block_at}
 use Rattle.cp_conn.proofs.Grouping.{AreGrouped-put, IsPlaced-put, place-le}

@@ -1,19 +1,18 @@
 -- Bonds on graphs alone: what each edge of the one pole leads to at the other, and bonds of equal degrees
 -- (Bläsius, Fink, Rutter 2021).
-use Rattle.std.proofs.Common.{◌≡◌, ◌≢◌, ℕ, ◌<◌, ◌≤◌, ◌⊎◌, ◌↔◌, Bool, true, false, cond, eqb, List, [], ◌∷◌, length, sym, refl, ap, ◌∙◌, subst, inl, inr, ⊎_elim, arith}
+use Rattle.std.proofs.Common.{◌≡◌, ℕ, ◌<◌, ◌≤◌, ◌↔◌, Bool, true, false, cond, eqb, List, [], ◌∷◌, length, sym, refl, ap, ◌∙◌, subst, inl, inr, ⊎_elim, arith}
 use Rattle.std.specs.List.{Contains, filter}
 use Rattle.std.proofs.lemmas.Bool.{cases_eq, eq-eqb, eqb-true, false≢true}
-use Rattle.cp_lists.specs.CyclicLists.{Has, Distinct, head_or}
+use Rattle.cp_lists.specs.CyclicLists.{Distinct, head_or}
 use Rattle.cp_lists.proofs.DistinctLists.{Has-Contains}
 use Rattle.cp_lists.proofs.FilteredLists.{filter-Distinct}
 use Rattle.cp_orbits.specs.Classes.{labels}
-use Rattle.cp_orbits.specs.Connected.{Connected}
-use Rattle.cp_orbits.proofs.ClassLabels.{Connected-sym, Connected-trans, Connected-more, Contains-head, Contains-tail, Contains-cons_cases, connected_labels, labels_connected}
+use Rattle.cp_orbits.proofs.ClassLabels.{Connected-sym, Connected-trans, Connected-more, Contains-head, Contains-cons_cases, connected_labels, labels_connected}
 use Rattle.cp_conn.specs.Bonds.{ConnectedWithout, IsBond, GoesOn, IsAlong}
 use Rattle.cp_conn.specs.CutVertex.{avoids, without_vertex}
 use Rattle.cp_conn.specs.NamedGraphs.{NamedGraph, pairs, ends_at, edges_at, far}
 use Rattle.cp_conn.proofs.CutVertices.{kept_of, kept_pair, removed_alone}
-use Rattle.cp_conn.proofs.DistinctSubsets.{injected_length, injected_full}
+use Rattle.cp_conn.proofs.DistinctSubsets.{injected_length}
 use Rattle.cp_conn.proofs.NamedGraphs.{far_back, far_edges_at, edges_at-Contains}
 
 -- the order in which two vertices are removed plays no part

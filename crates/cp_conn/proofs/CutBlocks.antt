@@ -1,6 +1,6 @@
 -- Cut vertices and blocks: the components that the edges of a vertex enter once it is removed are its blocks
 -- (Whitney 1932; Hopcroft, Tarjan 1973).
-use Rattle.std.proofs.Common.{◌≡◌, ◌≢◌, ℕ, ◌<◌, ◌⊎◌, ◌↔◌, List, length, get_or, subst, sym, inl, inr, ⊎_elim}
+use Rattle.std.proofs.Common.{ℕ, ◌<◌, ◌⊎◌, ◌↔◌, List, length, get_or, subst, sym, inl, inr, ⊎_elim}
 use Rattle.cp_orbits.specs.Connected.{Joins, Connected}
 use Rattle.cp_orbits.proofs.ClassLabels.{connected_labels, labels_connected, connected_cases}
 use Rattle.cp_conn.specs.Blocks.{HaveNoLoop, AreInOneBlock, Touches}

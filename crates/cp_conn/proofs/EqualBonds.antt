@@ -1,6 +1,6 @@
 -- Bonds of equal degrees: along them the edges of the one pole are those of the other, and they can be read from
 -- either side (Bläsius, Fink, Rutter 2021).
-use Rattle.std.proofs.Common.{◌≡◌, ◌≢◌, ℕ, ◌≤◌, ◌⊎◌, List, length, sym, refl, ap, ◌∙◌, subst, inl, inr, ⊎_elim, arith}
+use Rattle.std.proofs.Common.{◌≡◌, ◌≢◌, ℕ, length, sym, ap, ◌∙◌, subst, inr, ⊎_elim, arith}
 use Rattle.std.specs.List.{Contains}
 use Rattle.cp_lists.specs.CyclicLists.{Has, Distinct}
 use Rattle.cp_lists.proofs.DistinctLists.{Has-Contains}

@@ -29,3 +29,4 @@ mod TreeLinks
 mod Deepening
 mod LowPoints
 mod SearchTrees
+mod Samples

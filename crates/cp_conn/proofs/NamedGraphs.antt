@@ -1,5 +1,5 @@
 -- Graphs whose vertices and edges have names: their edges as pairs of ends, and the places of these pairs.
-use Rattle.std.proofs.Common.{◌≡◌, ℕ, ◌<◌, Bool, true, eqb, List, [], ◌∷◌, length, map, get_or, sym, refl, ap, ◌∙◌, subst, inl, inr, ⊎_elim, arith}
+use Rattle.std.proofs.Common.{◌≡◌, ℕ, ◌<◌, ◌↔◌, Bool, true, eqb, List, [], ◌∷◌, length, map, get_or, sym, refl, ap, ◌∙◌, subst, inl, inr, ⊎_elim, arith}
 use Rattle.std.specs.List.{Contains}
 use Rattle.std.proofs.lemmas.Bool.{cases_eq, eq-eqb, eqb-true, ne_eqb, or_cases, or_left, or_right}
 use Rattle.std.proofs.lemmas.List.{get_or-map, length-map}
@@ -7,11 +7,13 @@ use Rattle.std.proofs.lemmas.List.Elements.{Contains-get_or}
 use Rattle.cp_lists.specs.CyclicLists.{Distinct}
 use Rattle.cp_lists.proofs.DistinctLists.{Distinct-once}
 use Rattle.cp_lists.proofs.ExactLists.{place_at, place_is}
-use Rattle.cp_orbits.specs.Connected.{Joins}
+use Rattle.cp_orbits.specs.Connected.{Joins, Connected}
 use Rattle.cp_orbits.proofs.ClassLabels.{Contains-head, Contains-tail, Contains-cons_cases}
 use Rattle.cp_conn.specs.Blocks.{HaveNoLoop}
-use Rattle.cp_conn.specs.NamedGraphs.{NamedGraph, pairs, ends_at, edges_at, far, rank, IsBlockOf}
+use Rattle.cp_conn.specs.CutVertex.{without_vertex}
+use Rattle.cp_conn.specs.NamedGraphs.{NamedGraph, pairs, ends_at, edges_at, far, rank, InOneBlock, IsBlockOf}
 use Rattle.cp_conn.proofs.BlockLabels.{block_of, same_block_of}
+use Rattle.cp_conn.proofs.CutBlocks.{parts_are_blocks}
 use Rattle.cp_conn.proofs.CutVertices.{kept_of, kept_pair}
 use Rattle.cp_conn.proofs.DartChains.{Joins-sym}
 use Rattle.cp_conn.proofs.OneBlock.{Joins-same}
@@ -135,3 +137,12 @@ IsBlockOf-block_test g e none c = record {
         λ b. eq-eqb (block_of (pairs g) (rank g.edges e)) (block_of (pairs g) (rank g.edges f)) (same.1 b),
       );
 }
+
+-- two edges at v are in one block exactly where their far ends are connected without v
+pub InOneBlock_at : (g : NamedGraph) (v e f : ℕ) → HaveNoLoop (pairs g) → Contains (edges_at g v) e
+    → Contains (edges_at g v) f
+    → InOneBlock g e f ↔ Connected (without_vertex v (pairs g)) (far g v e) (far g v f)
+InOneBlock_at g v e f none ce cf =
+    parts_are_blocks (pairs g) v (rank g.edges e) (rank g.edges f) (far g v e) (far g v f) none
+    (pair_of_edge g e (edges_at-Contains g v e ce).0).0 (pair_of_edge g f (edges_at-Contains g v f cf).0).0
+    (pair_joins g v e ce) (pair_joins g v f cf)

@@ -1,5 +1,5 @@
 -- Numbers of classes tell the classes apart.
-use Rattle.std.proofs.Common.{◌≡◌, ℕ, suc, ◌<◌, ◌≤◌, ◌↔◌, List, get_or, sym, refl, subst, ⊎_elim, arith}
+use Rattle.std.proofs.Common.{◌≡◌, ℕ, suc, ◌<◌, ◌≤◌, List, get_or, sym, refl, subst, ⊎_elim, arith}
 use Rattle.std.proofs.lemmas.Bool.{cases_order}
 use Rattle.cp_lists.specs.Count.{count, IsCount}
 use Rattle.cp_lists.proofs.Counting.{IsCount-next_yes, IsCount-unique, IsCount-le, count_higher}

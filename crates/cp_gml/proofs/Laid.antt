@@ -1,5 +1,5 @@
 -- The tokens that a reader finds are those that are laid end to end.
-use Rattle.std.proofs.Common.{◌≡◌, ℕ, suc, ◌+◌, ◌<◌, ◌≤◌, ◌==◌, Bool, true, false, not, cond, ◌&&◌, ◌||◌, inl, inr, List, [], ◌∷◌, ◌++◌, length, take, drop, get_or, Option, Some, None, ℤ, refl, sym, ap, ◌∙◌, subst, arith, append_assoc}
+use Rattle.std.proofs.Common.{◌≡◌, ℕ, suc, ◌+◌, ◌-◌, ◌<◌, ◌≤◌, ◌↔◌, ◌==◌, Bool, true, false, not, cond, ◌&&◌, ◌||◌, inl, inr, List, [], ◌∷◌, ◌++◌, length, take, drop, get_or, Option, Some, None, ℤ, refl, sym, ap, ◌∙◌, subst, arith, append_assoc}
 use Rattle.std.specs.List.{prefix_len, take_while, list_all}
 use Rattle.std.proofs.Math.Numerals.{one-add}
 use Rattle.std.proofs.lemmas.Bool.{eqb-true, eqb-false, ne_eqb}
@@ -9,7 +9,7 @@ use Rattle.std.proofs.lemmas.List.Sums.{prefix_len-le-length, prefix_len_stops}
 use Rattle.cp_gml.specs.Bytes.{is_blank, is_line_end, is_digit, is_sign, is_word_start, is_word_byte, is_number_start, is_number_byte, is_string_byte}
 use Rattle.cp_gml.specs.Numbers.{is_integer, is_real, integer_value}
 use Rattle.cp_gml.specs.Tokens.{Chars, Whole, Other, Sign, Open, Close, Word, Value, Token, Piece, Found, Stops, Ends, gap, piece, string_piece, word_piece, number_piece, number_of, leaf_of, start, place, next, Front}
-use Rattle.cp_gml.specs.Rows.{begins, IsLineEnd, IsGap, none, blank, comment, IsRun, IsOtherNumber, Spells, EndsBefore, IsRow}
+use Rattle.cp_gml.specs.Rows.{begins, IsLineEnd, IsGap, none, blank, comment, IsNumberRun, IsOtherNumber, Spells, EndsBefore, IsRowUpTo, IsRow}
 use Rattle.cp_gml.specs.Trees.{Tree, spelled, depth}
 use Rattle.cp_gml.specs.Lists.{deepest, IsListOf}
 
@@ -170,7 +170,7 @@ module _ (b : ℕ) (bs : List ℕ) where
     within = prefix_len-le-length is_word_byte (b ∷ bs);
   }
 
-  its_run : is_number_start b ≡ true → IsRun (take number_run (b ∷ bs))
+  its_run : is_number_start b ≡ true → IsNumberRun (take number_run (b ∷ bs))
   its_run e = record { first = run_begins is_number_byte is_number_start b bs e (number_first b e); all = run_all is_number_byte (b ∷ bs) }
 
   integer_SpelledBy : (o : Option ℤ) → is_number_start b ≡ true → is_integer (take number_run (b ∷ bs)) ≡ true → integer_value (take number_run (b ∷ bs)) ≡ o
@@ -211,6 +211,24 @@ found_some : (bs : List ℕ) (sign : Sign) (len : ℕ) → piece bs ≡ Found si
 found_some [] sign len e = cc
 found_some (b ∷ bs) sign len e = omega arith
 
+-- a token has bytes
+begun : (class : ℕ → Bool) (bytes : List ℕ) → begins class bytes ≡ true → 0 < length bytes
+begun class [] e = cc
+begun class (b ∷ bs) e = omega arith
+
+spelled_some : (sign : Sign) (word : List ℕ) → Spells sign word → 0 < length word
+spelled_some Open word s = omega (arith, ap length s)
+spelled_some Close word s = omega (arith, ap length s)
+spelled_some (Word key) word s = omega (arith, begun is_word_start key s.1, ap length s.0)
+spelled_some (Value (Chars text)) word s = omega (arith, ap length s.0)
+spelled_some (Value (Whole n)) word s = begun is_number_start word s.0.first
+spelled_some (Value Other) word s = begun is_number_start word s.0.first
+
+pub found_longer : (bs : List ℕ) (sign : Sign) (len : ℕ) → piece bs ≡ Found sign len → 0 < len
+found_longer bs sign len e =
+    let by = found_SpelledBy bs sign len e in
+    omega (arith, spelled_some sign (take len bs) by.spells, length-take-le len bs by.within)
+
 -- only the end of the text is no piece
 string_goes_on : (x : Bool) (sign : Sign) (len : ℕ) → cond x (Stops 2) (Found sign len) ≡ Ends → ⊥
 string_goes_on true sign len e = cc
@@ -237,16 +255,19 @@ ends_empty : (bs : List ℕ) → piece bs ≡ Ends → bs ≡ []
 ends_empty [] e = refl
 ends_empty (b ∷ bs) e = absurd (byte_goes_on b bs (b == 91) (b == 93) (b == 34) (is_word_start b) (is_number_start b) e)
 
--- what a reader finds is laid end to end
-pub IsRow-from_Front : (text : List ℕ) (ts : List Token) (from to : ℕ) → Front text from ts to → next text to ≡ Ends → IsRow from (drop from text) ts
-IsRow-from_Front text [] from to front ends =
-    let bs : List ℕ = drop from text in
+-- where the text ends behind some tokens, only blanks and comments stand there
+gap_to_end : (text : List ℕ) (to : ℕ) → next text to ≡ Ends → IsGap [] (drop to text)
+gap_to_end text to ends =
+    let bs : List ℕ = drop to text in
     let n : ℕ = gap false bs in
-    let here : next text from ≡ Ends = ap (next text) front ∙ ends in
-    let over : drop n bs ≡ [] = drop-drop n from text ∙ ends_empty (drop (place text from) text) here in
+    let over : drop n bs ≡ [] = drop-drop n to text ∙ ends_empty (drop (place text to) text) ends in
     let all : take n bs ≡ bs = sym (append-nil (take n bs)) ∙ ap (λ (xs : List ℕ). take n bs ++ xs) (sym over) ∙ take-append-drop n bs in
     subst (λ (xs : List ℕ). IsGap [] xs) all (subst (λ (xs : List ℕ). IsGap xs (take n bs)) over (gap_parts bs).0)
-IsRow-from_Front text (t ∷ ts) from to front ends =
+
+-- what a reader finds is laid end to end
+pub IsRowUpTo-from_Front : (text : List ℕ) (ts : List Token) (from to : ℕ) → Front text from ts to → IsRowUpTo from (drop from text) ts to (drop to text)
+IsRowUpTo-from_Front text [] from to front = (front, ap (λ (x : ℕ). drop x text) front)
+IsRowUpTo-from_Front text (t ∷ ts) from to front =
     let bs : List ℕ = drop from text in
     let n : ℕ = gap false bs in
     let len : ℕ = front.0 in
@@ -260,7 +281,8 @@ IsRow-from_Front text (t ∷ ts) from to front ends =
     let word_len : length (take len cs) ≡ len = length-take-le len cs by.within in
     let split : take len cs ++ drop len cs ≡ cs = take-append-drop len cs in
     let behind : drop (place text from + len) text ≡ drop len cs = sym (drop-drop len (place text from) text) ∙ ap (drop len) (sym here) in
-    let on : place text from + len ≡ from + length (take n bs) + length (take len cs) = omega (arith, gap_len, word_len) in (
+    let on : place text from + len ≡ from + length (take n bs) + length (take len cs) = omega (arith, gap_len, word_len) in
+    let more = IsRowUpTo-from_Front text ts (place text from + len) to front.3 in (
       take n bs,
       take len cs,
       drop len cs,
@@ -269,7 +291,8 @@ IsRow-from_Front text (t ∷ ts) from to front ends =
       front.1 ∙ ap (λ (x : ℕ). from + x) (sym gap_len),
       by.spells,
       by.ends,
-      subst (λ (x : ℕ). IsRow x (drop len cs) ts) on (subst (λ (xs : List ℕ). IsRow (place text from + len) xs ts) behind (IsRow-from_Front text ts (place text from + len) to front.3 ends)),
+      subst (λ (x : ℕ). IsRowUpTo x (drop len cs) ts to (drop to text)) on
+          (subst (λ (xs : List ℕ). IsRowUpTo (place text from + len) xs ts to (drop to text)) behind more),
     )
 
 -- what is laid end to end is what a reader finds
@@ -358,7 +381,7 @@ string_FoundBefore text rest e =
       starts = (refl, refl);
     }
 
-number_told : (word rest : List ℕ) → IsRun word → begins is_number_byte rest ≡ false → (piece (word ++ rest) ≡ number_of word (length word)) × IsStart (word ++ rest)
+number_told : (word rest : List ℕ) → IsNumberRun word → begins is_number_byte rest ≡ false → (piece (word ++ rest) ≡ number_of word (length word)) × IsStart (word ++ rest)
 number_told [] rest r g = let e : false ≡ true = r.first in cc
 number_told (b ∷ word) rest r g =
     let e : is_number_start b ≡ true = r.first in
@@ -399,30 +422,50 @@ spelled_FoundBefore (Value Other) word rest s e =
     let told = number_told word rest s.0 e in
     record { found = told.0 ∙ other_told word s.1; starts = told.1 }
 
-pub Front-from_IsRow : (text : List ℕ) (ts : List Token) (from : ℕ) → IsRow from (drop from text) ts → (to : ℕ) × Front text from ts to × (next text to ≡ Ends)
-Front-from_IsRow text [] from row =
-    let bs : List ℕ = drop from text in
-    let n : gap false bs ≡ length bs = ap (gap false) (sym (append-nil bs)) ∙ gap_length [] row tt in
-    let over : drop (place text from) text ≡ [] = drop_all (place text from) text (omega (arith, n, length-drop from text)) in
-    (from, refl, ap piece over)
-Front-from_IsRow text (t ∷ ts) from (g, word, rest, split, is_gap, at_is, spells, ends, row) =
+pub Front-from_IsRowUpTo : (text : List ℕ) (ts : List Token) (from to : ℕ) (behind : List ℕ)
+    → IsRowUpTo from (drop from text) ts to behind → Front text from ts to × (drop to text ≡ behind)
+Front-from_IsRowUpTo text [] from to behind row = (row.0, sym (ap (λ (x : ℕ). drop x text) row.0) ∙ row.1)
+Front-from_IsRowUpTo text (t ∷ ts) from to behind (g, word, rest, split, is_gap, at_is, spells, ends, row) =
     let bs : List ℕ = drop from text in
     let before = spelled_FoundBefore t.sign word rest spells ends in
     let n : gap false bs ≡ length g = ap (gap false) split ∙ gap_length (word ++ rest) is_gap before.starts in
     let here : drop (place text from) text ≡ word ++ rest
     = sym (drop-drop (gap false bs) from text) ∙ ap (λ (xs : List ℕ). drop (gap false bs) xs) split ∙ drop_at g (word ++ rest) (gap false bs) (sym n) in
     let found : next text from ≡ Found t.sign (length word) = ap piece here ∙ before.found in
-    let behind : drop (place text from + length word) text ≡ rest = sym (drop-drop (length word) (place text from) text) ∙ ap (drop (length word)) here ∙ drop_at word rest (length word) refl in
+    let left : drop (place text from + length word) text ≡ rest = sym (drop-drop (length word) (place text from) text) ∙ ap (drop (length word)) here ∙ drop_at word rest (length word) refl in
     let on : from + length g + length word ≡ place text from + length word = omega (arith, n) in
-    let more = Front-from_IsRow text ts (place text from + length word)
-    (subst (λ (xs : List ℕ). IsRow (place text from + length word) xs ts) (sym behind) (subst (λ (x : ℕ). IsRow x rest ts) on row)) in
-    (more.0, (length word, at_is ∙ ap (λ (x : ℕ). from + x) (sym n), found, more.1), more.2)
+    let more = Front-from_IsRowUpTo text ts (place text from + length word) to behind
+    (subst (λ (xs : List ℕ). IsRowUpTo (place text from + length word) xs ts to behind) (sym left) (subst (λ (x : ℕ). IsRowUpTo x rest ts to behind) on row)) in
+    ((length word, at_is ∙ ap (λ (x : ℕ). from + x) (sym n), found, more.0), more.1)
+
+-- behind blanks and comments to the end no token stands
+gap_over : (text : List ℕ) (to : ℕ) → IsGap [] (drop to text) → next text to ≡ Ends
+gap_over text to is_gap =
+    let bs : List ℕ = drop to text in
+    let n : gap false bs ≡ length bs = ap (gap false) (sym (append-nil bs)) ∙ gap_length [] is_gap tt in
+    let over : drop (place text to) text ≡ [] = drop_all (place text to) text (omega (arith, n, length-drop to text)) in
+    ap piece over
+
+-- a reader finds these tokens exactly where they are laid end to end, and this rest behind them
+pub found_exactly : (text : List ℕ) (ts : List Token) (from to : ℕ) → Front text from ts to ↔ IsRowUpTo from (drop from text) ts to (drop to text)
+found_exactly text ts from to =
+    (λ front. IsRowUpTo-from_Front text ts from to front, λ row. (Front-from_IsRowUpTo text ts from to (drop to text) row).0)
+
+-- the blanks and comments that a reader passes are those that stand there
+pub passed_gap : (text : List ℕ) (at : ℕ) → IsGap (drop (place text at) text) (take (place text at - at) (drop at text))
+passed_gap text at =
+    let bs : List ℕ = drop at text in
+    let one : place text at - at ≡ gap false bs = omega arith in
+    rw one (subst (λ (xs : List ℕ). IsGap xs (take (gap false bs) bs)) (drop-drop (gap false bs) at text) (gap_parts bs).0)
 
 -- a text has a list exactly where it is laid out of the tokens of one that is not too deep
 pub list_laid_out : (text : List ℕ) (t : Tree) → IsListOf text t → IsRow (start text) (drop (start text) text) (spelled t) × (depth t ≤ deepest)
-list_laid_out text t a = (IsRow-from_Front text (spelled t) (start text) a.to a.cut a.ends, a.shallow)
+list_laid_out text t a = (
+  record { to = a.to; behind = drop a.to text; row = IsRowUpTo-from_Front text (spelled t) (start text) a.to a.cut; gap = gap_to_end text a.to a.ends },
+  a.shallow,
+)
 
 pub laid_out_list : (text : List ℕ) (t : Tree) → IsRow (start text) (drop (start text) text) (spelled t) → depth t ≤ deepest → IsListOf text t
 laid_out_list text t row shallow =
-    let front = Front-from_IsRow text (spelled t) (start text) row in
-    record { to = front.0; cut = front.1; ends = front.2; shallow = shallow }
+    let front = Front-from_IsRowUpTo text (spelled t) (start text) row.to row.behind row.row in
+    record { to = row.to; cut = front.0; ends = gap_over text row.to (subst (λ (xs : List ℕ). IsGap [] xs) (sym front.1) row.gap); shallow = shallow }

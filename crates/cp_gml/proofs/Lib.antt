@@ -1,8 +1,11 @@
-pub mod Alike
-pub mod Fronts
-pub mod Laid
-pub mod Reading
+-- for callers: facts about the definitions
+pub mod Outcomes
 pub mod Same
 pub mod Spelling
 pub mod Unique
-pub mod Viable
+-- what the proofs of this crate rest on
+mod Alike
+mod Fronts
+mod Laid
+mod Reading
+mod Viable

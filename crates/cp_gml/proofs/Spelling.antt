@@ -11,10 +11,12 @@ use Rattle.cp_gml.specs.Lists.{deepest}
 use Rattle.cp_gml.specs.Machine.{State, state, run}
 use Rattle.cp_gml.proofs.Fronts.{run-append, opened_below}
 
+-- the tree of a row is that of its entries
 pub tree_of_row-items : {m : _} (row : Row_of-Entry m) → tree_of_row row ≡ tree (items-the_row-Entry m row)
 tree_of_row-items end_of-Entry = refl
 tree_of_row-items (more_of-Entry key key_at value value_at rest) = ap (with_value key key_at value value_at) (tree_of_row-items rest)
 
+-- a list with its key is a node of the tree
 pub with_list-tree : (key : List ℕ) (key_at : ℕ) (list : GmlList) (at : ℕ) (rest : Tree) → with_list key key_at list at rest ≡ node key key_at at (tree (out-GmlList list).entries) (out-GmlList list).end rest
 unfolding out-GmlList out
 with_list-tree key key_at (GmlList' n row end) at rest =
@@ -31,6 +33,7 @@ spelled-with_value key key_at (Nested inner) at rest =
     ∙ ap (λ (ts : List Token). token (Word key) key_at ∷ token Open at ∷ ts) (sym (append_assoc (spelled (tree (out-GmlList inner).entries)) (token Close (out-GmlList inner).end ∷ []) (spelled rest)))
     ∙ ap (λ (t : Tree). spelled t ++ spelled rest) (sym (with_list-tree key key_at inner at nil))
 
+-- how deep a value with its key is, before a rest
 pub depth-with_value : (key : List ℕ) (key_at : ℕ) (value : GmlValue) (at : ℕ) (rest : Tree)
     → depth (with_value key key_at value at rest) ≡ max (depth (with_value key key_at value at nil)) (depth rest)
 depth-with_value key key_at (Int n) at rest = omega arith
@@ -39,6 +42,7 @@ depth-with_value key key_at (Str text) at rest = omega arith
 depth-with_value key key_at (Nested inner) at rest =
     rw (with_list-tree key key_at inner at rest, with_list-tree key key_at inner at nil) (omega arith)
 
+-- entries one behind the other are spelled one behind the other
 pub spelled-tree-append : (es fs : List Entry) → spelled (tree (es ++ fs)) ≡ spelled (tree es) ++ spelled (tree fs)
 spelled-tree-append [] fs = refl
 spelled-tree-append (e ∷ es) fs =
@@ -47,6 +51,7 @@ spelled-tree-append (e ∷ es) fs =
     ∙ sym (append_assoc (spelled (with_value e.key e.key_at e.value e.value_at nil)) (spelled (tree es)) (spelled (tree fs)))
     ∙ ap (λ (ts : List Token). ts ++ spelled (tree fs)) (sym (spelled-with_value e.key e.key_at e.value e.value_at (tree es)))
 
+-- and are as deep as the deeper ones
 pub depth-tree-append : (es fs : List Entry) → depth (tree (es ++ fs)) ≡ max (depth (tree es)) (depth (tree fs))
 depth-tree-append [] fs = omega arith
 depth-tree-append (e ∷ es) fs =

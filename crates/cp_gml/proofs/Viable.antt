@@ -1,5 +1,5 @@
 -- The rows of tokens that run are those that begin some list that is not too deep.
-use Rattle.std.proofs.Common.{◌≡◌, ℕ, zero, suc, ◌+◌, ◌≤◌, Bool, true, false, cond, ltb, List, [], ◌∷◌, ◌++◌, Option, Some, None, refl, sym, ap, ◌∙◌, arith, append_assoc}
+use Rattle.std.proofs.Common.{◌≡◌, ℕ, zero, suc, ◌+◌, ◌≤◌, Bool, true, false, cond, ltb, List, [], ◌∷◌, ◌++◌, Option, Some, None, refl, sym, ap, ◌∙◌, arith, subst, append_assoc, append-nil}
 use Rattle.std.proofs.lemmas.Bool.{ltb-true}
 use Rattle.cp_gml.specs.Tokens.{Leaf, Other, Token, token, Sign, Open, Close, Word, Value, Piece, Found, Stops, Ends, start, place, next}
 use Rattle.cp_gml.specs.Trees.{Tree, nil, leaf, node, spelled, depth}
@@ -71,25 +71,37 @@ abbrev waiting : Bool → List ℕ → ℕ → List Token
 waiting true key key_at = token (Word key) key_at ∷ []
 waiting false key key_at = []
 
--- some rest goes on with these tokens
-record Completes (level : ℕ) (front ts : List Token) : Type 0 where
+-- some rest goes on with these tokens, and ends with them where they end in the state s of a whole list
+record Completes (s : State) (level : ℕ) (front ts : List Token) : Type 0 where
   rest : Rest
   more : List Token
   spells : spelled_rest rest ≡ front ++ (ts ++ more)
   levels_are : levels rest ≡ level
   shallow : IsShallow rest
+  done : s ≡ state 0 false → more ≡ []
+
+some_same : (s u : State) → Some s ≡ Some u → s ≡ u
+some_same s u e = cc
 
 none_runs : (ts : List Token) (s : State) → run None ts ≡ Some s → ⊥
 none_runs [] s e = cc
 none_runs (t ∷ ts) s e = none_runs ts s e
 
-no_tokens : (due : Bool) (level : ℕ) (key : List ℕ) (key_at : ℕ) → level ≤ deepest → Completes level (waiting due key key_at) []
+no_level : (level : ℕ) → state level false ≡ state 0 false → spelled_rest (empties level) ≡ []
+no_level zero e = refl
+no_level (suc level) e = let same : suc level ≡ 0 = ap (λ (u : State). u.level) e in absurd (omega (arith, same))
+
+none_due : (level : ℕ) → state level true ≡ state 0 false → ⊥
+none_due level e = let same : true ≡ false = ap (λ (u : State). u.due) e in cc
+
+no_tokens : (due : Bool) (level : ℕ) (key : List ℕ) (key_at : ℕ) → level ≤ deepest → Completes (state level due) level (waiting due key key_at) []
 no_tokens false level key key_at h = record {
   rest = empties level;
   more = spelled_rest (empties level);
   spells = refl;
   levels_are = levels-empties level;
   shallow = shallow_empties level h;
+  done = no_level level;
 }
 no_tokens true level key key_at h = record {
   rest = prepend (leaf key key_at Other 0) (empties level);
@@ -97,13 +109,14 @@ no_tokens true level key key_at h = record {
   spells = spelled-prepend_leaf key key_at 0 Other (empties level);
   levels_are = levels-prepend (leaf key key_at Other 0) (empties level) ∙ levels-empties level;
   shallow = shallow_leaf key key_at 0 Other (empties level) (shallow_empties level h);
+  done = λ e. absurd (none_due level e);
 }
 
 module _ (at : ℕ) (ts : List Token) (s : State) where
   abbrev Behind : Type 0
-  Behind = (u : State) (key : List ℕ) (key_at : ℕ) → u.level ≤ deepest → run (Some u) ts ≡ Some s → Completes u.level (waiting u.due key key_at) ts
+  Behind = (u : State) (key : List ℕ) (key_at : ℕ) → u.level ≤ deepest → run (Some u) ts ≡ Some s → Completes s u.level (waiting u.due key key_at) ts
 
-  close_token : (level : ℕ) → level ≤ deepest → Behind → run (closed level) ts ≡ Some s → Completes level [] (token Close at ∷ ts)
+  close_token : (level : ℕ) → level ≤ deepest → Behind → run (closed level) ts ≡ Some s → Completes s level [] (token Close at ∷ ts)
   close_token zero h behind e = absurd (none_runs ts s e)
   close_token (suc level) h behind e =
       let c = behind (state level false) [] 0 (omega arith) e in
@@ -113,51 +126,55 @@ module _ (at : ℕ) (ts : List Token) (s : State) where
         spells = ap (λ (us : List Token). token Close at ∷ us) c.spells;
         levels_are = ap suc c.levels_are;
         shallow = (omega (arith, c.levels_are), c.shallow);
+        done = c.done;
       }
 
-  value_token : (value : Leaf) (level : ℕ) (key : List ℕ) (key_at : ℕ) → Completes level [] ts → Completes level (token (Word key) key_at ∷ []) (token (Value value) at ∷ ts)
+  value_token : (value : Leaf) (level : ℕ) (key : List ℕ) (key_at : ℕ) → Completes s level [] ts → Completes s level (token (Word key) key_at ∷ []) (token (Value value) at ∷ ts)
   value_token value level key key_at c = record {
     rest = prepend (leaf key key_at value at) c.rest;
     more = c.more;
     spells = spelled-prepend_leaf key key_at at value c.rest ∙ ap (λ (us : List Token). token (Word key) key_at ∷ token (Value value) at ∷ us) c.spells;
     levels_are = levels-prepend (leaf key key_at value at) c.rest ∙ c.levels_are;
     shallow = shallow_leaf key key_at at value c.rest c.shallow;
+    done = c.done;
   }
 
-  nested_rest : (level : ℕ) (key : List ℕ) (key_at : ℕ) (r : Rest) (more : List Token) → spelled_rest r ≡ ts ++ more → levels r ≡ suc level → IsShallow r
-      → Completes level (token (Word key) key_at ∷ []) (token Open at ∷ ts)
-  nested_rest level key key_at (last t) more spells levels_are shallow = absurd (omega (arith, levels_are))
-  nested_rest level key key_at (inside t end r) more spells levels_are shallow = record {
+  nested_rest : (level : ℕ) (key : List ℕ) (key_at : ℕ) (r : Rest) (more : List Token) → spelled_rest r ≡ ts ++ more → levels r ≡ suc level → IsShallow r → (s ≡ state 0 false → more ≡ [])
+      → Completes s level (token (Word key) key_at ∷ []) (token Open at ∷ ts)
+  nested_rest level key key_at (last t) more spells levels_are shallow done = absurd (omega (arith, levels_are))
+  nested_rest level key key_at (inside t end r) more spells levels_are shallow done = record {
     rest = prepend (node key key_at at t end) r;
     more = more;
     spells = spelled-prepend_node key key_at at t end r ∙ ap (λ (us : List Token). token (Word key) key_at ∷ token Open at ∷ us) spells;
     levels_are = levels-prepend (node key key_at at t end) r ∙ omega (arith, levels_are);
     shallow = shallow_node key key_at at t end r shallow;
+    done = done;
   }
 
   open_token : (level : ℕ) (key : List ℕ) (key_at : ℕ) → Behind → (b : Bool) → ltb level deepest ≡ b → run (cond b (Some (state (suc level) false)) None) ts ≡ Some s
-      → Completes level (token (Word key) key_at ∷ []) (token Open at ∷ ts)
+      → Completes s level (token (Word key) key_at ∷ []) (token Open at ∷ ts)
   open_token level key key_at behind false below e = absurd (none_runs ts s e)
   open_token level key key_at behind true below e =
       let lt = ltb-true level deepest below in
       let c = behind (state (suc level) false) [] 0 (omega (arith, lt)) e in
-      nested_rest level key key_at c.rest c.more c.spells c.levels_are c.shallow
+      nested_rest level key key_at c.rest c.more c.spells c.levels_are c.shallow c.done
 
   one_token : (due : Bool) (sign : Sign) (level : ℕ) (key : List ℕ) (key_at : ℕ) → level ≤ deepest → Behind → run (step due sign level) ts ≡ Some s
-      → Completes level (waiting due key key_at) (token sign at ∷ ts)
+      → Completes s level (waiting due key key_at) (token sign at ∷ ts)
   one_token false Open level key key_at h behind e = absurd (none_runs ts s e)
   one_token false Close level key key_at h behind e = close_token level h behind e
   one_token false (Word k) level key key_at h behind e =
       let c = behind (state level true) k at h e in
-      record { rest = c.rest; more = c.more; spells = c.spells; levels_are = c.levels_are; shallow = c.shallow }
+      record { rest = c.rest; more = c.more; spells = c.spells; levels_are = c.levels_are; shallow = c.shallow; done = c.done }
   one_token false (Value value) level key key_at h behind e = absurd (none_runs ts s e)
   one_token true Open level key key_at h behind e = open_token level key key_at behind (ltb level deepest) refl e
   one_token true Close level key key_at h behind e = absurd (none_runs ts s e)
   one_token true (Word k) level key key_at h behind e = absurd (none_runs ts s e)
   one_token true (Value value) level key key_at h behind e = value_token value level key key_at (behind (state level false) [] 0 h e)
 
-completes : (ts : List Token) (s u : State) (key : List ℕ) (key_at : ℕ) → u.level ≤ deepest → run (Some u) ts ≡ Some s → Completes u.level (waiting u.due key key_at) ts
-completes [] s u key key_at h e = no_tokens u.due u.level key key_at h
+completes : (ts : List Token) (s u : State) (key : List ℕ) (key_at : ℕ) → u.level ≤ deepest → run (Some u) ts ≡ Some s → Completes s u.level (waiting u.due key key_at) ts
+completes [] s u key key_at h e =
+    subst (λ (x : State). Completes x u.level (waiting u.due key key_at) []) (some_same u s e) (no_tokens u.due u.level key key_at h)
 completes (t ∷ ts) s u key key_at h e = one_token t.at ts s u.due t.sign u.level key key_at h (completes ts s) e
 
 viable_rest : (ts : List Token) (r : Rest) (more : List Token) → spelled_rest r ≡ ts ++ more → levels r ≡ 0 → IsShallow r → IsViable ts
@@ -168,6 +185,17 @@ pub IsViable-from_run : (ts : List Token) (s : State) → run (Some (state 0 fal
 IsViable-from_run ts s e =
     let c = completes ts s (state 0 false) [] 0 (omega arith) e in
     viable_rest ts c.rest c.more c.spells c.levels_are c.shallow
+
+whole_rest : (ts : List Token) (r : Rest) (more : List Token) → spelled_rest r ≡ ts ++ more → more ≡ [] → levels r ≡ 0 → IsShallow r → IsWhole ts
+whole_rest ts (last t) more spells none levels_are shallow =
+    record { whole = t; spells = spells ∙ ap (λ (us : List Token). ts ++ us) none ∙ append-nil ts; shallow = shallow }
+whole_rest ts (inside t end r) more spells none levels_are shallow = absurd (omega (arith, levels_are))
+
+-- tokens that run to the state of a whole list are one
+pub IsWhole-from_run : (ts : List Token) → run (Some (state 0 false)) ts ≡ Some (state 0 false) → IsWhole ts
+IsWhole-from_run ts e =
+    let c = completes ts (state 0 false) (state 0 false) [] 0 (omega arith) e in
+    whole_rest ts c.rest c.more c.spells (c.done refl) c.levels_are c.shallow
 
 pub run_whole : (t : Tree) → depth t ≤ deepest → run (Some (state 0 false)) (spelled t) ≡ Some (state 0 false)
 run_whole t shallow = run-spelled t 0 (omega (arith, shallow))
@@ -224,9 +252,6 @@ due_run (t ∷ ts) u s e = due_first (step u.due t.sign u.level) (is_word t.sign
 
 pub is_value_due-run : (ts : List Token) (s : State) → run (Some (state 0 false)) ts ≡ Some s → s.due ≡ is_value_due ts
 is_value_due-run ts s e = due_run ts (state 0 false) s e ∙ due_behind-none ts
-
-some_same : (s u : State) → Some s ≡ Some u → s ≡ u
-some_same s u e = cc
 
 not_done : (s : State) → s ≡ state 0 false → is_done s.due s.level ≡ false → ⊥
 not_done s e unfinished = let done : is_done s.due s.level ≡ true = ap (λ (u : State). is_done u.due u.level) e in cc

@@ -25,7 +25,7 @@ pub data IsGap (rest : List ℕ) : List ℕ → Type 0 where
       → IsGap rest (35 ∷ body ++ gap)
 
 -- a run of bytes of numbers
-pub record IsRun (bytes : List ℕ) : Type 0 where
+pub record IsNumberRun (bytes : List ℕ) : Type 0 where
   pub first : begins is_number_start bytes ≡ true
   pub all : list_all is_number_byte bytes ≡ true
 
@@ -40,8 +40,8 @@ Spells Open bytes = bytes ≡ 91 ∷ []
 Spells Close bytes = bytes ≡ 93 ∷ []
 Spells (Word key) bytes = (bytes ≡ key) × (begins is_word_start key ≡ true) × (list_all is_word_byte key ≡ true)
 Spells (Value (Chars text)) bytes = (bytes ≡ 34 ∷ text ++ 34 ∷ []) × (list_all is_string_byte text ≡ true)
-Spells (Value (Whole n)) bytes = IsRun bytes × (is_integer bytes ≡ true) × (integer_value bytes ≡ Some n)
-Spells (Value Other) bytes = IsRun bytes × IsOtherNumber bytes
+Spells (Value (Whole n)) bytes = IsNumberRun bytes × (is_integer bytes ≡ true) × (integer_value bytes ≡ Some n)
+Spells (Value Other) bytes = IsNumberRun bytes × IsOtherNumber bytes
 
 -- a word and a number are as long as they can be: what follows does not go on with them
 abbrev pub EndsBefore : Sign → List ℕ → Type 0
@@ -52,11 +52,18 @@ EndsBefore (Value (Chars text)) rest = Unit {0}
 EndsBefore (Value (Whole n)) rest = begins is_number_byte rest ≡ false
 EndsBefore (Value Other) rest = begins is_number_byte rest ≡ false
 
--- these bytes, of which the first stands at some offset, are blanks, comments and these tokens, each at
--- its offset
-abbrev pub IsRow : ℕ → List ℕ → List Token → Type 0
-IsRow at bytes [] = IsGap [] bytes
-IsRow at bytes (t ∷ ts) =
+-- these bytes, of which the first stands at some offset, begin with these tokens, each at its offset and behind
+-- blanks and comments; the last token ends before another offset, and behind it stands the rest
+abbrev pub IsRowUpTo : ℕ → List ℕ → List Token → ℕ → List ℕ → Type 0
+IsRowUpTo at bytes [] to behind = (at ≡ to) × (bytes ≡ behind)
+IsRowUpTo at bytes (t ∷ ts) to behind =
     (gap : List ℕ) × (word : List ℕ) × (rest : List ℕ) × (bytes ≡ gap ++ (word ++ rest))
     × IsGap (word ++ rest) gap × (t.at ≡ at + length gap) × Spells t.sign word × EndsBefore t.sign rest
-    × IsRow (at + length gap + length word) rest ts
+    × IsRowUpTo (at + length gap + length word) rest ts to behind
+
+-- these bytes are these tokens, each at its offset, with blanks and comments before, between and behind them
+pub record IsRow (at : ℕ) (bytes : List ℕ) (ts : List Token) : Type 0 where
+  pub to : ℕ
+  pub behind : List ℕ
+  pub row : IsRowUpTo at bytes ts to behind
+  pub gap : IsGap [] behind

@@ -3,7 +3,7 @@ use Rattle.std.proofs.Common.{◌≡◌, ◌≢◌, ℕ, ◌<◌, ◌≤◌, Lis
 use Rattle.std.specs.Io.KnownBytes.{Appends, Consumes, IsAtEnd}
 use Rattle.std.proofs.KnownBytes.{Consumes-all}
 use Rattle.std.proofs.lemmas.Option.{IfSome_then}
-use Rattle.cp_io.specs.Answered.{WroteAnswer, WroteAnswerFront}
+use Rattle.cp_io.specs.Answered.{FailedReading, WroteAnswer, WroteAnswerFront}
 use Rattle.cp_io.specs.Causes.{Rose}
 use Rattle.cp_io.specs.Streams.{Took, TookFront}
 
@@ -39,14 +39,14 @@ wrote answers left old new end failed shown text cases whole is went =
     (text, subst (λ e. IfSome left (λ bytes. answers bytes e text)) (sym same) is, whole went)
 
 -- a front of the text of an answer
-pub wrote_front : {E : Type 0} (answers : List ℕ → E → List ℕ → Type 0) (line : List ℕ) (left old new : Option (List ℕ)) (before now low high : ℕ) (end failed shown : E) (text : List ℕ)
+pub wrote_front : {E : Type 0} (answers : List ℕ → E → List ℕ → Type 0) (line : List ℕ) (left behind old new : Option (List ℕ)) (before now low high : ℕ) (end failed shown : E) (text : List ℕ)
     → (shown ≡ failed → Rose low high × TookFront old new text) → IfSome left (λ bytes. answers bytes end text)
-    → shown ≡ failed → Rose low high × WroteAnswerFront answers line left before now old new
-wrote_front answers line left old new before now low high end failed shown text fault is went =
+    → shown ≡ failed → Rose low high × WroteAnswerFront answers line left behind before now old new
+wrote_front answers line left behind old new before now low high end failed shown text fault is went =
     ((fault went).0, (text, inl (IfSome_then left is (λ bytes a. (end, a))), (fault went).1))
 
 -- a front of the line of a read fault
-pub fault_front : {E : Type 0} (answers : List ℕ → E → List ℕ → Type 0) (line : List ℕ) (left old new : Option (List ℕ)) (before now low high : ℕ) (failed shown : E)
-    → (shown ≡ failed → Rose low high × TookFront old new line) → Rose before now
-    → shown ≡ failed → Rose low high × WroteAnswerFront answers line left before now old new
-fault_front answers line left old new before now low high failed shown fault rose went = ((fault went).0, (line, inr (rose, refl), (fault went).1))
+pub fault_front : {E : Type 0} (answers : List ℕ → E → List ℕ → Type 0) (line : List ℕ) (left behind old new : Option (List ℕ)) (before now low high : ℕ) (failed shown : E)
+    → (shown ≡ failed → Rose low high × TookFront old new line) → FailedReading left behind before now
+    → shown ≡ failed → Rose low high × WroteAnswerFront answers line left behind before now old new
+fault_front answers line left behind old new before now low high failed shown fault failure went = ((fault went).0, (line, inr (failure, refl), (fault went).1))

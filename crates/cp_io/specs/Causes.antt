@@ -1,5 +1,5 @@
 -- That a failure has a cause: a count of the device's faults, which no caller can raise.
-use Rattle.std.specs.Prelude.{ℕ, ◌+◌, ◌-◌, ◌^◌, ◌≤◌, min, Result, OnErr}
+use Rattle.std.specs.Prelude.{◌≡◌, ℕ, ◌+◌, ◌-◌, ◌^◌, ◌≤◌, min, Result, OnErr, OnOk}
 
 -- the count that follows n; it stands still at its type's end
 abbrev pub next_count : ℕ → ℕ
@@ -9,7 +9,8 @@ next_count n = min (n + 1) (2 ^ 64 - 1)
 abbrev pub Rose : ℕ → ℕ → Type 0
 Rose before now = next_count before ≤ now
 
--- the count does not fall, and after an error it rose
+-- the count does not fall; after an error it rose, and else it is as it was
 pub record HasCause {T E : Type 0} (before now : ℕ) (result : Result T E) : Type 0 where
   pub later : before ≤ now
+  pub kept : OnOk result (now ≡ before)
   pub failed : OnErr result (Rose before now)

@@ -1,4 +1,6 @@
+-- what contracts rest on
 pub mod Causes
 pub mod Streams
 pub mod Answered
+pub mod Commands
 pub mod Fakes

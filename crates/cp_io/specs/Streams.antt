@@ -1,6 +1,7 @@
 -- What was taken from a source and what was given to a sink, where they tell their bytes.
 use Rattle.std.specs.Prelude.{◌≡◌, ℕ, ◌<◌, ◌≤◌, List, ◌++◌, length, Option, Result, Ok, Err}
 use Rattle.std.specs.Io.KnownBytes.{Appends, Consumes, IsAtEnd}
+use Rattle.cp_io.specs.Causes.{Rose}
 use Rattle.cp_io.specs.declared.whole.ReadEnd.{ReadEnd}
 use Rattle.cp_io.specs.declared.whole.ReadEnd.TheVariants as ends
 
@@ -23,3 +24,10 @@ ReadTo view most old new (Ok v) = Consumes old new (view v) × IsAtEnd new × (l
 ReadTo view most old new (Err ends.Fault) = Took old new (λ bytes. length bytes ≤ most)
 ReadTo view most old new (Err ends.TooLong) = Took old new (λ bytes. most < length bytes)
 ReadTo view most old new (Err ends.Memory) = Took old new (λ _. Unit {0})
+
+-- the count of a source's faults rose where reading ended with a fault, and else is as it was
+abbrev pub CountsFault : {V : Type 0} → ℕ → ℕ → Result V ReadEnd → Type 0
+CountsFault before now (Ok v) = now ≡ before
+CountsFault before now (Err ends.Fault) = Rose before now
+CountsFault before now (Err ends.TooLong) = now ≡ before
+CountsFault before now (Err ends.Memory) = now ≡ before

@@ -3,6 +3,7 @@
 //! readers and writers of std.
 #![tactic(auto)]
 
+mod command;
 mod copies;
 mod mem_sink;
 mod mem_source;
@@ -12,6 +13,7 @@ mod std_source;
 mod streams;
 mod whole;
 
+pub use command::{Command, Ends, run_command};
 pub use mem_sink::MemSink;
 pub use mem_source::MemSource;
 pub use std_sink::StdSink;
@@ -21,3 +23,5 @@ pub use whole::{MOST_BYTES, ReadEnd, read_all, tell, write_all};
 
 #[cfg(test)]
 mod tests;
+#[cfg(test)]
+mod tests_of_adapters;

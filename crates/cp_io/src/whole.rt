@@ -1,8 +1,8 @@
 // Reading all of a source and writing all of a text.
-ghost use Rattle.std.specs.Prelude.{◌≡◌, ◌≢◌, ◌≤◌, ◌⊎◌, IsTrue, IsErrOf, OnErr, OnOk};
+ghost use Rattle.std.specs.Prelude.{◌≡◌, ◌≢◌, ◌≤◌, ◌⊎◌, IsTrue, OnErr, OnOk};
 ghost use Rattle.std.specs.Io.KnownBytes.{Appends};
 ghost use Rattle.cp_io.specs.Causes.{HasCause, Rose};
-ghost use Rattle.cp_io.specs.Streams.{ReadTo, TookFront};
+ghost use Rattle.cp_io.specs.Streams.{CountsFault, ReadTo, TookFront};
 
 use crate::streams::{Failed, Sink, Source};
 use std::alloc::{AllocError, Global};
@@ -44,7 +44,7 @@ impl From<AllocError> for ReadEnd {
 pub fn read_all<S: Source>(alloc: Global, source: &mut S) -> Result<Vec<u8>, ReadEnd>
     ensures bytes { ReadTo (λ v. v.items) MOST_BYTES (S.left source.old) (S.left source.new) result }
     ensures later { S.faults source.old ≤ S.faults source.new }
-    ensures fault { IsErrOf result ReadEnd.Fault → Rose (S.faults source.old) (S.faults source.new) }
+    ensures cause { CountsFault (S.faults source.old) (S.faults source.new) result }
 {
     let mut piece = [0u8; PIECE];
     let mut bytes = Vec::new(alloc);
@@ -82,6 +82,7 @@ pub fn tell<K: Sink, E: Copy>(sink: &mut K, text: &[u8], end: E, failed: E) -> E
     ensures cases { (result ≡ end) ⊎ (result ≡ failed) }
     ensures whole { result ≢ failed → Appends (K.taken sink.old) (K.taken sink.new) text.now }
     ensures finished { result ≢ failed → IsTrue (K.finished sink.new) }
+    ensures kept { result ≢ failed → K.faults sink.new ≡ K.faults sink.old }
     ensures fault { result ≡ failed → Rose (K.faults sink.old) (K.faults sink.new) × TookFront (K.taken sink.old) (K.taken sink.new) text.now }
 {
     match write_all(sink, text) {

@@ -6,18 +6,18 @@ use Rattle.cp_orbits.specs.Orbits.{Permutes}
 use Rattle.cp_orbits.proofs.ClassLabels.{Connected-labels, labels-respects, same_labels}
 use Rattle.cp_orbits.proofs.OrbitLaws.{Respects-graph, graph_agree, walk}
 use Rattle.cp_faces.specs.Faces.{ends_upto, face_upto}
+use Rattle.cp_faces.specs.Twins.{twin}
 use Rattle.cp_faces.proofs.Faces.{vertex-orbit}
 use Rattle.cp_faces.proofs.Renaming.{ends-respects}
+use Rattle.cp_faces.proofs.Twins.{twin-below}
 use Rattle.cp_rot.specs.Genus.{InOneFace, Joined, end_pairs, face_step}
 use Rattle.cp_rot.specs.Systems.{IsRotation, System, darts, edges, next, vertex_of}
 use Rattle.cp_rot.proofs.Functions.{Turns-system, face_step-upto, pair_labels}
 use Rattle.cp_rot.proofs.Rotations.{face_step-Permutes}
 use Rattle.cp_rot.proofs.Searches.{joined_darts}
 use Rattle.cp_maps.specs.Genus.{OneFace, OnePart, linked}
-use Rattle.cp_maps.specs.Twins.{twin}
 use Rattle.cp_maps.proofs.Edges.{twin-OnePart}
 use Rattle.cp_maps.proofs.FlatMaps.{linked-from, linked-graph}
-use Rattle.cp_maps.proofs.Twins.{twin-below}
 
 -- two darts of a system are in one face as in its map
 pub system_face : (r : System) → IsRotation r → (x y : ℕ) → x < darts r → y < darts r

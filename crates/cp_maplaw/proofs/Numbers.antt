@@ -2,16 +2,16 @@
 use Rattle.std.proofs.Common.{◌≡◌, ℕ, ◌<◌, List, [], ◌∷◌, sym, ap, ◌∙◌, subst, inl, inr, ⊎_elim, suc, ◌*◌, ◌≤◌, arith, zero, length, ◌↔◌, cond}
 use Rattle.std.proofs.lemmas.Bool.{cases_eq, cond-true, cond-false}
 use Rattle.cp_lists.specs.CyclicLists.{Distinct, Has}
+use Rattle.cp_lists.specs.Rows.{flat}
 use Rattle.cp_lists.proofs.DistinctLists.{Distinct-apart_right, Distinct-append_right, Has-append_cases, Has-append_left, Has-append_right, has_cases, has_lacks}
 use Rattle.cp_orbits.specs.Orbits.{Permutes}
-use Rattle.cp_conn.specs.Blocks.{item}
 use Rattle.cp_rot.specs.Genus.{HasGenusZero}
 use Rattle.cp_rot.specs.Rewrites.{system}
 use Rattle.cp_rot.specs.Systems.{IsRotation, System, edges, next}
 use Rattle.cp_rot.proofs.Functions.{Turns-system}
 use Rattle.cp_rot.proofs.ListSystems.{IsRotation-system, Listed, system-edges, system_next}
 use Rattle.cp_maps.specs.Genus.{IsFlat}
-use Rattle.cp_maps.specs.Maps.{IsMapOf, Ring, Rings, flat, has}
+use Rattle.cp_maps.specs.Maps.{IsMapOf, Ring, Rings, has}
 use Rattle.cp_maps.proofs.FlatMaps.{IsFlat-agree}
 use Rattle.cp_maps.proofs.ListFacts.{below_item, has_no, has_yes}
 use Rattle.cp_maps.proofs.MapLists.{IsMapOf-Permutes, IsMapOf-loose}

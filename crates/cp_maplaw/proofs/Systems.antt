@@ -2,13 +2,14 @@
 use Rattle.std.proofs.Common.{◌≡◌, ℕ, ◌<◌, List, ap, ◌∙◌, subst, ⊎_elim, suc, ◌*◌, ◌≤◌, arith, zero, map, ◌↔◌}
 use Rattle.std.proofs.lemmas.Bool.{cases_eq}
 use Rattle.cp_lists.specs.CyclicLists.{Distinct, Has, follow}
+use Rattle.cp_lists.specs.Rows.{flat}
 use Rattle.cp_lists.proofs.DistinctLists.{Distinct-append, Has-append_cases, Has-append_left, Has-append_right, Lacks-from, has_lacks}
 use Rattle.cp_rot.specs.Genus.{HasGenusZero}
 use Rattle.cp_rot.specs.Systems.{IsRotation, System, darts, edges, list_of, next, vertex_of}
 use Rattle.cp_rot.proofs.Functions.{HasGenusZero-from, Turns-system, next-follow, zero_counts}
 use Rattle.cp_rot.proofs.ListSystems.{Listed, Listed-system}
 use Rattle.cp_maps.specs.Genus.{IsFlat, OneGenus}
-use Rattle.cp_maps.specs.Maps.{IsMapOf, Rings, flat}
+use Rattle.cp_maps.specs.Maps.{IsMapOf, Rings}
 use Rattle.cp_maps.specs.Names.{Names}
 use Rattle.cp_maps.proofs.FlatRotations.{flat_from_zero, zero_from_flat}
 use Rattle.cp_maps.proofs.Genus.{OneGenus-IsFlat, OneGenus-sym}
@@ -55,7 +56,7 @@ module _ (v n : ℕ) (at : ℕ → ℕ) (lists : ℕ → List ℕ) (l : Listed v
     rings_upto w (omega arith),
   )
 
-  -- it is the map of the lists
+  -- the function that leads each dart to the next in the list of its vertex is the map of the lists
   pub IsMapOf-Listed : IsMapOf n f (rows_upto lists v)
   IsMapOf-Listed = record {
     once = once_upto v (omega arith);
@@ -66,7 +67,7 @@ module _ (v n : ℕ) (at : ℕ → ℕ) (lists : ℕ → List ℕ) (l : Listed v
         (own_upto v (omega arith) d lt (l.placed d lt)) lacks);
   }
 
--- they are those of its next darts
+-- the map of a rotation system has the lists of its vertices
 pub IsMapOf-system : (r : System) → IsRotation r → IsMapOf (2 * edges r) (next r) (rows_of r)
 IsMapOf-system r is =
     subst (λ n. IsMapOf n (next r) (rows_of r)) is.paired

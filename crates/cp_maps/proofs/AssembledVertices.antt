@@ -2,28 +2,31 @@
 use Rattle.std.proofs.Common.{◌≡◌, ℕ, false, eqb, List, [], ◌∷◌, ◌++◌, sym, refl, ap, ◌∙◌, subst, ⊎_elim, suc, ◌*◌, Bool, lt-suc_self, ◌⊎◌, length}
 use Rattle.std.proofs.lemmas.Bool.{eq-eqb, ne_eqb, false≢true}
 use Rattle.std.specs.List.{filter}
+use Rattle.cp_lists.specs.Crossings.{NoCross}
 use Rattle.cp_lists.specs.CyclicLists.{Distinct, Has, follow}
+use Rattle.cp_lists.specs.Rows.{flat}
 use Rattle.cp_lists.proofs.DistinctLists.{Distinct-apart, Distinct-append, Distinct-append_left, Distinct-append_right, Has-append_cases, Has-append_left, Has-append_right, Lacks-from, has_lacks}
+use Rattle.cp_lists.proofs.FlatLists.{flat-append}
 use Rattle.cp_lists.proofs.TurnedLists.{Has-of_turn, turn-Distinct, turn-Has, turn-sym}
 use Rattle.cp_orbits.specs.Classes.{labels}
 use Rattle.cp_orbits.specs.Orbits.{Permutes}
-use Rattle.cp_maps.specs.Crossings.{EachClassOf, IsUncrossed}
 use Rattle.cp_maps.specs.Genus.{AllApart, Becomes, Evenly, SameGenus, in_part, linked}
 use Rattle.cp_maps.specs.Gluings.{AreCopiesOf, IsAssembled}
-use Rattle.cp_maps.specs.Maps.{Below, IsMapOf, Rings, flat}
+use Rattle.cp_maps.specs.ListClasses.{EachClassOf}
+use Rattle.cp_maps.specs.Maps.{Below, IsMapOf, Rings}
+use Rattle.cp_maps.proofs.AssembledLists.{uncrossed-IsAssembled}
 use Rattle.cp_maps.proofs.Copies.{copies-Has, copies-split}
 use Rattle.cp_maps.proofs.Edges.{twin-OnePart}
 use Rattle.cp_maps.proofs.Genus.{SameGenus-trans}
 use Rattle.cp_maps.proofs.GluedVertices.{concatenated-Becomes}
-use Rattle.cp_maps.proofs.ListFacts.{Below-from, below_item, flat-append}
+use Rattle.cp_maps.proofs.ListFacts.{Below-from, below_item}
 use Rattle.cp_maps.proofs.MapLists.{IsMapOf-Permutes, IsMapOf-among, IsMapOf-bare, IsMapOf-other, IsMapOf-swap, IsMapOf-turn}
 use Rattle.cp_maps.proofs.MergedVertices.{same_lists-SameGenus}
 use Rattle.cp_maps.proofs.Parts.{Evenly-two_parts, Ring-OnePart}
 use Rattle.cp_maps.proofs.Rings.{Rings-append, Rings-append_left, Rings-append_right}
-use Rattle.cp_maps.proofs.Runs.{uncrossed-IsAssembled}
 
 -- an item of a list that is made of copies is one of theirs
-assembled_item : (row : List ℕ) (copies : List (List ℕ)) (d : ℕ) → IsAssembled row copies → Has d row
+pub assembled_item : (row : List ℕ) (copies : List (List ℕ)) (d : ℕ) → IsAssembled row copies → Has d row
     → Has d (flat copies)
 assembled_item row [] d is h = subst (Has d) is h
 assembled_item row (xs ∷ copies) d is h = ⊎_elim
@@ -85,7 +88,7 @@ assembled-Becomes e f row (xs ∷ copies) rows is apart made =
         (subst (Has d) (sym (flat-append copies (xs ∷ rows))) (Has-append_right d (flat copies) (flat (xs ∷ rows)) h))))
 
 -- an item of a copy is one of the list that is made of them
-item_assembled : (row : List ℕ) (copies : List (List ℕ)) (d : ℕ) → IsAssembled row copies → Has d (flat copies)
+pub item_assembled : (row : List ℕ) (copies : List (List ℕ)) (d : ℕ) → IsAssembled row copies → Has d (flat copies)
     → Has d row
 item_assembled row [] d is h = absurd h
 item_assembled row (xs ∷ copies) d is h = turn-Has (xs ++ is.0) row d is.1 (⊎_elim
@@ -94,7 +97,7 @@ item_assembled row (xs ∷ copies) d is h = turn-Has (xs ++ is.0) row d is.1 (�
     (Has-append_cases d xs (flat copies) h))
 
 -- copies that make a distinct list are distinct
-assembled-Distinct : (row : List ℕ) (copies : List (List ℕ)) → IsAssembled row copies → Distinct row
+pub assembled-Distinct : (row : List ℕ) (copies : List (List ℕ)) → IsAssembled row copies → Distinct row
     → Distinct (flat copies)
 assembled-Distinct row [] is dis = tt
 assembled-Distinct row (xs ∷ copies) is dis =
@@ -145,7 +148,7 @@ module _ (e : ℕ) (g : ℕ → ℕ) (perm : Permutes (2 * e) g) (row : List ℕ
 -- copies of a vertex in different components that do not cross in its list, made one: the genus stays
 pub uncrossed_copies-SameGenus : (e : ℕ) (f g : ℕ → ℕ) (row : List ℕ) (copies rows : List (List ℕ))
     → IsMapOf (2 * e) f (row ∷ rows) → IsMapOf (2 * e) g (copies ++ rows) → AreCopiesOf row copies
-    → AllApart e g copies → IsUncrossed (labels (linked g (2 * e) e)) row → SameGenus e g f
+    → AllApart e g copies → NoCross (labels (linked g (2 * e) e)) row → SameGenus e g f
 uncrossed_copies-SameGenus e f g row copies rows is_f is_g are apart uncrossed =
     let perm : Permutes (2 * e) g = IsMapOf-Permutes (2 * e) g (copies ++ rows) is_g in
     let dis_row : Distinct row = is_f.rings.0.distinct in

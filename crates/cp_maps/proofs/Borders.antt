@@ -1,18 +1,19 @@
 -- A border taken away, or put in.
--- the darts inside, with one more
 use Rattle.std.proofs.Common.{◌≡◌, ℕ, List, [], ◌∷◌, ◌++◌, append_assoc, sym, refl, ap, ◌∙◌, subst, ◌*◌, map}
 use Rattle.std.proofs.lemmas.List.{append-nil, reverse-append}
 use Rattle.cp_lists.specs.CyclicLists.{Distinct}
+use Rattle.cp_lists.specs.Rows.{flat}
 use Rattle.cp_lists.proofs.TurnedLists.{turn_parts}
+use Rattle.cp_faces.specs.Twins.{twin}
 use Rattle.cp_maps.specs.Borders.{Place, border_lists, closed_border, inside_darts, last_begin, outside_darts}
 use Rattle.cp_maps.specs.Genus.{Apart, Becomes, CanBeFlat, IsFlat, SameGenus}
-use Rattle.cp_maps.specs.Maps.{Below, IsMapOf, flat, next_by}
-use Rattle.cp_maps.specs.Twins.{twin}
+use Rattle.cp_maps.specs.Maps.{Below, IsMapOf, next_by}
 use Rattle.cp_maps.proofs.ContractedEdges.{contracted_edge-Becomes}
 use Rattle.cp_maps.proofs.CutLoops.{cut_loop-Apart, cut_loop-CanBeFlat, cut_loop-SameGenus}
 use Rattle.cp_maps.proofs.Genus.{SameGenus-IsFlat, SameGenus-sym, SameGenus-trans}
 use Rattle.cp_maps.proofs.MapLists.{IsMapOf-by, IsMapOf-swap, IsMapOf-turn}
 
+-- the darts inside, with one more
 inside-cons : (q : Place) (qs : List Place) (is : List ℕ)
     → inside_darts (q ∷ qs) ++ is ≡ inside_darts qs ++ q.inside ∷ is
 inside-cons q qs is = ap (λ zs. zs ++ is) (reverse-append (q.inside ∷ []) (map (λ p. p.inside) qs))
@@ -68,7 +69,7 @@ border-SameGenus e f g q qs rows is_f is_g apart =
     (subst (λ zs. IsMapOf (2 * e) g (zs ∷ outside_darts (q ∷ qs) ∷ rows)) whole is_g)
     (subst (λ zs. Apart e g zs (outside_darts (q ∷ qs))) whole apart)
 
--- where the darts of the border are fresh, it can be put in
+-- a border whose darts are fresh can be put in between a vertex and another that is apart
 pub border-Becomes : (e : ℕ) (g : ℕ → ℕ) (q : Place) (qs : List Place) (rows : List (List ℕ))
     → IsMapOf (2 * e) g (inside_darts (q ∷ qs) ∷ outside_darts (q ∷ qs) ∷ rows)
     → Apart e g (inside_darts (q ∷ qs)) (outside_darts (q ∷ qs)) → Distinct (flat (closed_border (q ∷ qs) ++ rows))

@@ -1,5 +1,4 @@
 -- Faces and components of a map under other names.
--- a map under names
 use Rattle.std.proofs.Common.{◌≡◌, ℕ, ◌<◌, ◌≢◌, true, false, eqb, sym, refl, ap, ◌∙◌, inl, inr, ⊎_elim, suc, ◌+◌, ◌*◌, Bool, arith, zero, ◌⊎◌, ◌%◌, ◌↔◌, cond}
 use Rattle.std.proofs.lemmas.Bool.{cases_eq, eq-eqb, ne_eqb, false≢true, cond-true, cond-false, eqb-true, cases_Bool}
 use Rattle.std.specs.Fn.{iterate}
@@ -8,16 +7,17 @@ use Rattle.cp_orbits.specs.Orbits.{Permutes, Reaches}
 use Rattle.cp_orbits.proofs.ClassLabels.{labels-respects, same_labels}
 use Rattle.cp_orbits.proofs.OrbitLaws.{Respects-graph, graph-respects, iterate-below, labels_reached, reached_labels}
 use Rattle.cp_faces.specs.Faces.{face_upto, partner, stands}
+use Rattle.cp_faces.specs.Twins.{twin}
 use Rattle.cp_faces.proofs.Faces.{face_upto-Permutes, stands_at, stands_some}
 use Rattle.cp_faces.proofs.Merges.{face_upto-partner, partner-twin}
 use Rattle.cp_faces.proofs.Renaming.{partner-within}
+use Rattle.cp_faces.proofs.Twins.{twin-below, twin-twin, twin_even}
 use Rattle.cp_maps.specs.Genus.{OneFace, OnePart, linked}
 use Rattle.cp_maps.specs.Names.{Carries, Names}
-use Rattle.cp_maps.specs.Twins.{twin}
 use Rattle.cp_maps.proofs.Edges.{twin-OnePart}
 use Rattle.cp_maps.proofs.FlatMaps.{linked-from, linked-graph}
-use Rattle.cp_maps.proofs.Twins.{twin-below, twin-twin, twin_even}
 
+-- a map under names
 module _ (m e : ℕ) (j f g : ℕ → ℕ) (perm_f : Permutes (2 * m) f) (perm_g : Permutes (2 * e) g) (names : Names m e j)
     (carries : Carries m e j f g) where
   -- the step round the faces under the names

@@ -1,19 +1,20 @@
 -- An edge between two places of one list.
 use Rattle.std.proofs.Common.{◌≡◌, ℕ, ◌<◌, List, [], ◌∷◌, ◌++◌, append_assoc, sym, refl, subst, inl, ◌*◌, arith}
 use Rattle.cp_lists.specs.CyclicLists.{Distinct, Has, Lacks}
+use Rattle.cp_lists.specs.Rows.{flat}
 use Rattle.cp_lists.proofs.DistinctLists.{Distinct-middle, Has-append_left, Has-append_right, Lacks-append, Lacks-append_left, Lacks-append_right, has_other}
 use Rattle.cp_lists.proofs.TurnedLists.{turn_parts}
 use Rattle.cp_orbits.specs.Orbits.{Permutes}
+use Rattle.cp_faces.specs.Twins.{twin}
+use Rattle.cp_faces.proofs.Twins.{twin-other}
 use Rattle.cp_maps.specs.Genus.{OneFace, RaisesGenus, SameGenus}
-use Rattle.cp_maps.specs.Maps.{IsMapOf, flat, swapped}
-use Rattle.cp_maps.specs.Twins.{twin}
+use Rattle.cp_maps.specs.Maps.{IsMapOf, swapped}
 use Rattle.cp_maps.proofs.Edges.{lt_twin, put_edge-RaisesGenus, put_within-SameGenus}
 use Rattle.cp_maps.proofs.Genus.{SameGenus-trans}
 use Rattle.cp_maps.proofs.ListFacts.{below_item}
 use Rattle.cp_maps.proofs.MapLists.{IsMapOf-Permutes, IsMapOf-loose, IsMapOf-merged, IsMapOf-turn, one_vertex}
 use Rattle.cp_maps.proofs.MergedVertices.{same_lists-SameGenus}
 use Rattle.cp_maps.proofs.Swaps.{vertex-OnePart}
-use Rattle.cp_maps.proofs.Twins.{twin-other}
 
 -- an edge between two places of a list
 module _ (e : ℕ) (f g : ℕ → ℕ) (x a b : ℕ) (xs ys : List ℕ) (rows : List (List ℕ))
@@ -95,14 +96,14 @@ module _ (e : ℕ) (f g : ℕ → ℕ) (x a b : ℕ) (xs ys : List ℕ) (rows : 
       (lt_twin e f perm_f x lt_x) twin_free)))
       is_g
 
-  -- within a face the genus stays
+  -- an edge put in between two places of a list that are in one face keeps the genus
   pub chord_within-SameGenus : OneFace e f a b → SameGenus e f g
   chord_within-SameGenus one =
       SameGenus-trans e f put_in g (put_within-SameGenus e f perm_f x lt_x (is_f.loose x lt_x x_new)
       (is_f.loose (twin x) (lt_twin e f perm_f x lt_x) twin_new) a b is_f.below.0 lt_b x_new.0 twin_new.0
       (has_other b x old b_old x_new) (has_other b (twin x) old b_old twin_new) one) after
 
-  -- else it grows
+  -- an edge put in between two places of a list that are in two faces raises the genus
   pub chord-RaisesGenus : (OneFace e f a b → ⊥) → RaisesGenus e f g
   chord-RaisesGenus two = omega (
     arith,

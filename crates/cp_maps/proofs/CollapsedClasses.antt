@@ -1,23 +1,25 @@
 -- Classes of lists, each connected inside, made one vertex each: what is flat stays flat.
--- a dart that leaves the darts of a list is kept
 use Rattle.std.proofs.Common.{◌≡◌, ℕ, true, List, [], ◌∷◌, ◌++◌, append_assoc, sym, refl, ap, ◌∙◌, subst, ⊎_elim, suc, ◌*◌, Bool, arith, not, length, ◌&&◌, map, ap₂, ◌↔◌}
 use Rattle.std.proofs.lemmas.Bool.{false≢true, cases_Bool}
 use Rattle.std.proofs.lemmas.List.{append-nil}
 use Rattle.std.specs.List.{filter}
 use Rattle.cp_lists.specs.CyclicLists.{Distinct, Has, Lacks}
+use Rattle.cp_lists.specs.Rows.{flat}
 use Rattle.cp_lists.proofs.DistinctLists.{Distinct-apart, Distinct-apart_right, Distinct-append_left, Distinct-append_right, Has-append_left, Has-append_right, Lacks-from}
 use Rattle.cp_lists.proofs.FilteredLists.{Has-filter, filter-Has, filter_agree, filter_all}
+use Rattle.cp_lists.proofs.FlatLists.{flat-append}
+use Rattle.cp_faces.specs.Twins.{twin}
 use Rattle.cp_maps.specs.Classes.{AllGrow, AreClassLists, IsClassList, class_lists}
 use Rattle.cp_maps.specs.Genus.{Becomes, CanBeFlat, IsFlat}
 use Rattle.cp_maps.specs.Gluings.{Grows, HoldsLeaving}
-use Rattle.cp_maps.specs.Maps.{IsMapOf, flat, has}
-use Rattle.cp_maps.specs.Twins.{twin}
+use Rattle.cp_maps.specs.Maps.{IsMapOf, has}
 use Rattle.cp_maps.proofs.CollapsedVertices.{collapsed-Becomes}
 use Rattle.cp_maps.proofs.Genus.{SameGenus-IsFlat}
 use Rattle.cp_maps.proofs.KeptDarts.{kept_darts-CanBeFlat}
-use Rattle.cp_maps.proofs.ListFacts.{flat-append, has_no, has_yes}
+use Rattle.cp_maps.proofs.ListFacts.{has_no, has_yes}
 use Rattle.cp_maps.proofs.MapLists.{IsMapOf-among, IsMapOf-front}
 
+-- a dart that leaves the darts of a list is kept
 abbrev leaves : List ℕ → ℕ → Bool
 leaves all d = not (has d all && has (twin d) all)
 
@@ -61,7 +63,7 @@ leaving_kept zs all d holds = (
   λ w. Has-filter (leaves all) d zs (holds.outward d w.0 w.1) (leaves_yes all d w.1),
 )
 
--- a class made one vertex without loops
+-- a class of lists of a flat map can be made one vertex without loops
 pub collapsed_class-CanBeFlat : (e : ℕ) (f : ℕ → ℕ) (zs : List ℕ) (group rows : List (List ℕ))
     → IsMapOf (2 * e) f (zs ∷ (group ++ rows)) → Grows zs group → IsFlat e f
     → (ws : List ℕ) × CanBeFlat e (ws ∷ rows) × IsClassList (zs, group) ws

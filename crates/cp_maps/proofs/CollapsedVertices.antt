@@ -2,17 +2,18 @@
 use Rattle.std.proofs.Common.{◌≡◌, ℕ, List, [], ◌∷◌, ◌++◌, append_assoc, sym, refl, ap, ◌∙◌, subst, ⊎_elim, ◌*◌}
 use Rattle.std.proofs.lemmas.List.{append-nil}
 use Rattle.cp_lists.specs.CyclicLists.{Distinct, Has, Lacks}
+use Rattle.cp_lists.specs.Rows.{flat}
 use Rattle.cp_lists.proofs.DistinctLists.{Distinct-apart, Distinct-append_right, Has-append_cases, Has-append_left, Has-append_right, Lacks-append_left, Lacks-append_right, Lacks-from, has_lacks}
 use Rattle.cp_lists.proofs.TurnedLists.{turn_parts}
+use Rattle.cp_faces.specs.Twins.{twin}
+use Rattle.cp_faces.proofs.Twins.{twin-twin}
 use Rattle.cp_maps.specs.Genus.{Becomes}
 use Rattle.cp_maps.specs.Gluings.{Grows, HoldsLeaving}
-use Rattle.cp_maps.specs.Maps.{IsMapOf, flat}
-use Rattle.cp_maps.specs.Twins.{twin}
+use Rattle.cp_maps.specs.Maps.{IsMapOf}
 use Rattle.cp_maps.proofs.ContractedEdges.{contracted_edge-Becomes}
 use Rattle.cp_maps.proofs.Genus.{SameGenus-trans}
 use Rattle.cp_maps.proofs.ListFacts.{from_dart, its_item, other_item}
 use Rattle.cp_maps.proofs.MapLists.{IsMapOf-swap, IsMapOf-turn}
-use Rattle.cp_maps.proofs.Twins.{twin-twin}
 
 -- lists that grow from one made one with it: the genus stays, and what leads out is held
 pub collapsed-Becomes : (e : ℕ) (f : ℕ → ℕ) (zs all : List ℕ) (group rows : List (List ℕ))

@@ -2,6 +2,7 @@
 use Rattle.std.proofs.Common.{◌≡◌, ℕ, ◌<◌, ◌≢◌, List, [], ◌∷◌, ◌++◌, append_assoc, sym, refl, ap, ◌∙◌, subst, inl, inr, ⊎_elim, ◌*◌, arith, map}
 use Rattle.std.proofs.lemmas.List.{append-nil}
 use Rattle.cp_lists.specs.CyclicLists.{Distinct, Has, Lacks, but}
+use Rattle.cp_lists.specs.Rows.{flat}
 use Rattle.cp_lists.specs.Turns.{IsTurn}
 use Rattle.cp_lists.proofs.CyclicLists.{next_from_at}
 use Rattle.cp_lists.proofs.DistinctLists.{Distinct-apart, Distinct-apart_right, Distinct-append, Distinct-append_left, Distinct-append_right, Has-append_cases, Has-append_left, Has-append_right, Has-but, Lacks-append, Lacks-append_left, Lacks-append_right, but-Distinct, but-Has, but-Lacks, has_lacks}
@@ -9,17 +10,17 @@ use Rattle.cp_orbits.specs.Classes.{graph, labels}
 use Rattle.cp_orbits.specs.Orbits.{Permutes}
 use Rattle.cp_orbits.proofs.OrbitLaws.{label_step}
 use Rattle.cp_faces.specs.Faces.{face_upto}
+use Rattle.cp_faces.specs.Twins.{twin}
 use Rattle.cp_faces.proofs.Merges.{face_upto-twin}
+use Rattle.cp_faces.proofs.Twins.{twin-below, twin-other, twin-twin}
 use Rattle.cp_maps.specs.Genus.{Becomes, OneFace, SameGenus}
-use Rattle.cp_maps.specs.Maps.{IsMapOf, flat, next_by, swapped}
-use Rattle.cp_maps.specs.Twins.{twin}
+use Rattle.cp_maps.specs.Maps.{IsMapOf, next_by, swapped}
 use Rattle.cp_maps.proofs.Edges.{lt_twin, slid-SameGenus, swapped_pendant-SameGenus}
 use Rattle.cp_maps.proofs.Genus.{SameGenus-sym, SameGenus-trans}
 use Rattle.cp_maps.proofs.ListFacts.{Below-from, Distinct-less, below_item, map-agree}
 use Rattle.cp_maps.proofs.MapLists.{IsMapOf-Permutes, IsMapOf-by, IsMapOf-loose, IsMapOf-merged, IsMapOf-some, IsMapOf-split, IsMapOf-swap, IsMapOf-third, IsMapOf-turn, IsMapOf-unbare, IsMapOf-unloose, other_vertex}
 use Rattle.cp_maps.proofs.MergedVertices.{merged_within-SameGenus, same_lists-SameGenus}
 use Rattle.cp_maps.proofs.NamedLists.{named_front, two_named_front}
-use Rattle.cp_maps.proofs.Twins.{twin-below, twin-other, twin-twin}
 
 -- an edge hung in at a vertex, whose other dart stands alone
 pub pendant-SameGenus : (e : ℕ) (f g : ℕ → ℕ) (x : ℕ) (xs : List ℕ) (rows : List (List ℕ))
@@ -58,7 +59,7 @@ trivial_loop-SameGenus e f g x xs rows is_f is_g =
     (subst (λ y. Lacks y (flat (xs ∷ rows))) (sym (twin-twin x)) far.1))
     (merged_within-SameGenus e hung g x (twin x) [] xs rows is_hung is_g face)
 
--- an edge contracted, or a vertex expanded
+-- an edge contracted, or a vertex expanded, keeps the genus
 pub contracted_edge-SameGenus : (e : ℕ) (f g : ℕ → ℕ) (x : ℕ) (xs ys : List ℕ) (rows : List (List ℕ))
     → IsMapOf (2 * e) f ((x ∷ xs) ∷ (twin x ∷ ys) ∷ rows) → IsMapOf (2 * e) g ((xs ++ ys) ∷ rows) → SameGenus e f g
 contracted_edge-SameGenus e f g x xs [] rows is_f is_g = SameGenus-sym e g f (pendant-SameGenus e g f x xs rows
@@ -103,7 +104,7 @@ contracted_edge-IsMapOf n f x xs ys rows is = IsMapOf-some n f ((x ∷ xs) ∷ (
     (λ k. Has-append_right d xs (twin x ∷ (ys ++ flat rows)) (inr k))
     (Has-append_cases d xs (ys ++ flat rows) (subst (Has d) (append_assoc xs ys (flat rows)) h))))
 
--- an edge contracted
+-- an edge can be contracted: some map with the lists then has the genus
 pub contracted_edge-Becomes : (e : ℕ) (f : ℕ → ℕ) (x : ℕ) (xs ys : List ℕ) (rows : List (List ℕ))
     → IsMapOf (2 * e) f ((x ∷ xs) ∷ (twin x ∷ ys) ∷ rows) → Becomes e f ((xs ++ ys) ∷ rows)
 contracted_edge-Becomes e f x xs ys rows is =

@@ -1,11 +1,13 @@
 -- Two vertices are not joined crosswise to a third in a flat map.
 use Rattle.std.proofs.Common.{ℕ, ◌<◌, ◌≢◌, List, [], ◌∷◌, ◌++◌, append_assoc, sym, refl, ap, ◌∙◌, subst, inl, inr, ⊎_elim, ◌*◌}
 use Rattle.cp_lists.specs.CyclicLists.{Has}
+use Rattle.cp_lists.specs.Rows.{flat}
 use Rattle.cp_lists.proofs.TurnedLists.{turn_parts}
 use Rattle.cp_orbits.specs.Orbits.{Permutes}
+use Rattle.cp_faces.specs.Twins.{twin}
+use Rattle.cp_faces.proofs.Twins.{twin-twin}
 use Rattle.cp_maps.specs.Genus.{Becomes, CanBeFlat, IsFlat}
-use Rattle.cp_maps.specs.Maps.{IsMapOf, flat, next_by}
-use Rattle.cp_maps.specs.Twins.{twin}
+use Rattle.cp_maps.specs.Maps.{IsMapOf, next_by}
 use Rattle.cp_maps.proofs.ContractedEdges.{contracted_edge-Becomes}
 use Rattle.cp_maps.proofs.CutLoops.{cut_loop-Apart}
 use Rattle.cp_maps.proofs.Edges.{twin-OnePart}
@@ -14,7 +16,6 @@ use Rattle.cp_maps.proofs.Genus.{SameGenus-IsFlat}
 use Rattle.cp_maps.proofs.ListFacts.{Distinct-less}
 use Rattle.cp_maps.proofs.MapLists.{IsMapOf-Permutes, IsMapOf-some, IsMapOf-third, IsMapOf-turn, one_vertex}
 use Rattle.cp_maps.proofs.Swaps.{vertex-OnePart}
-use Rattle.cp_maps.proofs.Twins.{twin-twin}
 
 -- four darts at a vertex that two others join crosswise
 crossed_four : (e : ℕ) (f : ℕ → ℕ) (a b c d : ℕ) (rows : List (List ℕ))

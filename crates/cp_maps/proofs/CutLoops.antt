@@ -2,14 +2,16 @@
 use Rattle.std.proofs.Common.{◌≡◌, ℕ, ◌<◌, List, [], ◌∷◌, ◌++◌, append_assoc, sym, refl, ◌∙◌, subst, inl, inr, ⊎_elim, ◌*◌}
 use Rattle.std.proofs.lemmas.Bool.{cases_eq}
 use Rattle.cp_lists.specs.CyclicLists.{Distinct, Has}
+use Rattle.cp_lists.specs.Rows.{flat}
 use Rattle.cp_lists.proofs.DistinctLists.{Has-append_cases, Has-append_left, Has-append_right}
 use Rattle.cp_lists.proofs.TurnedLists.{turn_parts}
 use Rattle.cp_orbits.specs.Classes.{graph, labels}
 use Rattle.cp_orbits.specs.Orbits.{Permutes}
 use Rattle.cp_faces.specs.Faces.{face_upto}
+use Rattle.cp_faces.specs.Twins.{twin}
+use Rattle.cp_faces.proofs.Twins.{twin-twin}
 use Rattle.cp_maps.specs.Genus.{Apart, Becomes, CanBeFlat, IsFlat, OneFace, OnePart, SameGenus}
-use Rattle.cp_maps.specs.Maps.{IsMapOf, flat, next_by, swapped}
-use Rattle.cp_maps.specs.Twins.{twin}
+use Rattle.cp_maps.specs.Maps.{IsMapOf, next_by, swapped}
 use Rattle.cp_maps.proofs.ContractedEdges.{trivial_loop-SameGenus}
 use Rattle.cp_maps.proofs.Edges.{twin-OnePart}
 use Rattle.cp_maps.proofs.EdgesBetween.{edge-RaisesGenus, edge_between-SameGenus, edge_between-one_face, edge_within-two_faces}
@@ -18,9 +20,8 @@ use Rattle.cp_maps.proofs.ListFacts.{Distinct-less}
 use Rattle.cp_maps.proofs.MapLists.{IsMapOf-Permutes, IsMapOf-some, IsMapOf-split, IsMapOf-swap, IsMapOf-turn, IsMapOf-unbare, one_vertex}
 use Rattle.cp_maps.proofs.MergedVertices.{merged-RaisesGenus, merged_within-SameGenus}
 use Rattle.cp_maps.proofs.Swaps.{vertex-OnePart}
-use Rattle.cp_maps.proofs.Twins.{twin-twin}
 
--- a loop cut open
+-- a loop cut open, where what it encloses is apart from the rest, keeps the genus
 pub cut_loop-SameGenus : (e : ℕ) (f g : ℕ → ℕ) (x : ℕ) (xs ys : List ℕ) (rows : List (List ℕ))
     → IsMapOf (2 * e) f ((x ∷ (xs ++ twin x ∷ ys)) ∷ rows) → IsMapOf (2 * e) g (xs ∷ ys ∷ rows) → Apart e g xs ys
     → SameGenus e g f
@@ -119,7 +120,7 @@ cut_loop-Becomes e f x xs ys rows is z =
           (cut_loop-SameGenus e f g x xs ys rows is is_g (cut_loop-Apart e f g x xs ys rows is is_g z)),
     )
 
--- and is flat then
+-- a loop of a flat map can be cut open, and what is left is flat
 pub cut_loop-CanBeFlat : (e : ℕ) (f : ℕ → ℕ) (x : ℕ) (xs ys : List ℕ) (rows : List (List ℕ))
     → IsMapOf (2 * e) f ((x ∷ (xs ++ twin x ∷ ys)) ∷ rows) → IsFlat e f → CanBeFlat e (xs ∷ ys ∷ rows)
 cut_loop-CanBeFlat e f x xs ys rows is z =

@@ -2,12 +2,15 @@
 use Rattle.std.proofs.Common.{◌≡◌, ℕ, List, [], ◌∷◌, ◌++◌, append_assoc, sym, refl, ap, ◌∙◌, subst, inl, inr, ⊎_elim, suc, ◌*◌, arith, zero, ◌↔◌}
 use Rattle.std.proofs.lemmas.List.{append-nil}
 use Rattle.cp_lists.specs.CyclicLists.{Distinct, Has, Lacks}
+use Rattle.cp_lists.specs.Rows.{flat}
 use Rattle.cp_lists.proofs.DistinctLists.{Distinct-apart, Distinct-middle, Has-append_cases, Has-append_left, Has-append_right, Has-split, Lacks-append_left, has_lacks}
 use Rattle.cp_lists.proofs.TurnedLists.{turn_parts}
 use Rattle.cp_orbits.proofs.OrbitLaws.{Permutes-same}
+use Rattle.cp_faces.specs.Twins.{twin}
+use Rattle.cp_faces.proofs.Twins.{twin-twin}
 use Rattle.cp_maps.specs.Genus.{IsFlat, OneGenus}
-use Rattle.cp_maps.specs.Maps.{IsMapOf, flat, next_by}
-use Rattle.cp_maps.specs.Twins.{mirror, twin}
+use Rattle.cp_maps.specs.Maps.{IsMapOf, next_by}
+use Rattle.cp_maps.specs.Mirrors.{mirror}
 use Rattle.cp_maps.proofs.ContractedEdges.{contracted_edge-IsMapOf, contracted_edge-SameGenus}
 use Rattle.cp_maps.proofs.CutLoops.{cut_loop-Apart}
 use Rattle.cp_maps.proofs.Edges.{twin-OnePart}
@@ -15,9 +18,9 @@ use Rattle.cp_maps.proofs.FlatMaps.{IsFlat-agree}
 use Rattle.cp_maps.proofs.Genus.{OneGenus-IsFlat, OneGenus-trans, SameGenus-IsFlat, SameGenus-sym}
 use Rattle.cp_maps.proofs.ListFacts.{Distinct-less}
 use Rattle.cp_maps.proofs.MapLists.{IsMapOf-Permutes, IsMapOf-some, IsMapOf-swap, IsMapOf-turn, IsMapOf-unique, IsMapOf-unloose}
+use Rattle.cp_maps.proofs.Mirrors.{mirror-cons}
 use Rattle.cp_maps.proofs.ParallelEdges.{parallel_edge-IsMapOf, parallel_edge-SameGenus, parallel_edges-SameGenus}
 use Rattle.cp_maps.proofs.Stocks.{loose_edge-OneGenus}
-use Rattle.cp_maps.proofs.Twins.{mirror-cons, twin-twin}
 
 -- loose edges alone are flat
 pub loose_edges-IsFlat : (e : ℕ) → IsFlat e (λ d. d)
@@ -29,7 +32,7 @@ loose_edges-IsFlat e = OneGenus-IsFlat 0 (λ d. d) e (λ d. d) (all e) (omega ar
         OneGenus-trans 0 (λ d. d) k (λ d. d) (suc k) (λ d. d) (all k)
         (loose_edge-OneGenus k (λ d. d) (Permutes-same (2 * suc k)) refl refl)
 
--- two vertices alone with their edges, in reverse orders: they are flat
+-- two vertices that are alone with their edges, in reverse orders, make a flat map
 pub mirrored_dipole-IsFlat : (e : ℕ) (f : ℕ → ℕ) (x : ℕ) (xs : List ℕ)
     → IsMapOf (2 * e) f ((x ∷ xs) ∷ (twin x ∷ mirror xs) ∷ []) → IsFlat e f
 mirrored_dipole-IsFlat e f x xs is =
@@ -91,7 +94,7 @@ no_rest e f x y xs us (b ∷ vs) is back z = absurd (
     lacks : Lacks (twin y) (b ∷ vs)
     lacks = (Distinct-middle (twin y) (xs ++ us) (b ∷ vs) is_g.rings.0.distinct.1).1
 
--- and where they are flat, they are in reverse orders
+-- two vertices that are alone with their edges in a flat map have them in reverse orders
 pub flat_dipole-mirror : (e : ℕ) (f : ℕ → ℕ) (x : ℕ) (xs ys : List ℕ)
     → IsMapOf (2 * e) f ((x ∷ xs) ∷ (twin x ∷ ys) ∷ []) → ((d : ℕ) → Has d xs → Has (twin d) ys)
     → ((d : ℕ) → Has d ys → Has (twin d) xs) → IsFlat e f → ys ≡ mirror xs

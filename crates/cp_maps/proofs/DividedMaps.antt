@@ -1,29 +1,27 @@
 -- Maps in two parts, or in many, with no edge between: flat where the parts are.
--- a map divided by a test with one value on twins and on darts that follow each other, and its two parts
 use Rattle.std.proofs.Common.{◌≡◌, ℕ, ◌<◌, true, false, eqb, List, ◌++◌, sym, ap, ◌∙◌, subst, ⊎_elim, suc, ◌+◌, ◌*◌, ◌≤◌, Bool, arith, zero, ltb, ◌-◌, ◌↔◌, cond}
 use Rattle.std.proofs.lemmas.Bool.{cases_eq, eq-eqb, ne_eqb, false≢true, cond-true, cond-false, cases_lt, cases_Bool, lt-ltb, le-ltb}
 use Rattle.cp_lists.specs.CyclicLists.{Has, Lacks}
+use Rattle.cp_lists.specs.Rows.{flat}
 use Rattle.cp_lists.proofs.DistinctLists.{Lacks-append, Lacks-from, has_cases}
-use Rattle.cp_orbits.specs.Classes.{labels}
+use Rattle.cp_lists.proofs.FlatLists.{flat-append}
 use Rattle.cp_orbits.specs.Orbits.{Permutes}
-use Rattle.cp_orbits.proofs.ClassLabels.{labels-le, labels-respects}
-use Rattle.cp_orbits.proofs.OrbitLaws.{Permutes-same, graph-respects}
-use Rattle.cp_maps.specs.Genus.{IsFlat, OneGenus, in_part, linked}
-use Rattle.cp_maps.specs.Maps.{IsMapOf, flat, only}
+use Rattle.cp_orbits.proofs.OrbitLaws.{Permutes-same}
+use Rattle.cp_faces.specs.Twins.{twin}
+use Rattle.cp_maps.specs.Genus.{IsFlat, OneGenus}
+use Rattle.cp_maps.specs.Maps.{IsMapOf, only}
 use Rattle.cp_maps.specs.Names.{Carries, Names}
-use Rattle.cp_maps.specs.Twins.{twin}
 use Rattle.cp_maps.proofs.Dipoles.{loose_edges-IsFlat}
-use Rattle.cp_maps.proofs.Edges.{twin-OnePart}
 use Rattle.cp_maps.proofs.FewerDarts.{CanBeFlat-IsFlat, first_lists-CanBeFlat, last_lists-CanBeFlat}
-use Rattle.cp_maps.proofs.FlatMaps.{IsFlat-agree, linked-graph}
+use Rattle.cp_maps.proofs.FlatMaps.{IsFlat-agree}
 use Rattle.cp_maps.proofs.FlatUnions.{IsFlat-union, Permutes-union}
 use Rattle.cp_maps.proofs.Genus.{OneGenus-IsFlat, OneGenus-sym}
-use Rattle.cp_maps.proofs.ListFacts.{flat-append}
 use Rattle.cp_maps.proofs.MapLists.{IsMapOf-Permutes}
+use Rattle.cp_maps.proofs.Mirrors.{twin-farther}
 use Rattle.cp_maps.proofs.Names.{Carries-OneGenus}
 use Rattle.cp_maps.proofs.Rings.{Rings-append_left, Rings-append_right, rings_same, rings_stay}
-use Rattle.cp_maps.proofs.Twins.{twin-farther}
 
+-- a map divided by a test with one value on twins and on darts that follow each other, and its two parts
 module _ (e : ℕ) (f one two : ℕ → ℕ) (p : ℕ → Bool) (perm : Permutes (2 * e) f) (perm_one : Permutes (2 * e) one)
     (perm_two : Permutes (2 * e) two) (twins : (d : ℕ) → d < 2 * e → p (twin d) ≡ p d)
     (same_part : (d : ℕ) → d < 2 * e → p (f d) ≡ p d) (in_one : (d : ℕ) → d < 2 * e → p d ≡ true → one d ≡ f d)
@@ -96,13 +94,13 @@ module _ (e : ℕ) (f one two : ℕ → ℕ) (p : ℕ → Bool) (perm : Permutes
         (cases_lt y (2 * e));
   }
 
-  -- so the genus is that of both
+  -- a map divided by a test has the genus of its two parts side by side
   pub divided-OneGenus : OneGenus e f (e + e) both
   divided-OneGenus =
       Carries-OneGenus e (e + e) name f both (omega arith) perm
       (Permutes-union e e one two both perm_one perm_two both_low both_high) names carries
 
-  -- where both parts are flat, the whole is
+  -- a map divided by a test is flat where both parts are
   pub divided_parts-IsFlat : IsFlat e one → IsFlat e two → IsFlat e f
   divided_parts-IsFlat flat_one flat_two =
       OneGenus-IsFlat (e + e) both e f (OneGenus-sym e f (e + e) both divided-OneGenus)
@@ -190,21 +188,11 @@ module _ (e : ℕ) (f : ℕ → ℕ) (class : ℕ → ℕ) (perm : Permutes (2 *
       cond-false (eqb (class d) k) (f d) d (ne_eqb (class d) k (λ s. omega arith)))
       (first-IsFlat k (omega arith)) (each k (omega arith))
 
-  -- where each class alone is flat, the map is
+  -- a map divided into classes is flat where each class alone is
   pub classes-IsFlat : IsFlat e f
   classes-IsFlat =
       IsFlat-agree e (first (2 * e)) f (perm_first (2 * e)) (λ d lt. first_in (2 * e) d (bound d lt))
       (first-IsFlat (2 * e) (omega arith))
-
--- where each component alone is flat, the map is
-pub each_part-IsFlat : (e : ℕ) (f : ℕ → ℕ) → Permutes (2 * e) f
-    → ((c : ℕ) → c < 2 * e → IsFlat e (only (in_part e f c) f)) → IsFlat e f
-each_part-IsFlat e f perm each = classes-IsFlat e f (labels (linked f (2 * e) e)) perm
-    (λ d lt. omega (arith, labels-le (linked f (2 * e) e) d))
-    (λ d lt. twin-OnePart e f perm d lt)
-    (λ d lt. sym (graph-respects (labels (linked f (2 * e) e)) f (2 * e) d
-    (linked-graph (labels (linked f (2 * e) e)) f (2 * e) e (labels-respects (linked f (2 * e) e))) lt))
-    each
 
 -- lists in two parts with no edge between are flat exactly where both parts are
 module _ (e : ℕ) (f one two : ℕ → ℕ) (rows others : List (List ℕ)) (p : ℕ → Bool)
@@ -233,7 +221,7 @@ module _ (e : ℕ) (f one two : ℕ → ℕ) (rows others : List (List ℕ)) (p 
       (has_cases d (flat others)))
       (has_cases d (flat rows))
 
-  -- so they are flat exactly where both parts are
+  -- lists in two parts with no edge between are flat exactly where both parts are
   pub divided-IsFlat : IsFlat e f ↔ (IsFlat e one × IsFlat e two)
   divided-IsFlat = (
     λ z. (

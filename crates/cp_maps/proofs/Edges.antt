@@ -6,15 +6,15 @@ use Rattle.cp_orbits.specs.Orbits.{Permutes, exchange}
 use Rattle.cp_orbits.proofs.ClassLabels.{classes_equal, labels-respects, same_labels}
 use Rattle.cp_orbits.proofs.OrbitLaws.{Respects-graph, exchange-exchange, exchange_case, exchange_left, exchange_other, exchange_right, graph_agree, label_step, orbits_agree}
 use Rattle.cp_faces.specs.Faces.{face_upto, partner}
+use Rattle.cp_faces.specs.Twins.{twin}
 use Rattle.cp_faces.proofs.Faces.{face_upto-Permutes}
 use Rattle.cp_faces.proofs.Merges.{face_upto-partner, face_upto-twin, partner-twin}
+use Rattle.cp_faces.proofs.Twins.{half_twin, same_half, twin-below, twin-other}
 use Rattle.cp_maps.specs.Genus.{RaisesGenus, SameGenus, linked, parts, rounds}
 use Rattle.cp_maps.specs.Maps.{swapped}
-use Rattle.cp_maps.specs.Twins.{twin}
 use Rattle.cp_maps.proofs.FlatMaps.{linked-from, linked-graph, linked-partner}
 use Rattle.cp_maps.proofs.Genus.{SameGenus-trans}
 use Rattle.cp_maps.proofs.Swaps.{Permutes-swapped, face-OnePart, swapped-RaisesGenus, swapped-Respects, swapped-Respects_back, swapped-other_face, swapped-other_part, swapped_apart-OneFace_kept, swapped_apart-OnePart_kept, swapped_apart-SameGenus, swapped_apart-one_face, swapped_apart-one_part, swapped_one-orbits, swapped_one-two_orbits, swapped_two-one_orbit, swapped_two-orbit_kept, swapped_two-orbits, swapped_within_face-SameGenus, swapped_within_face-two_faces, vertex-OnePart}
-use Rattle.cp_maps.proofs.Twins.{half_twin, same_half, twin-below, twin-other}
 
 -- a fixed number is of no other's orbit
 pub fixed_alone : (n : ℕ) (f : ℕ → ℕ) (c d : ℕ) → Permutes n f → c < n → f c ≡ c → d ≢ c
@@ -42,11 +42,11 @@ three_exchanges a b c y ab bc ac = exchange_case (λ z. exchange a c z ≡ excha
 
 -- a map of e edges, and an edge
 module _ (e : ℕ) (f : ℕ → ℕ) (perm : Permutes (2 * e) f) (x : ℕ) (ltx : x < 2 * e) where
-  -- its other dart
+  -- the twin of a dart is a dart
   pub lt_twin : twin x < 2 * e
   lt_twin = twin-below (2 * e) x (omega arith) ltx
 
-  -- both darts are of one component
+  -- the two darts of an edge are of one component
   pub twin-OnePart : labels (linked f (2 * e) e) (twin x) ≡ labels (linked f (2 * e) e) x
   twin-OnePart = ap (labels (linked f (2 * e) e)) (sym (partner-twin e x ltx))
       ∙ linked-partner (labels (linked f (2 * e) e)) f (2 * e) e (labels-respects (linked f (2 * e) e)) x
@@ -69,7 +69,7 @@ module _ (e : ℕ) (f : ℕ → ℕ) (perm : Permutes (2 * e) f) (x : ℕ) (ltx 
         (λ h. ap (λ (y : ℕ). y / 2) (perm.apart z (twin x) lt lt_twin (h ∙ sym loose_twin)) ∙ half_twin x)
         (same_half x (f z) (sym s))
 
-    -- other darts are of other components
+    -- a loose edge is a component of its own: other darts are of other components
     pub loose_edge-two_parts : (d : ℕ) → d ≢ x → d ≢ twin x
         → labels (linked f (2 * e) e) x ≢ labels (linked f (2 * e) e) d
     loose_edge-two_parts d nx nt h = false≢true (
@@ -99,7 +99,7 @@ module _ (e : ℕ) (f : ℕ → ℕ) (perm : Permutes (2 * e) f) (x : ℕ) (ltx 
       abbrev put_in : ℕ → ℕ
       put_in = swapped (twin x) b (swapped x a f)
 
-      -- it is a permutation
+      -- a map with an edge hung in is a permutation
       pub perm_hung : Permutes (2 * e) hung
       perm_hung = Permutes-swapped (2 * e) f perm x a ltx lta
 
@@ -107,7 +107,7 @@ module _ (e : ℕ) (f : ℕ → ℕ) (perm : Permutes (2 * e) f) (x : ℕ) (ltx 
       away : labels (linked f (2 * e) e) x ≢ labels (linked f (2 * e) e) a
       away = loose_edge-two_parts a ax at
 
-      -- the second dart is loose
+      -- the second dart of an edge that is hung in stays loose
       pub still_loose : hung (twin x) ≡ twin x
       still_loose = ap (exchange x a) loose_twin ∙ exchange_other x a (twin x) (twin-other x) (λ h. at (sym h))
 
@@ -128,14 +128,14 @@ module _ (e : ℕ) (f : ℕ → ℕ) (perm : Permutes (2 * e) f) (x : ℕ) (ltx 
           ∙ ap (labels (graph (face_upto hung e) (2 * e))) (face_upto-twin e hung x ltx ∙ still_loose))
           ∙ swapped_apart-one_face e f perm x a ltx lta away
 
-      -- within a face: the genus stays
+      -- an edge put in between two darts of one face keeps the genus
       pub put_within-SameGenus : labels (graph (face_upto f e) (2 * e)) a ≡ labels (graph (face_upto f e) (2 * e)) b
           → SameGenus e f put_in
       put_within-SameGenus one = SameGenus-trans e f hung put_in (swapped_apart-SameGenus e f perm x a ltx lta away)
           (swapped_within_face-SameGenus e hung perm_hung (twin x) b lt_twin ltb alone
           (second_face ∙ swapped_apart-OneFace_kept e f perm x a ltx lta away a b one))
 
-      -- and then its two darts are in different faces
+      -- the two darts of an edge put in within a face are in different faces
       pub put_within-two_faces : labels (graph (face_upto f e) (2 * e)) a ≡ labels (graph (face_upto f e) (2 * e)) b
           → labels (graph (face_upto put_in e) (2 * e)) x ≢ labels (graph (face_upto put_in e) (2 * e)) (twin x)
       put_within-two_faces one h =
@@ -145,14 +145,14 @@ module _ (e : ℕ) (f : ℕ → ℕ) (perm : Permutes (2 * e) f) (x : ℕ) (ltx 
           ∙ ap (labels (graph (face_upto put_in e) (2 * e)))
           (face_upto-twin e put_in x ltx ∙ exchange_left (twin x) b (hung (twin x)) still_loose))
 
-      -- between two components: the genus stays
+      -- an edge put in between two components keeps the genus
       pub put_between-SameGenus : labels (linked f (2 * e) e) a ≢ labels (linked f (2 * e) e) b → SameGenus e f put_in
       put_between-SameGenus two = SameGenus-trans e f hung put_in (swapped_apart-SameGenus e f perm x a ltx lta away)
           (swapped_apart-SameGenus e hung perm_hung (twin x) b lt_twin ltb
           (λ h. two (swapped-other_part e f perm x a ltx lta b a (loose_edge-two_parts b bx bt) two
           (sym second_part ∙ h))))
 
-      -- and then its two darts are in one face
+      -- the two darts of an edge put in between two components are in one face
       pub put_between-one_face : labels (linked f (2 * e) e) a ≢ labels (linked f (2 * e) e) b
           → labels (graph (face_upto put_in e) (2 * e)) x ≡ labels (graph (face_upto put_in e) (2 * e)) (twin x)
       put_between-one_face two =
@@ -163,7 +163,7 @@ module _ (e : ℕ) (f : ℕ → ℕ) (perm : Permutes (2 * e) f) (x : ℕ) (ltx 
           (λ h. two (swapped-other_part e f perm x a ltx lta b a (loose_edge-two_parts b bx bt) two
           (sym second_part ∙ h))))
 
-      -- between two faces of a component: the genus grows
+      -- an edge put in between two faces of one component raises the genus
       pub put_edge-RaisesGenus : labels (linked f (2 * e) e) a ≡ labels (linked f (2 * e) e) b
           → labels (graph (face_upto f e) (2 * e)) a ≢ labels (graph (face_upto f e) (2 * e)) b → RaisesGenus e f put_in
       put_edge-RaisesGenus one two = omega (
@@ -287,6 +287,6 @@ module _ (e : ℕ) (f : ℕ → ℕ) (perm : Permutes (2 * e) f) (x : ℕ) (ltx 
         (swapped-Respects e freed perm_freed x b ltx lt_b old_part (sym twin-OnePart ∙ near)
         (swapped-Respects e f perm (twin x) b lt_twin lt_b old_part near (labels-respects (linked f (2 * e) e))))
 
-    -- so the genus stays
+    -- the darts behind the twin of x moved along the edge, to stand before x, keep the genus
     pub slid-SameGenus : SameGenus e f slid
     slid-SameGenus = omega (arith, slid_vertices, slid_rounds, slid_parts)

@@ -2,19 +2,20 @@
 use Rattle.std.proofs.Common.{◌≡◌, ℕ, ◌<◌, List, [], ◌∷◌, sym, refl, inl, ⊎_elim, ◌*◌, arith, ◌↔◌}
 use Rattle.std.proofs.lemmas.Bool.{cases_eq}
 use Rattle.cp_lists.specs.CyclicLists.{Has, Lacks}
+use Rattle.cp_lists.specs.Rows.{flat}
 use Rattle.cp_lists.proofs.DistinctLists.{Distinct-middle, Has-append_right, Lacks-append, Lacks-append_left, Lacks-append_right, has_other}
 use Rattle.cp_orbits.specs.Classes.{graph, labels}
 use Rattle.cp_orbits.specs.Orbits.{Permutes}
 use Rattle.cp_faces.specs.Faces.{face_upto}
+use Rattle.cp_faces.specs.Twins.{twin}
+use Rattle.cp_faces.proofs.Twins.{twin-other}
 use Rattle.cp_maps.specs.Genus.{IsFlat, OneFace, OnePart, RaisesGenus, SameGenus}
-use Rattle.cp_maps.specs.Maps.{IsMapOf, flat, swapped}
-use Rattle.cp_maps.specs.Twins.{twin}
+use Rattle.cp_maps.specs.Maps.{IsMapOf, swapped}
 use Rattle.cp_maps.proofs.Edges.{lt_twin, put_between-SameGenus, put_between-one_face, put_edge-RaisesGenus, put_within-SameGenus, put_within-two_faces}
 use Rattle.cp_maps.proofs.Genus.{OneFace-agree, RaisesGenus-not_flat, SameGenus-trans}
 use Rattle.cp_maps.proofs.ListFacts.{below_item}
 use Rattle.cp_maps.proofs.MapLists.{IsMapOf-Permutes, IsMapOf-loose, IsMapOf-merged, IsMapOf-swap, IsMapOf-unique}
 use Rattle.cp_maps.proofs.MergedVertices.{same_lists-SameGenus}
-use Rattle.cp_maps.proofs.Twins.{twin-other}
 
 -- an edge between two lists
 module _ (e : ℕ) (f g : ℕ → ℕ) (x a b : ℕ) (xs ys : List ℕ) (rows : List (List ℕ))
@@ -96,13 +97,13 @@ module _ (e : ℕ) (f g : ℕ → ℕ) (x a b : ℕ) (xs ys : List ℕ) (rows : 
   lt_b : b < 2 * e
   lt_b = below_item (2 * e) b old is_f.below b_old
 
-  -- within a face the genus stays
+  -- an edge put in between two lists within one face keeps the genus
   pub edge_within-SameGenus : OneFace e f a b → SameGenus e f g
   edge_within-SameGenus one =
       SameGenus-trans e f put_in g (put_within-SameGenus e f perm_f x lt_x x_loose twin_loose a b is_f.below.0 lt_b
       x_new.0 twin_new.0 (has_other b x old b_old x_new) (has_other b (twin x) old b_old twin_new) one) after
 
-  -- and then the two darts of the edge are in different faces
+  -- the two darts of an edge put in within a face are in different faces
   pub edge_within-two_faces : OneFace e f a b → OneFace e g x (twin x) → ⊥
   edge_within-two_faces one h =
       put_within-two_faces e f perm_f x lt_x x_loose twin_loose a b is_f.below.0 lt_b x_new.0 twin_new.0
@@ -110,13 +111,13 @@ module _ (e : ℕ) (f g : ℕ → ℕ) (x a b : ℕ) (xs ys : List ℕ) (rows : 
       (OneFace-agree e g put_in x (twin x)
       (IsMapOf-unique (2 * e) g ((x ∷ a ∷ xs) ∷ (twin x ∷ b ∷ ys) ∷ rows) is_g put_in is_put) h)
 
-  -- between two components, too
+  -- an edge put in between two lists of two components keeps the genus
   pub edge_between-SameGenus : (OnePart e f a b → ⊥) → SameGenus e f g
   edge_between-SameGenus two =
       SameGenus-trans e f put_in g (put_between-SameGenus e f perm_f x lt_x x_loose twin_loose a b is_f.below.0 lt_b
       x_new.0 twin_new.0 (has_other b x old b_old x_new) (has_other b (twin x) old b_old twin_new) two) after
 
-  -- and then both darts of the edge are in one face
+  -- the two darts of an edge put in between two components are in one face
   pub edge_between-one_face : (OnePart e f a b → ⊥) → OneFace e g x (twin x)
   edge_between-one_face two =
       OneFace-agree e put_in g x (twin x)
@@ -124,7 +125,7 @@ module _ (e : ℕ) (f g : ℕ → ℕ) (x a b : ℕ) (xs ys : List ℕ) (rows : 
       (put_between-one_face e f perm_f x lt_x x_loose twin_loose a b is_f.below.0 lt_b x_new.0 twin_new.0
       (has_other b x old b_old x_new) (has_other b (twin x) old b_old twin_new) two)
 
-  -- else the genus grows
+  -- an edge put in between two lists of one component and two faces raises the genus
   pub edge-RaisesGenus : OnePart e f a b → (OneFace e f a b → ⊥) → RaisesGenus e f g
   edge-RaisesGenus one two =
       omega (

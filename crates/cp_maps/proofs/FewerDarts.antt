@@ -10,7 +10,7 @@ use Rattle.cp_maps.proofs.KeptDarts.{dart_out-IsFlat}
 use Rattle.cp_maps.proofs.ListFacts.{from_dart, other_item}
 use Rattle.cp_maps.proofs.MapLists.{IsMapOf-Permutes, IsMapOf-front, IsMapOf-some, IsMapOf-swap, IsMapOf-third, IsMapOf-turn, IsMapOf-unbare, IsMapOf-unique}
 
--- each map with the lists tells it
+-- lists are plane exactly where each map with these lists is flat
 pub IsPlane-IsFlat : (e : ℕ) (f : ℕ → ℕ) (rows : List (List ℕ)) → IsMapOf (2 * e) f rows
     → IsMapOf (2 * e) (next_by rows) rows → IsFlat e f ↔ IsPlane e rows
 IsPlane-IsFlat e f rows is by = (
@@ -27,7 +27,7 @@ CanBeFlat-IsFlat e f rows is can =
     IsFlat-agree e can.0 f (IsMapOf-Permutes (2 * e) can.0 rows can.1)
     (IsMapOf-unique (2 * e) can.0 rows can.1 f is) can.2
 
--- the first darts of a list taken out
+-- the first darts of a list taken out: it still can be flat
 pub first_out-CanBeFlat : (e : ℕ) (xs zs : List ℕ) (rows : List (List ℕ)) → CanBeFlat e ((xs ++ zs) ∷ rows)
     → CanBeFlat e (zs ∷ rows)
 first_out-CanBeFlat e [] zs rows can = can
@@ -38,7 +38,7 @@ first_out-CanBeFlat e (x ∷ xs) zs rows can =
     first_out-CanBeFlat e xs zs rows
     (next_by less, is, dart_out-IsFlat e can.0 (next_by less) x (xs ++ zs) rows can.1 is can.2)
 
--- a list turned
+-- lists can be flat with the first of them turned
 pub turned-CanBeFlat : (e : ℕ) (xs ys : List ℕ) (rows : List (List ℕ)) → CanBeFlat e ((xs ++ ys) ∷ rows)
     → CanBeFlat e ((ys ++ xs) ∷ rows)
 turned-CanBeFlat e xs ys rows can =
@@ -52,7 +52,7 @@ next_kept-CanBeFlat e a xs zs rows can =
     (subst (λ ws. CanBeFlat e (ws ∷ rows)) (append_assoc xs zs (a ∷ []))
     (turned-CanBeFlat e (a ∷ []) (xs ++ zs) rows can))
 
--- two darts of a list alone
+-- all but two darts of a list taken out: it still can be flat
 pub two_kept-CanBeFlat : (e : ℕ) (a b : ℕ) (xs : List ℕ) (rows : List (List ℕ)) → a ≢ b → Has a xs → Has b xs
     → CanBeFlat e (xs ∷ rows) → CanBeFlat e ((a ∷ b ∷ []) ∷ rows)
 two_kept-CanBeFlat e a b xs rows differ ha hb can =
@@ -65,17 +65,17 @@ two_kept-CanBeFlat e a b xs rows differ ha hb can =
     let two : CanBeFlat e ((b ∷ (t.1 ++ a ∷ [])) ∷ rows) = next_kept-CanBeFlat e a t.0 (b ∷ t.1) rows one in
     next_kept-CanBeFlat e b t.1 (a ∷ []) rows two
 
--- the first two lists in the other order
+-- lists can be flat with the first two in the other order
 pub swapped_lists-CanBeFlat : (e : ℕ) (xs ys : List ℕ) (rows : List (List ℕ)) → CanBeFlat e (xs ∷ ys ∷ rows)
     → CanBeFlat e (ys ∷ xs ∷ rows)
 swapped_lists-CanBeFlat e xs ys rows can = (can.0, IsMapOf-swap (2 * e) can.0 xs ys rows can.1, can.2)
 
--- the third list in front
+-- lists can be flat with the third in front
 pub third_list-CanBeFlat : (e : ℕ) (xs ys zs : List ℕ) (rows : List (List ℕ)) → CanBeFlat e (xs ∷ ys ∷ zs ∷ rows)
     → CanBeFlat e (zs ∷ xs ∷ ys ∷ rows)
 third_list-CanBeFlat e xs ys zs rows can = (can.0, IsMapOf-third (2 * e) can.0 xs ys zs rows can.1, can.2)
 
--- the last lists taken out
+-- the first lists of those that can be flat can be flat
 pub first_lists-CanBeFlat : (e : ℕ) (rows others : List (List ℕ)) → CanBeFlat e (rows ++ others) → CanBeFlat e rows
 first_lists-CanBeFlat e rows [] can = subst (CanBeFlat e) (append-nil rows) can
 first_lists-CanBeFlat e rows (xs ∷ others) can =
@@ -86,7 +86,7 @@ first_lists-CanBeFlat e rows (xs ∷ others) can =
     (subst (λ ws. CanBeFlat e (ws ∷ (rows ++ others))) (sym (append-nil xs)) front) in
     first_lists-CanBeFlat e rows others (bare.0, IsMapOf-unbare (2 * e) bare.0 (rows ++ others) bare.1, bare.2)
 
--- and the first
+-- and so can the last lists
 pub last_lists-CanBeFlat : (e : ℕ) (rows others : List (List ℕ)) → CanBeFlat e (rows ++ others) → CanBeFlat e others
 last_lists-CanBeFlat e [] others can = can
 last_lists-CanBeFlat e (xs ∷ rows) others can =

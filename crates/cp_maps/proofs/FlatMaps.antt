@@ -18,12 +18,12 @@ pub linked-from : {A : Type 0} (g : ℕ → A) (f : ℕ → ℕ) (n i : ℕ) →
 linked-from g f n zero r same = r
 linked-from g f n (suc i) r same = (same i (lt-suc_self i), linked-from g f n i r (λ k lt. same k (omega arith)))
 
--- what respects them has one value on darts that follow each other
+-- what respects the links has one value on darts that follow each other
 pub linked-graph : {A : Type 0} (g : ℕ → A) (f : ℕ → ℕ) (n i : ℕ) → Respects g (linked f n i) → Respects g (graph f n)
 linked-graph g f n zero r = r
 linked-graph g f n (suc i) r = linked-graph g f n i r.1
 
--- and on the darts of each edge
+-- what respects the links has one value on the two darts of each edge
 pub linked-edges : {A : Type 0} (g : ℕ → A) (f : ℕ → ℕ) (n i : ℕ) → Respects g (linked f n i) → (k : ℕ) → k < i
     → g (2 * k) ≡ g (2 * k + 1)
 linked-edges g f n zero r k lt = absurd (omega arith)
@@ -31,12 +31,12 @@ linked-edges g f n (suc i) r k lt =
     ⊎_elim (λ e. ap (λ (j : ℕ). g (2 * j)) e ∙ r.0 ∙ ap (λ (j : ℕ). g (2 * j + 1)) (sym e))
     (λ ne. linked-edges g f n i r.1 k (omega arith)) (cases_eq k i)
 
--- and on partners
+-- what respects the links has one value on partners
 pub linked-partner : {A : Type 0} (g : ℕ → A) (f : ℕ → ℕ) (n i : ℕ) → Respects g (linked f n i) → (d : ℕ)
     → g (partner i d) ≡ g d
 linked-partner g f n i r d = ends_upto-partner g (λ x. x) i d (Respects-ends g (λ x. x) i (linked-edges g f n i r))
 
--- and along the faces
+-- what respects the links has one value along the faces
 pub linked-faces : {A : Type 0} (g : ℕ → A) (f : ℕ → ℕ) (e : ℕ) → Respects g (linked f (2 * e) e)
     → Respects g (graph (face_upto f e) (2 * e))
 linked-faces g f e r = Respects-graph g (face_upto f e) (2 * e) (λ d lt.
@@ -133,7 +133,7 @@ module _ (e : ℕ) (f : ℕ → ℕ) (perm : Permutes (2 * e) f) (a b : ℕ) (lt
           (linked-graph (labels links_after) g (2 * e) e (labels-respects links_after))
           (joined_labels (2 * e) f a b perm lta ltb apart)
 
-  -- so what is flat stays flat
+  -- an exchange of the values at darts of two components keeps a map flat
   pub joined-IsFlat : labels links a ≢ labels links b → IsFlat e f → IsFlat e g
   joined-IsFlat ne flat = let c = joined_counts ne in omega (arith, c.0, c.1, c.2, flat)
 
@@ -155,7 +155,7 @@ module _ (e : ℕ) (f : ℕ → ℕ) (perm : Permutes (2 * e) f) (a b : ℕ) (lt
   undone : (x : ℕ) → x < 2 * e → exchanged split a b x ≡ f x
   undone x lt = ap f (exchange-exchange a b x)
 
-  -- what is flat stays flat where a vertex is split
+  -- an exchange of the values at two darts of one vertex keeps a map flat
   pub split-IsFlat : IsFlat e f → IsFlat e split
   split-IsFlat flat = ⊎_elim
       (λ one.

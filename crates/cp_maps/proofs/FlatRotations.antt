@@ -1,6 +1,6 @@
 -- A rotation is flat by its darts exactly where Euler's formula holds.
 use Rattle.std.proofs.Common.{◌≡◌, ℕ, ◌<◌, true, false, eqb, sym, refl, ap, ◌∙◌, ⊎_elim, suc, ◌+◌, ◌*◌, ◌≤◌, Bool, arith, zero, not, ◌&&◌, ap₂}
-use Rattle.std.proofs.lemmas.Bool.{eq-eqb, ne_eqb, false≢true, eqb-true, cases_Bool, not-true, not_from_true, not_from_false, and_from, and_parts}
+use Rattle.std.proofs.lemmas.Bool.{not-true, eq-eqb, ne_eqb, false≢true, eqb-true, cases_Bool, not_from_true, not_from_false, and_from, and_parts}
 use Rattle.cp_lists.specs.Count.{count}
 use Rattle.cp_lists.proofs.Choices.{choose}
 use Rattle.cp_lists.proofs.Counting.{count_agree, count_inject, count_no, count_yes}
@@ -13,7 +13,7 @@ use Rattle.cp_faces.proofs.Renaming.{Respects-ends, ends-respects}
 use Rattle.cp_maps.specs.Genus.{IsFlat, linked, parts}
 use Rattle.cp_maps.proofs.FlatMaps.{linked-edges, linked-from, linked-graph}
 
--- those that pass a test, by a second test
+-- the numbers that pass a test are those that pass a second as well, and those that do not
 pub count_parts : (n : ℕ) (p q : ℕ → Bool) → count n (λ x. p x && q x) + count n (λ x. p x && not (q x)) ≡ count n p
 count_parts zero p q = refl
 count_parts (suc n) p q = ⊎_elim
@@ -170,11 +170,11 @@ module _ (v e : ℕ) (at next : ℕ → ℕ) (rot : Turns v e at next) where
           same_labels (λ x. links (dart x)) (ends_upto at e) (at c) (at d) dart_respects same in
           sym (eqb-true (links c) c tc) ∙ sym (dart_label c ltc) ∙ one ∙ dart_label d ltd ∙ eqb-true (links d) d td)
 
-  -- where Euler's formula holds it is flat
+  -- a rotation for which Euler's formula holds is flat by its darts
   pub flat_from_zero : v + faces v e at next ≡ e + 2 * components v e at → IsFlat e next
   flat_from_zero sum = omega (arith, sum, components_linked, orbits-bare v (2 * e) at next rot)
 
-  -- and the other way round
+  -- Euler's formula holds for a rotation that is flat by its darts
   pub zero_from_flat : IsFlat e next → v + faces v e at next ≡ e + 2 * components v e at
   zero_from_flat flat =
       omega (arith, flat, components_linked, orbits-bare v (2 * e) at next rot, euler_bound v e at next rot)

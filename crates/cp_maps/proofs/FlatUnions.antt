@@ -25,7 +25,7 @@ module _ (e k : ℕ) (f g h : ℕ → ℕ) (perm_f : Permutes (2 * e) f) (perm_g
       ⊎_elim (one d) (λ q. let all : 2 * e + (d - 2 * e) ≡ d = omega arith in
       subst P all (two (d - 2 * e) (omega arith))) (cases_lt d (2 * e))
 
-  -- the two are a permutation
+  -- two permutations side by side are one
   pub Permutes-union : Permutes (2 * (e + k)) h
   Permutes-union = record {
     below =
@@ -132,6 +132,6 @@ module _ (e k : ℕ) (f g h : ℕ → ℕ) (perm_f : Permutes (2 * e) f) (perm_g
       )) faces-high
       ∙ ap (λ (n : ℕ). n + rounds k g) (orbits_agree (face_upto h (e + k)) (face_upto f e) (2 * e) faces-low)
 
-  -- two flat maps make a flat one
+  -- two flat maps side by side make a flat one
   pub IsFlat-union : IsFlat e f → IsFlat k g → IsFlat (e + k) h
   IsFlat-union flat_f flat_g = omega (arith, parts-union, orbits-union, rounds-union, flat_f, flat_g)

@@ -13,15 +13,15 @@ use Rattle.cp_maps.specs.Genus.{IsFlat, OneFace, OneGenus, OnePart, RaisesGenus,
 use Rattle.cp_maps.proofs.FlatMaps.{linked_agree}
 use Rattle.cp_maps.proofs.FlatRotations.{components_linked}
 
--- so both are flat or none
+-- of two maps of one genus both are flat or none
 pub SameGenus-IsFlat : (e : ℕ) (f g : ℕ → ℕ) → SameGenus e f g → IsFlat e f → IsFlat e g
 SameGenus-IsFlat e f g same flat = omega (arith, same, flat)
 
--- the genus is the same the other way round
+-- equal genus holds the other way round
 pub SameGenus-sym : (e : ℕ) (f g : ℕ → ℕ) → SameGenus e f g → SameGenus e g f
 SameGenus-sym e f g same = sym same
 
--- and over a third
+-- equal genus holds over a third map
 pub SameGenus-trans : (e : ℕ) (f g h : ℕ → ℕ) → SameGenus e f g → SameGenus e g h → SameGenus e f h
 SameGenus-trans e f g h one two = omega (arith, one, two)
 
@@ -35,20 +35,20 @@ SameGenus-agree e f g perm same =
     (λ d lt. face_upto-partner e f d ∙ same (partner e d) (partner-within e d lt) ∙ sym (face_upto-partner e g d)) in
     omega (arith, one, two, three_exchanges)
 
--- so both are flat or none
+-- of two maps of one genus on two stocks of edges both are flat or none
 pub OneGenus-IsFlat : (e : ℕ) (f : ℕ → ℕ) (m : ℕ) (g : ℕ → ℕ) → OneGenus e f m g → IsFlat e f → IsFlat m g
 OneGenus-IsFlat e f m g same flat = omega (arith, same, flat)
 
--- the other way round
+-- equal genus on two stocks holds the other way round
 pub OneGenus-sym : (e : ℕ) (f : ℕ → ℕ) (m : ℕ) (g : ℕ → ℕ) → OneGenus e f m g → OneGenus m g e f
 OneGenus-sym e f m g same = sym same
 
--- over a third
+-- equal genus holds over a map on a third stock
 pub OneGenus-trans : (e : ℕ) (f : ℕ → ℕ) (m : ℕ) (g : ℕ → ℕ) (k : ℕ) (h : ℕ → ℕ) → OneGenus e f m g → OneGenus m g k h
     → OneGenus e f k h
 OneGenus-trans e f m g k h one two = omega (arith, one, two)
 
--- Euler's inequality for maps
+-- Euler's inequality: vertices and faces are at most the edges and twice the components
 pub euler_map : (e : ℕ) (f : ℕ → ℕ) → Permutes (2 * e) f → orbits (2 * e) f + rounds e f ≤ e + 2 * parts e f
 euler_map e f perm =
     omega (
@@ -67,7 +67,7 @@ euler_map e f perm =
       around = λ c d ltc ltd e'. reached_labels (2 * e) f perm c d ltc ltd e';
     }
 
--- so a genus that has grown is not zero
+-- a map whose genus is greater than that of another is not flat
 pub RaisesGenus-not_flat : (e : ℕ) (f g : ℕ → ℕ) → Permutes (2 * e) f → RaisesGenus e f g → IsFlat e g → ⊥
 RaisesGenus-not_flat e f g perm more z = omega (arith, euler_map e f perm, more, z)
 

@@ -1,23 +1,25 @@
 -- Lists of different components put one behind the other, and two vertices glued.
-use Rattle.std.proofs.Common.{◌≡◌, ℕ, ◌≢◌, eqb, List, [], ◌∷◌, ◌++◌, append_assoc, sym, refl, ap, ◌∙◌, subst, inl, inr, ⊎_elim, ◌*◌, map, ap₂, cond, reverse}
+use Rattle.std.proofs.Common.{◌≡◌, ℕ, ◌≢◌, eqb, List, [], ◌∷◌, ◌++◌, append_assoc, sym, refl, ap, ◌∙◌, subst, inl, inr, ⊎_elim, ◌*◌, map, ap₂, reverse}
 use Rattle.std.proofs.lemmas.Bool.{cases_eq, eq-eqb, ne_eqb, cond-true, cond-false}
 use Rattle.std.proofs.lemmas.List.{append-nil, map-append, reverse-append}
 use Rattle.cp_lists.specs.CyclicLists.{Distinct, Has, Lacks}
+use Rattle.cp_lists.specs.Rows.{flat}
 use Rattle.cp_lists.proofs.DistinctLists.{Distinct-apart, Distinct-apart_right, Distinct-append_right, Distinct-middle, Has-append_cases, Has-append_left, Has-append_right, Lacks-append_left, Lacks-append_right, has_lacks}
+use Rattle.cp_lists.proofs.FlatLists.{flat-append, flat-map}
 use Rattle.cp_lists.proofs.MappedLists.{Has-map_on}
 use Rattle.cp_lists.proofs.TurnedLists.{turn_parts}
+use Rattle.cp_faces.specs.Twins.{twin}
+use Rattle.cp_faces.proofs.Twins.{twin-twin}
 use Rattle.cp_maps.specs.Genus.{Apart, Becomes, CanBeFlat, IsFlat}
-use Rattle.cp_maps.specs.Gluings.{onto}
-use Rattle.cp_maps.specs.Maps.{IsMapOf, flat, swapped}
-use Rattle.cp_maps.specs.Twins.{twin}
+use Rattle.cp_maps.specs.Gluings.{in_place, onto}
+use Rattle.cp_maps.specs.Maps.{IsMapOf, swapped}
 use Rattle.cp_maps.proofs.ContractedEdges.{contracted_edge-Becomes}
 use Rattle.cp_maps.proofs.Genus.{SameGenus-IsFlat}
-use Rattle.cp_maps.proofs.ListFacts.{flat-append, from_dart}
+use Rattle.cp_maps.proofs.ListFacts.{from_dart}
 use Rattle.cp_maps.proofs.MapLists.{IsMapOf-among, IsMapOf-bare, IsMapOf-front, IsMapOf-merged, IsMapOf-split, IsMapOf-swap, IsMapOf-turn, IsMapOf-unbare}
 use Rattle.cp_maps.proofs.MergedVertices.{merged_between-SameGenus, split_list-IsFlat}
-use Rattle.cp_maps.proofs.Twins.{twin-twin}
 
--- two lists of different components as one
+-- two lists of different components can be put one behind the other
 pub concatenated-Becomes : (e : ℕ) (f : ℕ → ℕ) (xs ys : List ℕ) (rows : List (List ℕ))
     → IsMapOf (2 * e) f (xs ∷ ys ∷ rows) → Apart e f xs ys → Becomes e f ((xs ++ ys) ∷ rows)
 concatenated-Becomes e f [] ys rows is apart = (f, IsMapOf-unbare (2 * e) f (ys ∷ rows) is, refl)
@@ -68,27 +70,23 @@ pair_split e f a b (c ∷ zs) rows is z =
           (swapped b c f) b c (a ∷ []) zs rows is two z,
     )
 
--- q in place of t
-abbrev in_place : ℕ → ℕ → ℕ → ℕ
-in_place t q d = cond (eqb d t) q d
-
--- another dart stays
-in_place_other : (t q d : ℕ) → d ≢ t → in_place t q d ≡ d
+-- a dart that is not replaced stays
+pub in_place_other : (t q d : ℕ) → d ≢ t → in_place t q d ≡ d
 in_place_other t q d ne = cond-false (eqb d t) q d (ne_eqb d t ne)
 
--- lists without t stay
-lists_stay : (t q : ℕ) (xs : List ℕ) → Lacks t xs → map (in_place t q) xs ≡ xs
+-- a list without the dart that is replaced stays
+pub lists_stay : (t q : ℕ) (xs : List ℕ) → Lacks t xs → map (in_place t q) xs ≡ xs
 lists_stay t q [] l = refl
 lists_stay t q (x ∷ xs) l = ap₂ (λ y ys. y ∷ ys) (in_place_other t q x l.0) (lists_stay t q xs l.1)
 
--- all of them
-rows_stay : (t q : ℕ) (rows : List (List ℕ)) → Lacks t (flat rows) → map (map (in_place t q)) rows ≡ rows
+-- lists without the dart that is replaced stay
+pub rows_stay : (t q : ℕ) (rows : List (List ℕ)) → Lacks t (flat rows) → map (map (in_place t q)) rows ≡ rows
 rows_stay t q [] l = refl
 rows_stay t q (xs ∷ rows) l =
     ap₂ (λ ys zs. ys ∷ zs) (lists_stay t q xs (Lacks-append_left t xs (flat rows) l))
     (rows_stay t q rows (Lacks-append_right t xs (flat rows) l))
 
--- the list that has a dart
+-- a dart in several lists: the list that has it, and where it stands there
 pub flat-split : (d : ℕ) (rows : List (List ℕ)) → Has d (flat rows)
     → (before : List (List ℕ)) × (us : List ℕ) × (vs : List ℕ) × (behind : List (List ℕ))
     × (rows ≡ before ++ (us ++ d ∷ vs) ∷ behind)
@@ -101,7 +99,7 @@ flat-split d (xs ∷ rows) h = ⊎_elim
 -- a vertex of two darts contracted along the edge of one: the other takes the place of its twin
 pub straightened-Becomes : (e : ℕ) (f : ℕ → ℕ) (q p : ℕ) (rows : List (List ℕ))
     → IsMapOf (2 * e) f ((q ∷ p ∷ []) ∷ rows) → Has (twin p) (flat rows)
-    → Becomes e f (map (map (λ d. cond (eqb d (twin p)) q d)) rows)
+    → Becomes e f (map (map (in_place (twin p) q)) rows)
 straightened-Becomes e f q p rows is h = (
   one.0,
   subst (IsMapOf (2 * e) one.0) (sym whole)
@@ -180,8 +178,8 @@ onto_other [] d far = refl
 onto_other (p ∷ ps) d far = cond-false (eqb d (twin p.0)) p.1 (onto ps d) (ne_eqb d (twin p.0) (far p.0 (inl refl)))
     ∙ onto_other ps d (λ c h. far c (inr h))
 
--- a list under two names, one after the other, and under a third that agrees
-maps_agree : (h k l : ℕ → ℕ) (xs : List ℕ) → ((d : ℕ) → Has d xs → k (h d) ≡ l d) → map k (map h xs) ≡ map l xs
+-- a list under two names, one after the other, is a list under a third that agrees
+pub maps_agree : (h k l : ℕ → ℕ) (xs : List ℕ) → ((d : ℕ) → Has d xs → k (h d) ≡ l d) → map k (map h xs) ≡ map l xs
 maps_agree h k l [] same = refl
 maps_agree h k l (x ∷ xs) same = ap₂ (λ y ys. y ∷ ys) (same x (inl refl)) (maps_agree h k l xs (λ d q. same d (inr q)))
 
@@ -192,14 +190,6 @@ rows_agree h k l [] same = refl
 rows_agree h k l (xs ∷ rows) same =
     ap₂ (λ ys zs. ys ∷ zs) (maps_agree h k l xs (λ d q. same d (Has-append_left d xs (flat rows) q)))
     (rows_agree h k l rows (λ d q. same d (Has-append_right d xs (flat rows) q)))
-
--- the items under names
-flat-map : (h : ℕ → ℕ) (rows : List (List ℕ)) (d : ℕ) → Has d (flat rows) → Has (h d) (flat (map (map h) rows))
-flat-map h [] d q = absurd q
-flat-map h (xs ∷ rows) d q = ⊎_elim
-    (λ k. Has-append_left (h d) (map h xs) (flat (map (map h) rows)) (Has-map_on h d xs k))
-    (λ k. Has-append_right (h d) (map h xs) (flat (map (map h) rows)) (flat-map h rows d k))
-    (Has-append_cases d xs (flat rows) q)
 
 -- pairs nested at one vertex, glued from the outermost on
 glued_nested : (e : ℕ) (f : ℕ → ℕ) (ps : List (ℕ × ℕ)) (rows : List (List ℕ)) → IsMapOf (2 * e) f (nested ps ∷ rows)
@@ -236,7 +226,7 @@ glued_nested e f (p ∷ ps) rows is there z =
     (λ s. has_lacks d (nested ps) (nested-Has ps d q)
     (subst (λ y. Lacks y (nested ps)) (sym (twin-twin p.0) ∙ ap twin (sym s) ∙ twin-twin d)
     (Lacks-append_left p.0 (nested ps) (p.1 ∷ []) first))))
-    (flat-map h rows (twin d) (there d (inr q))))
+    (subst (Has (h (twin d))) (sym (flat-map h rows)) (Has-map_on h (twin d) (flat rows) (there d (inr q)))))
     (SameGenus-IsFlat e off.0 one.0 one.2 off.2) in
     let second : (c : ℕ) → Has c (map (λ q. q.0) ps)
     → p.1 ≢ twin c =

@@ -3,14 +3,16 @@ use Rattle.std.proofs.Common.{◌≡◌, ℕ, ◌<◌, ◌≢◌, true, false, �
 use Rattle.std.proofs.lemmas.Bool.{cases_eq, eq-eqb, ne_eqb, or_right, cases_lt, cases_Bool, lt-ltb, le-ltb}
 use Rattle.std.specs.List.{filter}
 use Rattle.cp_lists.specs.CyclicLists.{Distinct, Has, Lacks, but}
-use Rattle.cp_lists.proofs.DistinctLists.{Has-append_left, Has-append_right, Has-but, Lacks-from, but-Distinct, but-Has, but-Lacks, but-append, has_lacks, has_other}
+use Rattle.cp_lists.specs.Rows.{flat}
+use Rattle.cp_lists.proofs.DistinctLists.{Has-append_left, Has-append_right, Has-but, Lacks-from, but-Distinct, but-Has, but-Lacks, has_lacks, has_other}
 use Rattle.cp_lists.proofs.FilteredLists.{filter_agree, filter_all}
+use Rattle.cp_lists.proofs.FlatLists.{flat-but}
 use Rattle.cp_orbits.specs.Orbits.{Permutes, exchange, splice}
 use Rattle.cp_orbits.proofs.Exchanges.{splice_at, splice_other}
 use Rattle.cp_orbits.proofs.OrbitLaws.{exchange_left, exchange_other, exchange_right, label_step}
 use Rattle.cp_faces.proofs.ListRotations.{follow-splice}
 use Rattle.cp_maps.specs.Genus.{CanBeFlat, IsFlat}
-use Rattle.cp_maps.specs.Maps.{Below, IsMapOf, Rings, flat, swapped}
+use Rattle.cp_maps.specs.Maps.{Below, IsMapOf, Rings, swapped}
 use Rattle.cp_maps.proofs.FlatMaps.{IsFlat-agree}
 use Rattle.cp_maps.proofs.ListFacts.{Below-from, below_item, filter_twice}
 use Rattle.cp_maps.proofs.MapLists.{IsMapOf-Permutes, IsMapOf-loose, IsMapOf-unbare, IsMapOf-unique, IsMapOf-unloose}
@@ -25,11 +27,6 @@ dart_out-IsFlat e f g x [] rows is_f is_g z =
 dart_out-IsFlat e f g x (a ∷ xs) rows is_f is_g z =
     split_list-IsFlat e f g x a [] xs rows is_f
     (IsMapOf-loose (2 * e) g ((a ∷ xs) ∷ rows) is_g x is_f.below.0 is_f.once.0) z
-
--- the items of lists without a dart
-flat-but : (z : ℕ) (rows : List (List ℕ)) → flat (map (but z) rows) ≡ but z (flat rows)
-flat-but z [] = refl
-flat-but z (xs ∷ rows) = ap (λ ys. but z xs ++ ys) (flat-but z rows) ∙ sym (but-append z xs (flat rows))
 
 -- a dart of a map taken out, wherever it stands
 module _ (n : ℕ) (f : ℕ → ℕ) (perm : Permutes n f) (z : ℕ) (ltz : z < n) where
@@ -60,7 +57,7 @@ module _ (n : ℕ) (f : ℕ → ℕ) (perm : Permutes n f) (z : ℕ) (ltz : z < 
         (λ d h. below_item n d (xs ++ flat rows) below (Has-append_right d xs (flat rows) h))) rings.1,
   )
 
-  -- so it is the map of the lists without it
+  -- a map with a dart taken out has the lists without it
   pub IsMapOf-but : (rows : List (List ℕ)) → IsMapOf n f rows → IsMapOf n out (map (but z) rows)
   IsMapOf-but rows is = record {
     once = subst Distinct (sym (flat-but z rows)) (but-Distinct z (flat rows) is.once);
@@ -78,7 +75,7 @@ module _ (n : ℕ) (f : ℕ → ℕ) (perm : Permutes n f) (z : ℕ) (ltz : z < 
         (cases_eq d z);
   }
 
--- what is flat stays flat
+-- a flat map stays flat with a dart taken out
 pub but-IsFlat : (e : ℕ) (f : ℕ → ℕ) (perm : Permutes (2 * e) f) (z : ℕ) → z < 2 * e → IsFlat e f
     → IsFlat e (swapped z (f z) f)
 but-IsFlat e f perm z lt flat_f = ⊎_elim

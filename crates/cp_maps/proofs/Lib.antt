@@ -1,4 +1,4 @@
-pub mod Twins
+pub mod Mirrors
 pub mod FlatMaps
 pub mod FlatUnions
 pub mod FlatRotations
@@ -9,7 +9,7 @@ pub mod MapLists
 pub mod NamedLists
 pub mod Parts
 pub mod NamedParts
-pub mod Swaps
+mod Swaps
 pub mod Edges
 pub mod MergedVertices
 pub mod ContractedEdges
@@ -18,7 +18,7 @@ pub mod Chords
 pub mod CutLoops
 pub mod ParallelEdges
 pub mod Borders
-pub mod Stocks
+mod Stocks
 pub mod Names
 pub mod CarriedFaces
 pub mod Dipoles
@@ -32,6 +32,11 @@ pub mod CrossedVertices
 pub mod GluedVertices
 pub mod CollapsedVertices
 pub mod CollapsedClasses
+pub mod Growth
+pub mod CrossedParts
+pub mod GenusByBlocks
+pub mod BondedVertices
 pub mod AssembledVertices
-pub mod Runs
+pub mod AssembledLists
 mod Examples
+mod NestedBorders

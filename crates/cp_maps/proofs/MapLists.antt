@@ -1,10 +1,13 @@
 -- The lists of a map: they determine it, and their order, their turns, bare vertices and loose darts do not matter.
 use Rattle.std.proofs.Common.{◌≡◌, ℕ, ◌<◌, ◌≢◌, List, [], ◌∷◌, ◌++◌, append_assoc, sym, refl, ap, ◌∙◌, subst, inl, ⊎_elim}
 use Rattle.std.proofs.lemmas.Bool.{cases_eq, false≢true}
+use Rattle.std.proofs.lemmas.List.{append-nil}
 use Rattle.cp_lists.specs.CyclicLists.{Distinct, Has, Lacks, follow}
+use Rattle.cp_lists.specs.Rows.{flat}
 use Rattle.cp_lists.specs.Turns.{IsTurn}
 use Rattle.cp_lists.proofs.CyclicLists.{follow-Has, next_from_at}
 use Rattle.cp_lists.proofs.DistinctLists.{Distinct-apart, Distinct-apart_right, Distinct-append, Distinct-append_left, Distinct-append_right, Has-append_cases, Has-append_left, Has-append_right, Lacks-append, Lacks-append_right, Lacks-from, has_cases, has_lacks}
+use Rattle.cp_lists.proofs.FlatLists.{flat-append}
 use Rattle.cp_lists.proofs.FollowedLists.{iterate_in_list}
 use Rattle.cp_lists.proofs.TurnedLists.{Has-of_turn, turn-Distinct, turn-Has}
 use Rattle.cp_orbits.specs.Classes.{graph, labels}
@@ -12,11 +15,11 @@ use Rattle.cp_orbits.specs.Orbits.{Permutes, exchange}
 use Rattle.cp_orbits.proofs.ClassLabels.{same_labels}
 use Rattle.cp_orbits.proofs.ListOrbits.{follow-reaches}
 use Rattle.cp_orbits.proofs.OrbitLaws.{Respects-graph, exchange_other, labels_reached}
-use Rattle.cp_maps.specs.Maps.{Below, IsMapOf, Ring, Rings, flat, has, next_by, swapped}
-use Rattle.cp_maps.proofs.ListFacts.{Below-from, Distinct-swapped, Has-swapped, below_item, flat-append, has_no, has_yes}
+use Rattle.cp_maps.specs.Maps.{Below, IsMapOf, Ring, Rings, has, next_by, swapped}
+use Rattle.cp_maps.proofs.ListFacts.{Below-from, Distinct-swapped, Has-swapped, below_item, has_no, has_yes}
 use Rattle.cp_maps.proofs.Rings.{Ring-merged, Ring-split, Ring-turned, Rings-append, Rings-append_left, Rings-append_right, Rings-far, loose_by, rings_apart, rings_by, rings_same, rings_stay}
 
--- there is a map with given lists
+-- there is a map with given lists of different darts below n
 pub IsMapOf-by : (n : ℕ) (rows : List (List ℕ)) → Distinct (flat rows) → Below n (flat rows)
     → IsMapOf n (next_by rows) rows
 IsMapOf-by n rows dis below =
@@ -24,7 +27,7 @@ IsMapOf-by n rows dis below =
 
 -- a map with lists
 module _ (n : ℕ) (f : ℕ → ℕ) (rows : List (List ℕ)) (is : IsMapOf n f rows) where
-  -- it is a permutation
+  -- a map with lists is a permutation of all darts
   pub IsMapOf-Permutes : Permutes n f
   IsMapOf-Permutes = record {
     below =
@@ -44,13 +47,13 @@ module _ (n : ℕ) (f : ℕ → ℕ) (rows : List (List ℕ)) (is : IsMapOf n f 
         (has_cases c (flat rows));
   }
 
-  -- it is the only one
+  -- the lists of a map determine it
   pub IsMapOf-unique : (g : ℕ → ℕ) → IsMapOf n g rows → (d : ℕ) → d < n → f d ≡ g d
   IsMapOf-unique g other d lt =
       ⊎_elim (λ h. rings_same f g rows d is.rings other.rings h) (λ l. is.loose d lt l ∙ sym (other.loose d lt l))
       (has_cases d (flat rows))
 
-  -- the same items in other rings of it are its lists, too
+  -- other rings of a map with the same items are its lists, too
   pub IsMapOf-other : (rows' : List (List ℕ)) → ((d : ℕ) → Has d (flat rows') → Has d (flat rows))
       → ((d : ℕ) → Has d (flat rows) → Has d (flat rows')) → Distinct (flat rows') → Rings f rows' → IsMapOf n f rows'
   IsMapOf-other rows' to from dis rings = record {
@@ -60,7 +63,7 @@ module _ (n : ℕ) (f : ℕ → ℕ) (rows : List (List ℕ)) (is : IsMapOf n f 
     loose = λ d lt l. is.loose d lt (Lacks-from d (flat rows) (λ h. has_lacks d (flat rows') (from d h) l));
   }
 
-  -- a bare vertex more
+  -- a map has an empty list more: a bare vertex
   pub IsMapOf-bare : IsMapOf n f ([] ∷ rows)
   IsMapOf-bare =
       record {
@@ -71,7 +74,7 @@ module _ (n : ℕ) (f : ℕ → ℕ) (rows : List (List ℕ)) (is : IsMapOf n f 
         loose = is.loose;
       }
 
-  -- a loose dart is a ring
+  -- a map has a loose dart as a list of its own
   pub IsMapOf-loose : (x : ℕ) → x < n → Lacks x (flat rows) → IsMapOf n f ((x ∷ []) ∷ rows)
   IsMapOf-loose x lt l = record {
     once = (l, is.once);
@@ -88,7 +91,7 @@ module _ (n : ℕ) (f : ℕ → ℕ) (rows : List (List ℕ)) (is : IsMapOf n f 
     loose = λ d ltd ld. is.loose d ltd ld.1;
   }
 
--- and back
+-- a dart in a list of its own can be left to be loose
 pub IsMapOf-unloose : (n : ℕ) (f : ℕ → ℕ) (x : ℕ) (rows : List (List ℕ)) → IsMapOf n f ((x ∷ []) ∷ rows)
     → IsMapOf n f rows
 IsMapOf-unloose n f x rows is = record {
@@ -100,7 +103,7 @@ IsMapOf-unloose n f x rows is = record {
       (λ ne. is.loose d lt (ne, l)) (cases_eq x d);
 }
 
--- the first two lists in the other order
+-- a map has its first two lists in the other order
 pub IsMapOf-swap : (n : ℕ) (f : ℕ → ℕ) (xs ys : List ℕ) (rows : List (List ℕ)) → IsMapOf n f (xs ∷ ys ∷ rows)
     → IsMapOf n f (ys ∷ xs ∷ rows)
 IsMapOf-swap n f xs ys rows is =
@@ -108,7 +111,7 @@ IsMapOf-swap n f xs ys rows is =
     (λ d h. Has-swapped d xs ys (flat rows) h) (Distinct-swapped xs ys (flat rows) is.once)
     (is.rings.1.0, (is.rings.0, is.rings.1.1))
 
--- the third list in front
+-- a map has its third list in front
 pub IsMapOf-third : (n : ℕ) (f : ℕ → ℕ) (xs ys zs : List ℕ) (rows : List (List ℕ)) → IsMapOf n f (xs ∷ ys ∷ zs ∷ rows)
     → IsMapOf n f (zs ∷ xs ∷ ys ∷ rows)
 IsMapOf-third n f xs ys zs rows is = IsMapOf-other n f (xs ∷ ys ∷ zs ∷ rows) is (zs ∷ xs ∷ ys ∷ rows)
@@ -120,7 +123,7 @@ IsMapOf-third n f xs ys zs rows is = IsMapOf-other n f (xs ∷ ys ∷ zs ∷ row
     (Distinct-swapped (xs ++ ys) zs (flat rows) (subst Distinct (sym (append_assoc xs ys (zs ++ flat rows))) is.once)))
     (is.rings.1.1.0, (is.rings.0, (is.rings.1.0, is.rings.1.1.1)))
 
--- the first list turned
+-- a map has its first list turned
 pub IsMapOf-turn : (n : ℕ) (f : ℕ → ℕ) (xs ys : List ℕ) (rows : List (List ℕ)) → IsTurn xs ys
     → IsMapOf n f (xs ∷ rows) → IsMapOf n f (ys ∷ rows)
 IsMapOf-turn n f xs ys rows turn is = IsMapOf-other n f (xs ∷ rows) is (ys ∷ rows)
@@ -133,7 +136,7 @@ IsMapOf-turn n f xs ys rows turn is = IsMapOf-other n f (xs ∷ rows) is (ys ∷
     (λ d h. Distinct-apart d xs (flat rows) is.once (Has-of_turn xs ys d turn h)))
     (Ring-turned f xs ys turn is.rings.0, is.rings.1)
 
--- a bare vertex less
+-- a map has an empty list less
 pub IsMapOf-unbare : (n : ℕ) (f : ℕ → ℕ) (rows : List (List ℕ)) → IsMapOf n f ([] ∷ rows) → IsMapOf n f rows
 IsMapOf-unbare n f rows is = record { once = is.once; below = is.below; rings = is.rings.1; loose = is.loose }
 
@@ -143,7 +146,7 @@ module _ (n : ℕ) (f : ℕ → ℕ) (a b : ℕ) (xs ys : List ℕ) (rows : List
   one_row : (a ∷ (xs ++ b ∷ ys)) ++ flat rows ≡ (a ∷ xs) ++ ((b ∷ ys) ++ flat rows)
   one_row = append_assoc (a ∷ xs) (b ∷ ys) (flat rows)
 
-  -- two lists become one
+  -- two lists become one where the values that lead to their first darts are exchanged
   pub IsMapOf-merged : IsMapOf n f ((a ∷ xs) ∷ (b ∷ ys) ∷ rows)
       → IsMapOf n (swapped a b f) ((a ∷ (xs ++ b ∷ ys)) ∷ rows)
   IsMapOf-merged is = record {
@@ -165,7 +168,7 @@ module _ (n : ℕ) (f : ℕ → ℕ) (a b : ℕ) (xs ys : List ℕ) (rows : List
       whole : Distinct ((a ∷ (xs ++ b ∷ ys)) ++ flat rows)
       whole = subst Distinct (sym one_row) is.once
 
-  -- a list becomes two
+  -- a list becomes two where the values that lead to two of its darts are exchanged
   pub IsMapOf-split : IsMapOf n f ((a ∷ (xs ++ b ∷ ys)) ∷ rows) → IsMapOf n (swapped a b f) ((a ∷ xs) ∷ (b ∷ ys) ∷ rows)
   IsMapOf-split is = record {
     once = subst Distinct one_row is.once;
@@ -210,7 +213,7 @@ module _ (n : ℕ) (f : ℕ → ℕ) (xs : List ℕ) (rows : List (List ℕ)) (i
       ∙ sym (same_labels (λ y. has y xs) (graph f n) c d (Respects-graph (λ y. has y xs) f n stays_in) e)
       ∙ has_yes c xs h)
 
-  -- two darts in it are of one vertex
+  -- two darts of one list are of one vertex
   pub one_vertex : (c d : ℕ) → Has c xs → Has d xs → labels (graph f n) c ≡ labels (graph f n) d
   one_vertex c d hc hd =
       let r = follow-reaches xs c d is.rings.0.distinct hc hd in
@@ -224,7 +227,7 @@ pub IsMapOf-some : (n : ℕ) (f : ℕ → ℕ) (rows rows' : List (List ℕ)) �
 IsMapOf-some n f rows rows' is dis some =
     IsMapOf-by n rows' dis (Below-from n (flat rows') (λ d h. below_item n d (flat rows) is.below (some d h)))
 
--- a list among the others taken in front
+-- a map has a list among the others in front
 pub IsMapOf-front : (n : ℕ) (f : ℕ → ℕ) (xs : List ℕ) (rows others : List (List ℕ))
     → IsMapOf n f (rows ++ xs ∷ others) → IsMapOf n f (xs ∷ (rows ++ others))
 IsMapOf-front n f xs rows others is = IsMapOf-other n f (rows ++ xs ∷ others) is (xs ∷ (rows ++ others))
@@ -237,7 +240,7 @@ IsMapOf-front n f xs rows others is = IsMapOf-other n f (rows ++ xs ∷ others) 
     (let r : Rings f (xs ∷ others) = Rings-append_right f rows (xs ∷ others) is.rings in
     (r.0, Rings-append f rows others (Rings-append_left f rows (xs ∷ others) is.rings) r.1))
 
--- and put back
+-- a map has its first list among the others
 pub IsMapOf-among : (n : ℕ) (f : ℕ → ℕ) (xs : List ℕ) (rows others : List (List ℕ))
     → IsMapOf n f (xs ∷ (rows ++ others)) → IsMapOf n f (rows ++ xs ∷ others)
 IsMapOf-among n f xs rows others is = IsMapOf-other n f (xs ∷ (rows ++ others)) is (rows ++ xs ∷ others)
@@ -250,3 +253,14 @@ IsMapOf-among n f xs rows others is = IsMapOf-other n f (xs ∷ (rows ++ others)
     (subst (λ ys. Distinct (xs ++ ys)) (flat-append rows others) is.once)))
     (Rings-append f rows (xs ∷ others) (Rings-append_left f rows others is.rings.1)
     (is.rings.0, Rings-append_right f rows others is.rings.1))
+
+-- a map has two groups of lists in the other order
+pub IsMapOf-exchanged : (n : ℕ) (f : ℕ → ℕ) (first group others : List (List ℕ))
+    → IsMapOf n f (first ++ (group ++ others)) → IsMapOf n f (first ++ (others ++ group))
+IsMapOf-exchanged n f first [] others is = subst (λ us. IsMapOf n f (first ++ us)) (sym (append-nil others)) is
+IsMapOf-exchanged n f first (xs ∷ group) others is =
+    let rest : IsMapOf n f (xs ∷ (first ++ (others ++ group))) =
+    IsMapOf-exchanged n f (xs ∷ first) group others (IsMapOf-front n f xs first (group ++ others) is) in
+    subst (IsMapOf n f) (append_assoc first others (xs ∷ group))
+    (IsMapOf-among n f xs (first ++ others) group
+    (subst (λ us. IsMapOf n f (xs ∷ us)) (sym (append_assoc first others group)) rest))

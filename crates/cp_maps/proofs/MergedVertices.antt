@@ -1,12 +1,13 @@
 -- Two vertices made one, and one made two.
 use Rattle.std.proofs.Common.{◌≡◌, ℕ, ◌<◌, ◌≢◌, List, ◌∷◌, ◌++◌, sym, refl, ap, ◌∙◌, subst, inl, ◌*◌, arith}
 use Rattle.cp_lists.specs.CyclicLists.{Has, Lacks}
+use Rattle.cp_lists.specs.Rows.{flat}
 use Rattle.cp_lists.proofs.DistinctLists.{Distinct-apart_right, Has-append_left, Has-append_right, has_lacks}
 use Rattle.cp_orbits.specs.Classes.{graph, labels}
 use Rattle.cp_orbits.specs.Orbits.{Permutes}
 use Rattle.cp_orbits.proofs.OrbitLaws.{Permutes-exchange}
 use Rattle.cp_maps.specs.Genus.{IsFlat, OneFace, OnePart, RaisesGenus, SameGenus}
-use Rattle.cp_maps.specs.Maps.{IsMapOf, flat, swapped}
+use Rattle.cp_maps.specs.Maps.{IsMapOf, swapped}
 use Rattle.cp_maps.proofs.FlatMaps.{IsFlat-agree, exchanged, split-IsFlat}
 use Rattle.cp_maps.proofs.Genus.{SameGenus-agree, SameGenus-trans}
 use Rattle.cp_maps.proofs.ListFacts.{below_item}
@@ -48,18 +49,18 @@ module _ (e : ℕ) (f g : ℕ → ℕ) (a b : ℕ) (xs ys : List ℕ) (rows : Li
       other_vertex (2 * e) f (a ∷ xs) ((b ∷ ys) ∷ rows) is_f a b (inl refl)
       (Distinct-apart_right b (a ∷ xs) (flat ((b ∷ ys) ∷ rows)) is_f.once (inl refl))
 
-  -- within a face the genus stays
+  -- two vertices made one within a face, or one made two, keep the genus
   pub merged_within-SameGenus : OneFace e f a b → SameGenus e f g
   merged_within-SameGenus one =
       SameGenus-trans e f (swapped a b f) g
       (swapped_within_face-SameGenus e f perm_f a b lt_a lt_b vertices_differ one) after
 
-  -- between two components, too
+  -- two vertices of two components made one keep the genus
   pub merged_between-SameGenus : (OnePart e f a b → ⊥) → SameGenus e f g
   merged_between-SameGenus two =
       SameGenus-trans e f (swapped a b f) g (swapped_apart-SameGenus e f perm_f a b lt_a lt_b two) after
 
-  -- else it grows
+  -- two vertices of one component and two faces made one raise the genus
   pub merged-RaisesGenus : OnePart e f a b → (OneFace e f a b → ⊥) → RaisesGenus e f g
   merged-RaisesGenus one two =
       omega (arith, swapped-RaisesGenus e f perm_f a b lt_a lt_b one vertices_differ two, after)

@@ -2,8 +2,9 @@
 use Rattle.std.proofs.Common.{◌≡◌, ℕ, ◌≢◌, List, [], ◌∷◌, ◌++◌, sym, ap, ◌∙◌, subst, ⊎_elim, map}
 use Rattle.std.proofs.lemmas.List.{map-append}
 use Rattle.cp_lists.specs.CyclicLists.{Distinct, Has, Lacks, but}
+use Rattle.cp_lists.specs.Rows.{flat}
 use Rattle.cp_lists.proofs.DistinctLists.{Has-append_left, Has-append_right, Has-split, but-Distinct, but-Has, but_middle}
-use Rattle.cp_maps.specs.Maps.{IsMapOf, flat}
+use Rattle.cp_maps.specs.Maps.{IsMapOf}
 use Rattle.cp_maps.proofs.MapLists.{IsMapOf-among, IsMapOf-front}
 
 -- the lists of names, with that of u in front
@@ -17,7 +18,7 @@ named_front n f lists u names dis h is =
     (IsMapOf-front n f (lists u) (map lists s.0) (map lists s.1)
     (subst (IsMapOf n f) (ap (map lists) s.2 ∙ map-append lists s.0 (u ∷ s.1)) is)))
 
--- and back
+-- the list of a name put back among those of the others
 pub named_back : (n : ℕ) (f : ℕ → ℕ) (lists : ℕ → List ℕ) (u : ℕ) (names : List ℕ) → Distinct names → Has u names
     → IsMapOf n f (lists u ∷ map lists (but u names)) → IsMapOf n f (map lists names)
 named_back n f lists u names dis h is =
@@ -40,7 +41,7 @@ second_named_front n f lists u ys names dis h is =
     (IsMapOf-front n f (lists u) (ys ∷ map lists s.0) (map lists s.1)
     (subst (λ rows. IsMapOf n f (ys ∷ rows)) (ap (map lists) s.2 ∙ map-append lists s.0 (u ∷ s.1)) is)))
 
--- the lists of two names in front
+-- the lists of two names in front of those of the others
 pub two_named_front : (n : ℕ) (f : ℕ → ℕ) (lists : ℕ → List ℕ) (u v : ℕ) (names : List ℕ) → Distinct names
     → Has u names → Has v names → u ≢ v → IsMapOf n f (map lists names)
     → IsMapOf n f (lists u ∷ lists v ∷ map lists (but u (but v names)))

@@ -1,9 +1,9 @@
 -- Components of a map whose lists have names, by connection of names along edges.
--- a map whose lists have names, and pairs of names
 use Rattle.std.proofs.Common.{◌≡◌, ℕ, ◌<◌, List, [], ◌∷◌, sym, refl, ap, ◌∙◌, subst, inl, inr, ⊎_elim, suc, ◌*◌, arith, map, ◌%◌, cond}
 use Rattle.std.proofs.lemmas.Bool.{cond-true, cond-false}
 use Rattle.std.specs.List.{Contains}
 use Rattle.cp_lists.specs.CyclicLists.{Distinct, Has, Lacks, but}
+use Rattle.cp_lists.specs.Rows.{flat}
 use Rattle.cp_lists.proofs.CyclicLists.{follow-Has}
 use Rattle.cp_lists.proofs.DistinctLists.{Has-append_cases, Has-append_left, has_cases}
 use Rattle.cp_orbits.specs.Classes.{labels}
@@ -11,9 +11,10 @@ use Rattle.cp_orbits.specs.Connected.{Connected, here, step}
 use Rattle.cp_orbits.specs.Orbits.{Permutes}
 use Rattle.cp_orbits.proofs.ClassLabels.{connected_labels, labels_connected, same_labels}
 use Rattle.cp_orbits.proofs.OrbitLaws.{Respects-graph}
+use Rattle.cp_faces.specs.Twins.{twin}
+use Rattle.cp_faces.proofs.Twins.{twin-twin, twin_even}
 use Rattle.cp_maps.specs.Genus.{OnePart, linked}
-use Rattle.cp_maps.specs.Maps.{IsMapOf, Ring, Rings, flat, has}
-use Rattle.cp_maps.specs.Twins.{twin}
+use Rattle.cp_maps.specs.Maps.{IsMapOf, Ring, Rings, has}
 use Rattle.cp_maps.proofs.Edges.{twin-OnePart}
 use Rattle.cp_maps.proofs.FlatMaps.{linked-from}
 use Rattle.cp_maps.proofs.ListFacts.{below_item, has_no, has_yes}
@@ -21,8 +22,8 @@ use Rattle.cp_maps.proofs.MapLists.{IsMapOf-Permutes}
 use Rattle.cp_maps.proofs.NamedLists.{named_front, named_item}
 use Rattle.cp_maps.proofs.Parts.{Ring-OnePart}
 use Rattle.cp_maps.proofs.Rings.{rings_stay}
-use Rattle.cp_maps.proofs.Twins.{twin-twin, twin_even}
 
+-- a map whose lists have names, and pairs of names
 module _ (e : ℕ) (f : ℕ → ℕ) (lists : ℕ → List ℕ) (names : List ℕ) (es : List (ℕ × ℕ))
     (is : IsMapOf (2 * e) f (map lists names)) (once : Distinct names) where
   -- it is a permutation

@@ -1,28 +1,29 @@
 -- A map of m edges in a larger stock of e edges, under other names: its genus stays.
-use Rattle.std.proofs.Common.{◌≡◌, ℕ, ◌<◌, ◌≢◌, true, List, [], ◌∷◌, ◌++◌, sym, refl, ap, ◌∙◌, subst, ⊎_elim, suc, ◌+◌, ◌*◌, ◌≤◌, Bool, arith, zero, not, ltb, map, ◌-◌, ◌/◌, ◌%◌, cond}
-use Rattle.std.proofs.lemmas.Bool.{cases_eq, false≢true, cond-true, cond-false, cases_lt, cases_Bool, lt-ltb, le-ltb, not-true}
-use Rattle.std.proofs.lemmas.List.{map-append}
+use Rattle.std.proofs.Common.{◌≡◌, ℕ, ◌<◌, ◌≢◌, true, List, [], ◌∷◌, sym, refl, ap, ◌∙◌, subst, ⊎_elim, suc, ◌+◌, ◌*◌, ◌≤◌, Bool, arith, zero, not, ltb, map, ◌-◌, ◌/◌, ◌%◌, cond}
+use Rattle.std.proofs.lemmas.Bool.{not-true, cases_eq, false≢true, cond-true, cond-false, cases_lt, cases_Bool, lt-ltb, le-ltb}
 use Rattle.cp_lists.specs.Count.{count}
 use Rattle.cp_lists.specs.CyclicLists.{Has, Lacks}
+use Rattle.cp_lists.specs.Rows.{flat}
 use Rattle.cp_lists.proofs.Choices.{choose}
 use Rattle.cp_lists.proofs.Counting.{count_all, count_both, count_inject, count_some}
 use Rattle.cp_lists.proofs.DistinctLists.{Has-append_cases, Has-append_left, Has-append_right, Lacks-from, has_cases, has_lacks}
+use Rattle.cp_lists.proofs.FlatLists.{flat-map}
 use Rattle.cp_lists.proofs.MappedLists.{Has-map_on, follow-map_on, map_on-Has}
 use Rattle.cp_orbits.specs.Orbits.{Permutes, Renumbers}
 use Rattle.cp_orbits.proofs.OrbitLaws.{Permutes-agree, Permutes-onto}
 use Rattle.cp_faces.specs.Faces.{stands}
+use Rattle.cp_faces.specs.Twins.{twin}
 use Rattle.cp_faces.proofs.Faces.{stands_at, stands_some}
 use Rattle.cp_faces.proofs.Merges.{partner-twin}
+use Rattle.cp_faces.proofs.Twins.{half_twin, twin-below, twin_even, twin_odd}
 use Rattle.cp_maps.specs.Genus.{OneGenus, SameGenus}
-use Rattle.cp_maps.specs.Maps.{IsMapOf, Rings, flat}
+use Rattle.cp_maps.specs.Maps.{IsMapOf, Rings}
 use Rattle.cp_maps.specs.Names.{Carries, Names}
-use Rattle.cp_maps.specs.Twins.{twin}
 use Rattle.cp_maps.proofs.Genus.{OneGenus-trans, SameGenus-agree}
 use Rattle.cp_maps.proofs.ListFacts.{below_item}
 use Rattle.cp_maps.proofs.MapLists.{IsMapOf-Permutes}
 use Rattle.cp_maps.proofs.Rings.{rings_same}
 use Rattle.cp_maps.proofs.Stocks.{loose_edge-OneGenus, renumbered-SameGenus}
-use Rattle.cp_maps.proofs.Twins.{half_twin, twin-below, twin_even, twin_odd}
 
 -- fewer numbers than e leave one free
 free_number : (m e : ℕ) (p : ℕ → ℕ) → m < e → (y : ℕ) × (y < e) × ((i : ℕ) → i < m → p i ≢ y)
@@ -79,11 +80,11 @@ module _ (m e : ℕ) (j f g : ℕ → ℕ) (lt : m < e) (perm_g : Permutes (2 * 
       ∙ half_twin (j d) ∙ h))
       (cases_eq (d % 2) 0)
 
-  -- the names with it
+  -- the names with the two darts of one edge more
   pub more_names : ℕ → ℕ
   more_names d = cond (ltb d (2 * m)) (j d) (2 * free.0 + (d - 2 * m))
 
-  -- the old ones
+  -- the old darts keep their names
   pub more_names_old : (d : ℕ) → d < 2 * m → more_names d ≡ j d
   unfolding more_names
   more_names_old d l = cond-true (ltb d (2 * m)) (j d) (2 * free.0 + (d - 2 * m)) (lt-ltb d (2 * m) l)
@@ -93,7 +94,7 @@ module _ (m e : ℕ) (j f g : ℕ → ℕ) (lt : m < e) (perm_g : Permutes (2 * 
   unfolding more_names
   more_names_new d l = cond-false (ltb d (2 * m)) (j d) (2 * free.0 + (d - 2 * m)) (le-ltb d (2 * m) l)
 
-  -- they are names
+  -- with the edge more they are names
   pub Names-more : Names (suc m) e more_names
   Names-more = record {
     below =
@@ -130,7 +131,7 @@ module _ (m e : ℕ) (j f g : ℕ → ℕ) (lt : m < e) (perm_g : Permutes (2 * 
         (cases_lt d (2 * m));
   }
 
-  -- and carry the map
+  -- with the edge more the map is carried by them
   pub Carries-more : ((d : ℕ) → d < 2 * m → f d < 2 * m) → Carries (suc m) e more_names f g
   Carries-more stays = record {
     same = λ d l. ⊎_elim
@@ -171,7 +172,7 @@ names_some (suc k) m e j f g size perm_f perm_g names carries rest =
     (Names-more m e j f g lt perm_g names carries rest)
     (Carries-more m e j f g lt perm_g names carries rest perm_f.below) (λ d le. rest d (omega arith)))
 
--- a map under other names in a larger stock
+-- a map under other names in a larger stock of edges has the genus
 pub Carries-OneGenus : (m e : ℕ) (j f g : ℕ → ℕ) → m ≤ e → Permutes (2 * m) f → Permutes (2 * e) g → Names m e j
     → Carries m e j f g → OneGenus m f e g
 Carries-OneGenus m e j f g le perm_f perm_g names carries =
@@ -187,11 +188,6 @@ Carries-OneGenus m e j f g le perm_f perm_g names carries =
 
 -- rows under other names
 module _ (j : ℕ → ℕ) where
-  -- the items of all lists
-  flat-names : (rows : List (List ℕ)) → flat (map (map j) rows) ≡ map j (flat rows)
-  flat-names [] = refl
-  flat-names (xs ∷ rows) = ap (λ ys. map j xs ++ ys) (flat-names rows) ∙ sym (map-append j xs (flat rows))
-
   -- where j gives different names, the rings are those under the names
   rings_names : (f g : ℕ → ℕ) (rows : List (List ℕ))
       → ((c d : ℕ) → Has c (flat rows) → Has d (flat rows) → j c ≡ j d → c ≡ d) → Rings f rows
@@ -206,7 +202,7 @@ module _ (j : ℕ → ℕ) where
       (Has-append_right b xs (flat rows) hb) e) rf.1 rg.1 d k)
       (Has-append_cases d xs (flat rows) h)
 
--- lists under other names
+-- a map whose lists are those of another under other names has its genus
 pub named_lists-OneGenus : (m e : ℕ) (j f g : ℕ → ℕ) (rows : List (List ℕ)) → m ≤ e → Names m e j
     → IsMapOf (2 * m) f rows → IsMapOf (2 * e) g (map (map j) rows) → OneGenus m f e g
 named_lists-OneGenus m e j f g rows le names is_f is_g =
@@ -223,7 +219,7 @@ named_lists-OneGenus m e j f g rows le names is_f is_g =
     })
   where
     named : (y : ℕ) → Has y (flat (map (map j) rows)) → (d : ℕ) × Has d (flat rows) × (j d ≡ y)
-    named y h = map_on-Has j y (flat rows) (subst (Has y) (flat-names j rows) h)
+    named y h = map_on-Has j y (flat rows) (subst (Has y) (flat-map j rows) h)
 
     free : (d : ℕ) → d < 2 * m → Lacks d (flat rows) → Lacks (j d) (flat (map (map j) rows))
     free d lt l = Lacks-from (j d) (flat (map (map j) rows)) (λ h.
@@ -231,7 +227,7 @@ named_lists-OneGenus m e j f g rows le names is_f is_g =
         has_lacks d (flat rows) (subst (λ y. Has y (flat rows))
         (names.apart w.0 d (below_item (2 * m) w.0 (flat rows) is_f.below w.1) lt w.2) w.1) l)
 
--- the same lists in a larger stock of edges
+-- a map with the same lists in a larger stock of edges has the genus
 pub larger_stock-OneGenus : (m e : ℕ) (f g : ℕ → ℕ) (rows : List (List ℕ)) → m ≤ e → IsMapOf (2 * m) f rows
     → IsMapOf (2 * e) g rows → OneGenus m f e g
 larger_stock-OneGenus m e f g rows le is_f is_g =

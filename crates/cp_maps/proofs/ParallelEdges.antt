@@ -1,19 +1,22 @@
 -- Edges side by side are as one.
 use Rattle.std.proofs.Common.{◌≡◌, ℕ, List, [], ◌∷◌, ◌++◌, append_assoc, sym, refl, ap, ◌∙◌, subst, inl, inr, ⊎_elim, ◌*◌}
 use Rattle.std.proofs.lemmas.List.{append-nil}
+use Rattle.cp_lists.specs.Rows.{flat}
 use Rattle.cp_lists.proofs.DistinctLists.{Has-append_cases, Has-append_left, Has-append_right}
 use Rattle.cp_lists.proofs.TurnedLists.{turn_parts}
+use Rattle.cp_faces.specs.Twins.{twin}
+use Rattle.cp_faces.proofs.Twins.{twin-twin}
 use Rattle.cp_maps.specs.Genus.{Becomes, SameGenus}
-use Rattle.cp_maps.specs.Maps.{IsMapOf, flat, next_by}
-use Rattle.cp_maps.specs.Twins.{mirror, twin}
+use Rattle.cp_maps.specs.Maps.{IsMapOf, next_by}
+use Rattle.cp_maps.specs.Mirrors.{mirror}
 use Rattle.cp_maps.proofs.ContractedEdges.{contracted_edge-IsMapOf, contracted_edge-SameGenus, trivial_loop-SameGenus}
 use Rattle.cp_maps.proofs.Genus.{SameGenus-sym, SameGenus-trans}
 use Rattle.cp_maps.proofs.ListFacts.{Distinct-less}
 use Rattle.cp_maps.proofs.MapLists.{IsMapOf-some, IsMapOf-swap, IsMapOf-turn}
 use Rattle.cp_maps.proofs.MergedVertices.{same_lists-SameGenus}
-use Rattle.cp_maps.proofs.Twins.{mirror-cons, twin-twin}
+use Rattle.cp_maps.proofs.Mirrors.{mirror-cons}
 
--- a second edge beside an edge
+-- a second edge beside an edge keeps the genus
 pub parallel_edge-SameGenus : (e : ℕ) (f g : ℕ → ℕ) (x y : ℕ) (xs ys : List ℕ) (rows : List (List ℕ))
     → IsMapOf (2 * e) f ((x ∷ y ∷ xs) ∷ (twin y ∷ twin x ∷ ys) ∷ rows)
     → IsMapOf (2 * e) g ((x ∷ xs) ∷ (twin x ∷ ys) ∷ rows) → SameGenus e f g
@@ -84,7 +87,7 @@ parallel_edges-Becomes e f x (y ∷ zs) xs ys rows is_f =
     parallel_edges-Becomes e one.0 x zs xs ys rows one.1 in
     (rest.0, rest.1, SameGenus-trans e f one.0 rest.0 one.2 rest.2)
 
--- edges side by side are as one
+-- any number of edges beside an edge keep the genus
 pub parallel_edges-SameGenus : (e : ℕ) (f g : ℕ → ℕ) (x : ℕ) (zs xs ys : List ℕ) (rows : List (List ℕ))
     → IsMapOf (2 * e) f ((x ∷ (zs ++ xs)) ∷ (twin x ∷ (ys ++ mirror zs)) ∷ rows)
     → IsMapOf (2 * e) g ((x ∷ xs) ∷ (twin x ∷ ys) ∷ rows) → SameGenus e f g

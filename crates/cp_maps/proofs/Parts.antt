@@ -1,6 +1,7 @@
 -- How to show that two darts are of two components: by a test.
 use Rattle.std.proofs.Common.{◌≡◌, ℕ, ◌<◌, ◌≢◌, List, [], ◌∷◌, sym, ap, ◌∙◌, subst, ⊎_elim, ◌*◌, Bool, arith, ◌%◌}
 use Rattle.cp_lists.specs.CyclicLists.{Has}
+use Rattle.cp_lists.specs.Rows.{flat}
 use Rattle.cp_lists.proofs.CyclicLists.{follow-Has}
 use Rattle.cp_lists.proofs.DistinctLists.{Has-append_cases, has_cases}
 use Rattle.cp_lists.proofs.FollowedLists.{iterate_in_list}
@@ -8,12 +9,12 @@ use Rattle.cp_orbits.specs.Orbits.{Permutes}
 use Rattle.cp_orbits.proofs.ClassLabels.{same_labels}
 use Rattle.cp_orbits.proofs.ListOrbits.{follow-reaches}
 use Rattle.cp_orbits.proofs.OrbitLaws.{Respects-graph, labels_reached}
+use Rattle.cp_faces.specs.Twins.{twin}
+use Rattle.cp_faces.proofs.Twins.{twin_even}
 use Rattle.cp_maps.specs.Genus.{Evenly, OnePart, linked}
-use Rattle.cp_maps.specs.Maps.{IsMapOf, Ring, Rings, flat}
-use Rattle.cp_maps.specs.Twins.{twin}
+use Rattle.cp_maps.specs.Maps.{IsMapOf, Ring, Rings}
 use Rattle.cp_maps.proofs.FlatMaps.{linked-from}
 use Rattle.cp_maps.proofs.Swaps.{vertex-OnePart}
-use Rattle.cp_maps.proofs.Twins.{twin_even}
 
 -- so it has one value on a dart and the one behind
 evenly_step : (f : ℕ → ℕ) (p : ℕ → Bool) (rows : List (List ℕ)) (d : ℕ) → Rings f rows → Evenly p rows

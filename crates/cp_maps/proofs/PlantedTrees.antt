@@ -2,10 +2,10 @@
 use Rattle.std.proofs.Common.{ℕ, List, [], ◌∷◌, ◌++◌, append_assoc, sym, refl, ap, ◌∙◌, subst, ◌*◌}
 use Rattle.std.proofs.lemmas.List.{append-nil}
 use Rattle.cp_lists.proofs.TurnedLists.{turn_parts}
+use Rattle.cp_faces.specs.Twins.{twin}
 use Rattle.cp_maps.specs.Genus.{Becomes, SameGenus}
 use Rattle.cp_maps.specs.Maps.{IsMapOf}
 use Rattle.cp_maps.specs.Trees.{Kids, darts_of_kids, leaf_kid, leaves_of, lists_of_nodes, no_kid, node_kid}
-use Rattle.cp_maps.specs.Twins.{twin}
 use Rattle.cp_maps.proofs.ContractedEdges.{contracted_edge-Becomes}
 use Rattle.cp_maps.proofs.Genus.{SameGenus-trans}
 use Rattle.cp_maps.proofs.MapLists.{IsMapOf-turn}

@@ -2,16 +2,17 @@
 use Rattle.std.proofs.Common.{◌≡◌, ℕ, List, [], ◌∷◌, ◌++◌, sym, refl, ap, ◌∙◌, subst, inl, ⊎_elim}
 use Rattle.std.proofs.lemmas.Bool.{cases_eq, cond-true, cond-false}
 use Rattle.cp_lists.specs.CyclicLists.{Distinct, Has, Lacks, follow, next_from}
+use Rattle.cp_lists.specs.Rows.{flat}
 use Rattle.cp_lists.specs.Turns.{IsTurn}
 use Rattle.cp_lists.proofs.CyclicLists.{follow-Has, follow-apart, next_from-append_left, next_from-append_right, next_from_at, next_from_other}
 use Rattle.cp_lists.proofs.DistinctLists.{Distinct-apart, Distinct-apart_right, Distinct-append_left, Distinct-append_right, Has-append_cases, Has-append_left, Has-append_right, Lacks-append_left, Lacks-append_right, has_lacks, has_other}
 use Rattle.cp_lists.proofs.TurnedLists.{Has-of_turn, turn-Distinct, turn-follow}
 use Rattle.cp_orbits.specs.Orbits.{exchange}
 use Rattle.cp_orbits.proofs.OrbitLaws.{exchange_comm, exchange_left, exchange_other}
-use Rattle.cp_maps.specs.Maps.{Ring, Rings, flat, has, next_by, swapped}
+use Rattle.cp_maps.specs.Maps.{Ring, Rings, has, next_by, swapped}
 use Rattle.cp_maps.proofs.ListFacts.{has_no, has_yes}
 
--- a row of items with another end
+-- the items of a row follow each other alike with another end, but for the two ends exchanged
 pub next_from_ends : (a b d x : ℕ) (xs : List ℕ) → Has d (x ∷ xs) → Lacks a xs → Lacks b xs
     → next_from b (x ∷ xs) d ≡ exchange a b (next_from a (x ∷ xs) d)
 next_from_ends a b d x [] h la lb =
@@ -68,7 +69,7 @@ Ring-split f a b xs ys ring = (
     second : Distinct (b ∷ ys)
     second = Distinct-append_right (a ∷ xs) (b ∷ ys) ring.distinct
 
--- a ring without the two darts stays
+-- a ring without the two darts stays one when the values that lead to them are exchanged
 pub Ring-far : (f : ℕ → ℕ) (a b : ℕ) (xs : List ℕ) → Lacks a xs → Lacks b xs → Ring f xs → Ring (swapped a b f) xs
 Ring-far f a b xs la lb ring = record {
   distinct = ring.distinct;
@@ -77,7 +78,7 @@ Ring-far f a b xs la lb ring = record {
       (has_other (follow xs d) b xs (follow-Has d xs h) lb);
 }
 
--- and so do several
+-- rings without the two darts stay rings
 pub Rings-far : (f : ℕ → ℕ) (a b : ℕ) (rows : List (List ℕ)) → Lacks a (flat rows) → Lacks b (flat rows)
     → Rings f rows → Rings (swapped a b f) rows
 Rings-far f a b [] la lb rings = tt
@@ -107,7 +108,7 @@ Rings-agree f g (xs ∷ rows) same rings = (
   Rings-agree f g rows (λ d h. same d (Has-append_right d xs (flat rows) h)) rings.1,
 )
 
--- the dart behind an item of rings is one
+-- the dart behind an item of rings is an item of them
 pub rings_stay : (f : ℕ → ℕ) (rows : List (List ℕ)) (d : ℕ) → Rings f rows → Has d (flat rows) → Has (f d) (flat rows)
 rings_stay f [] d rings h = absurd h
 rings_stay f (xs ∷ rows) d rings h = ⊎_elim
@@ -115,7 +116,7 @@ rings_stay f (xs ∷ rows) d rings h = ⊎_elim
     (λ k. Has-append_right (f d) xs (flat rows) (rings_stay f rows d rings.1 k))
     (Has-append_cases d xs (flat rows) h)
 
--- no two items of rings lead to one
+-- no two items of rings lead to one dart
 pub rings_apart : (f : ℕ → ℕ) (rows : List (List ℕ)) (c d : ℕ) → Distinct (flat rows) → Rings f rows
     → Has c (flat rows) → Has d (flat rows) → f c ≡ f d → c ≡ d
 rings_apart f [] c d dis rings hc hd e = absurd hc
@@ -143,7 +144,7 @@ rings_same f g (xs ∷ rows) d rf rg h =
     ⊎_elim (λ k. rf.0.along d k ∙ sym (rg.0.along d k)) (λ k. rings_same f g rows d rf.1 rg.1 k)
     (Has-append_cases d xs (flat rows) h)
 
--- the map of lists has them as rings
+-- the map made of lists has them as rings
 pub rings_by : (rows : List (List ℕ)) → Distinct (flat rows) → Rings (next_by rows) rows
 rings_by [] dis = tt
 rings_by (xs ∷ rows) dis = (
@@ -158,24 +159,24 @@ rings_by (xs ∷ rows) dis = (
       (rings_by rows (Distinct-append_right xs (flat rows) dis)),
 )
 
--- all others stay
+-- the map made of lists leaves all other darts loose
 pub loose_by : (rows : List (List ℕ)) (d : ℕ) → Lacks d (flat rows) → next_by rows d ≡ d
 loose_by [] d l = refl
 loose_by (xs ∷ rows) d l =
     cond-false (has d xs) (follow xs d) (next_by rows d) (has_no d xs (Lacks-append_left d xs (flat rows) l))
     ∙ loose_by rows d (Lacks-append_right d xs (flat rows) l)
 
--- their rings
+-- rings of two rows of lists are rings of both
 pub Rings-append : (f : ℕ → ℕ) (rows others : List (List ℕ)) → Rings f rows → Rings f others → Rings f (rows ++ others)
 Rings-append f [] others one two = two
 Rings-append f (xs ∷ rows) others one two = (one.0, Rings-append f rows others one.1 two)
 
--- the first ones
+-- rings of both rows are rings of the first
 pub Rings-append_left : (f : ℕ → ℕ) (rows others : List (List ℕ)) → Rings f (rows ++ others) → Rings f rows
 Rings-append_left f [] others r = tt
 Rings-append_left f (xs ∷ rows) others r = (r.0, Rings-append_left f rows others r.1)
 
--- the others
+-- rings of both rows are rings of the second
 pub Rings-append_right : (f : ℕ → ℕ) (rows others : List (List ℕ)) → Rings f (rows ++ others) → Rings f others
 Rings-append_right f [] others r = r
 Rings-append_right f (xs ∷ rows) others r = Rings-append_right f rows others r.1

@@ -49,7 +49,7 @@ module _ (e : ℕ) (f : ℕ → ℕ) (perm : Permutes (2 * suc e) f) (first : f 
   perm_odd : Permutes (suc (2 * e)) f
   perm_odd = subst (λ n. Permutes n f) size_odd (alone_Permutes (2 * e + 1) f perm_all second)
 
-  -- of all but two
+  -- a map whose last edge is loose is a permutation of the other darts
   pub perm_less : Permutes (2 * e) f
   perm_less = alone_Permutes (2 * e) f perm_odd first
 
@@ -178,7 +178,7 @@ module _ (e : ℕ) (f : ℕ → ℕ) (perm : Permutes (2 * suc e) f) (first : f 
         count_agree (2 * e) leads (λ x. eqb (labels links x) x) (λ x lt. ap (λ y. eqb y x) (same_label x)),
       )
 
-  -- so the genus stays
+  -- a loose edge more keeps the genus
   pub loose_edge-OneGenus : OneGenus e f (suc e) f
   loose_edge-OneGenus = omega (arith, more_vertices, more_faces, more_parts)
 
@@ -197,7 +197,7 @@ module _ (e : ℕ) (f g : ℕ → ℕ) (perm_f : Permutes (2 * e) f) (perm_g : P
       ∙ ap undo (pairs (undo y) (ren.back y lt))
       ∙ ren.there_back (partner e (undo y)) (partner-within e (undo y) (ren.back y lt))
 
-  -- there are no fewer components
+  -- under new numbers there are no fewer components
   pub fewer_parts : parts e f ≤ parts e g
   fewer_parts =
       classes_renumbered-le (2 * e) k undo (linked f (2 * e) e) (linked g (2 * e) e) ren (linked-from label g (2 * e) e
@@ -212,7 +212,7 @@ module _ (e : ℕ) (f g : ℕ → ℕ) (perm_f : Permutes (2 * e) f) (perm_g : P
       label : ℕ → ℕ
       label y = labels (linked f (2 * e) e) (undo y)
 
-  -- there are as many faces
+  -- under new numbers there are as many faces
   pub renamed_rounds : rounds e f ≡ rounds e g
   renamed_rounds =
       orbits_renumbered (2 * e) k undo (face_upto f e) (face_upto g e) ren
@@ -220,7 +220,7 @@ module _ (e : ℕ) (f g : ℕ → ℕ) (perm_f : Permutes (2 * e) f) (perm_g : P
       (λ d lt. face_upto-partner e g (k d) ∙ ap g (pairs d lt) ∙ same (partner e d) (partner-within e d lt)
       ∙ ap k (sym (face_upto-partner e f d)))
 
--- the genus stays
+-- a map under new numbers that keep twins has the genus
 pub renumbered-SameGenus : (e : ℕ) (f g : ℕ → ℕ) → Permutes (2 * e) f → Permutes (2 * e) g → (k undo : ℕ → ℕ)
     → Renumbers (2 * e) k undo → ((d : ℕ) → d < 2 * e → partner e (k d) ≡ k (partner e d))
     → ((d : ℕ) → d < 2 * e → g (k d) ≡ k (f d)) → SameGenus e f g

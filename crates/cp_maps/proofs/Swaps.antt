@@ -15,19 +15,19 @@ use Rattle.cp_maps.proofs.FlatMaps.{linked-edges, linked-faces, linked-from, lin
 
 -- two values of a permutation exchanged
 module _ (n : ℕ) (f : ℕ → ℕ) (perm : Permutes n f) (a b : ℕ) (lta : a < n) (ltb : b < n) where
-  -- the dart before a
+  -- the dart that leads to a
   pub before_a : (p : ℕ) × (p < n) × (f p ≡ a)
   before_a = Permutes-onto n f perm a lta
 
-  -- the dart before b
+  -- the dart that leads to b
   pub before_b : (q : ℕ) × (q < n) × (f q ≡ b)
   before_b = Permutes-onto n f perm b ltb
 
-  -- it is a permutation
+  -- a permutation with two values exchanged is one
   pub Permutes-swapped : Permutes n (swapped a b f)
   Permutes-swapped = Permutes-after n (exchange a b) f (exchange-Permutes n a b lta ltb) perm
 
-  -- the exchange can be made before f
+  -- the exchange of two values is one of the darts that lead to them, before the map
   pub swapped-before : (x : ℕ) → x < n → swapped a b f x ≡ f (exchange before_a.0 before_b.0 x)
   swapped-before x lt = exchange_case (λ y. exchange a b (f x) ≡ f y) before_a.0 before_b.0 x
       (λ e. exchange_left a b (f x) (ap f e ∙ before_a.2) ∙ sym before_b.2)
@@ -39,7 +39,7 @@ module _ (n : ℕ) (f : ℕ → ℕ) (perm : Permutes n f) (a b : ℕ) (lta : a 
   pub label_before_a : labels (graph f n) before_a.0 ≡ labels (graph f n) a
   label_before_a = label_step f n before_a.0 before_a.1 ∙ ap (labels (graph f n)) before_a.2
 
-  -- and b
+  -- b has the label of the dart before it
   pub label_before_b : labels (graph f n) before_b.0 ≡ labels (graph f n) b
   label_before_b = label_step f n before_b.0 before_b.1 ∙ ap (labels (graph f n)) before_b.2
 
@@ -57,7 +57,7 @@ module _ (n : ℕ) (f : ℕ → ℕ) (perm : Permutes n f) (a b : ℕ) (lta : a 
   label_after_b = label_step (swapped a b f) n before_b.0 before_b.1
       ∙ ap (labels (graph (swapped a b f) n)) (exchange_right a b (f before_b.0) before_b.2)
 
-  -- a third orbit stays apart
+  -- an exchange of values of two orbits leaves a third apart
   pub swapped-other_orbit : (c d : ℕ) → labels (graph f n) a ≢ labels (graph f n) c
       → labels (graph f n) b ≢ labels (graph f n) c
       → labels (graph (swapped a b f) n) d ≡ labels (graph (swapped a b f) n) c
@@ -84,19 +84,19 @@ module _ (n : ℕ) (f : ℕ → ℕ) (perm : Permutes n f) (a b : ℕ) (lta : a 
     ne_before : labels (graph f n) before_a.0 ≢ labels (graph f n) before_b.0
     ne_before h = ne (sym label_before_a ∙ h ∙ label_before_b)
 
-    -- one orbit less
+    -- an exchange of values of two orbits makes one orbit less
     pub swapped_two-orbits : orbits n f ≡ suc (orbits n (swapped a b f))
     swapped_two-orbits = orbits_joined n f before_a.0 before_b.0 perm before_a.1 before_b.1 ne_before
         ∙ ap suc (sym (orbits_agree (swapped a b f) (λ x. f (exchange before_a.0 before_b.0 x)) n swapped-before))
 
-    -- the two are of one
+    -- an exchange of values of two orbits makes them one
     pub swapped_two-one_orbit : labels (graph (swapped a b f) n) a ≡ labels (graph (swapped a b f) n) b
     swapped_two-one_orbit = sym label_after_b
         ∙ sym (subst (λ es. labels es before_a.0 ≡ labels es before_b.0) (sym graph_after)
         (joined_labels n f before_a.0 before_b.0 perm before_a.1 before_b.1 ne_before))
         ∙ label_after_a
 
-    -- what was of one orbit still is
+    -- an exchange of values of two orbits keeps together what was of one
     pub swapped_two-orbit_kept : (x y : ℕ) → labels (graph f n) x ≡ labels (graph f n) y
         → labels (graph (swapped a b f) n) x ≡ labels (graph (swapped a b f) n) y
     swapped_two-orbit_kept x y e =
@@ -114,13 +114,13 @@ module _ (n : ℕ) (f : ℕ → ℕ) (perm : Permutes n f) (a b : ℕ) (lta : a 
     differ_before : before_a.0 ≢ before_b.0
     differ_before h = differ (sym before_a.2 ∙ ap f h ∙ before_b.2)
 
-    -- one orbit more
+    -- an exchange of two values of one orbit makes one orbit more
     pub swapped_one-orbits : orbits n (swapped a b f) ≡ suc (orbits n f)
     swapped_one-orbits = orbits_agree (swapped a b f) (λ x. f (exchange before_a.0 before_b.0 x)) n swapped-before
         ∙ orbits_split n f before_a.0 before_b.0 perm before_a.1 before_b.1 differ_before
         (label_before_a ∙ one ∙ sym label_before_b)
 
-    -- the two are of different ones
+    -- an exchange of two values of one orbit brings them into two
     pub swapped_one-two_orbits : labels (graph (swapped a b f) n) a ≢ labels (graph (swapped a b f) n) b
     swapped_one-two_orbits h =
         split_labels n f before_a.0 before_b.0 perm before_a.1 before_b.1 differ_before
@@ -178,14 +178,14 @@ module _ (e : ℕ) (f : ℕ → ℕ) (perm : Permutes (2 * e) f) (a b : ℕ) (lt
   face_graph_after : graph (face_upto g e) (2 * e) ≡ graph (swapped a b (face_upto f e)) (2 * e)
   face_graph_after = graph_agree (face_upto g e) (swapped a b (face_upto f e)) (2 * e) faces_after
 
-  -- what has one value at a and b respects both or none
+  -- what has one value at a and b, and respects the links, respects those after the exchange
   pub swapped-Respects : {A : Type 0} (h : ℕ → A) → h a ≡ h b → Respects h (linked f (2 * e) e)
       → Respects h (linked g (2 * e) e)
   swapped-Respects h same r =
       linked-from h g (2 * e) e (swap-respects (2 * e) f perm a b lta ltb h same (linked-graph h f (2 * e) e r))
       (linked-edges h f (2 * e) e r)
 
-  -- the other way round
+  -- what has one value at a and b, and respects the links after the exchange, respects those before
   pub swapped-Respects_back : {A : Type 0} (h : ℕ → A) → h a ≡ h b → Respects h (linked g (2 * e) e)
       → Respects h (linked f (2 * e) e)
   swapped-Respects_back h same r =
@@ -215,14 +215,14 @@ module _ (e : ℕ) (f : ℕ → ℕ) (perm : Permutes (2 * e) f) (a b : ℕ) (lt
     two_vertices : vertex a ≢ vertex b
     two_vertices h = ne (vertex-OnePart a b h)
 
-    -- afterwards they are of one component
+    -- an exchange between two components makes them one
     pub swapped_apart-one_part : part_after a ≡ part_after b
     swapped_apart-one_part =
         same_labels part_after (graph g (2 * e)) a b
         (linked-graph part_after g (2 * e) e (labels-respects (linked g (2 * e) e)))
         (swapped_two-one_orbit (2 * e) f perm a b lta ltb two_vertices)
 
-    -- one component less
+    -- an exchange between two components makes one component less
     pub swapped_apart-parts : parts e f ≡ suc (parts e g)
     swapped_apart-parts = classes_joined (2 * e) (a, b) (linked f (2 * e) e) lta ltb ne
         ∙ ap suc (classes_equal (2 * e) ((a, b) ∷ linked f (2 * e) e) (linked g (2 * e) e) (
@@ -233,7 +233,7 @@ module _ (e : ℕ) (f : ℕ → ℕ) (perm : Permutes (2 * e) f) (a b : ℕ) (lt
         (swapped-Respects (labels ((a, b) ∷ linked f (2 * e) e)) (labels-respects ((a, b) ∷ linked f (2 * e) e)).0
         (labels-respects ((a, b) ∷ linked f (2 * e) e)).1))
 
-    -- the genus stays
+    -- an exchange between two components keeps the genus
     pub swapped_apart-SameGenus : SameGenus e f g
     swapped_apart-SameGenus =
         omega (
@@ -246,26 +246,26 @@ module _ (e : ℕ) (f : ℕ → ℕ) (perm : Permutes (2 * e) f) (a b : ℕ) (lt
               (face_upto f e) perm_faces a b lta ltb (λ h. ne (face-OnePart a b h)),
         )
 
-    -- what was of one component still is
+    -- an exchange between two components keeps together what was of one component
     pub swapped_apart-OnePart_kept : (x y : ℕ) → part x ≡ part y → part_after x ≡ part_after y
     swapped_apart-OnePart_kept x y h =
         same_labels part_after (linked f (2 * e) e) x y
         (swapped-Respects_back part_after swapped_apart-one_part (labels-respects (linked g (2 * e) e))) h
 
-    -- the two faces are one
+    -- an exchange between two components makes the two faces one
     pub swapped_apart-one_face : labels (graph (face_upto g e) (2 * e)) a ≡ labels (graph (face_upto g e) (2 * e)) b
     swapped_apart-one_face =
         subst (λ es. labels es a ≡ labels es b) (sym face_graph_after)
         (swapped_two-one_orbit (2 * e) (face_upto f e) perm_faces a b lta ltb (λ h. ne (face-OnePart a b h)))
 
-    -- what was in one face still is
+    -- an exchange between two components keeps together what was in one face
     pub swapped_apart-OneFace_kept : (x y : ℕ) → face x ≡ face y
         → labels (graph (face_upto g e) (2 * e)) x ≡ labels (graph (face_upto g e) (2 * e)) y
     swapped_apart-OneFace_kept x y h =
         subst (λ es. labels es x ≡ labels es y) (sym face_graph_after)
         (swapped_two-orbit_kept (2 * e) (face_upto f e) perm_faces a b lta ltb (λ h. ne (face-OnePart a b h)) x y h)
 
-  -- a third component stays apart
+  -- an exchange leaves a third component apart
   pub swapped-other_part : (c d : ℕ) → part a ≢ part c → part b ≢ part c → part_after d ≡ part_after c → part d ≡ part c
   swapped-other_part c d na nb h = eqb-true (part d) (part c) (
       same_labels test (linked g (2 * e) e) d c
@@ -277,7 +277,7 @@ module _ (e : ℕ) (f : ℕ → ℕ) (perm : Permutes (2 * e) f) (a b : ℕ) (lt
       test : ℕ → Bool
       test y = eqb (part y) (part c)
 
-  -- a third face stays apart
+  -- an exchange leaves a third face apart
   pub swapped-other_face : (c d : ℕ) → face a ≢ face c → face b ≢ face c
       → labels (graph (face_upto g e) (2 * e)) d ≡ labels (graph (face_upto g e) (2 * e)) c → face d ≡ face c
   swapped-other_face c d na nb h =
@@ -301,7 +301,7 @@ module _ (e : ℕ) (f : ℕ → ℕ) (perm : Permutes (2 * e) f) (a b : ℕ) (lt
             (λ h. ne (ap vertex h)) one,
       )
 
-  -- and then the two darts are in different faces
+  -- an exchange of two darts of a face brings them into different faces
   pub swapped_within_face-two_faces : face a ≡ face b → a ≢ b
       → labels (graph (face_upto g e) (2 * e)) a ≢ labels (graph (face_upto g e) (2 * e)) b
   swapped_within_face-two_faces one differ h =

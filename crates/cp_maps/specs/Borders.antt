@@ -1,9 +1,9 @@
 -- A border: a ring of vertices of four darts, through each of which one edge passes from inside to outside.
--- a place on a border: the dart of the border that begins there, and the darts that lead inside and outside
 use Rattle.std.proofs.Common.{reverse}
 use Rattle.std.specs.Prelude.{ℕ, List, [], ◌∷◌, map}
-use Rattle.cp_maps.specs.Twins.{twin}
+use Rattle.cp_faces.specs.Twins.{twin}
 
+-- a place on a border: the dart of the border that begins there, and the darts that lead inside and outside
 pub record Place : Type 0 where
   pub begins : ℕ
   pub inside : ℕ

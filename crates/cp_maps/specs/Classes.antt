@@ -1,12 +1,13 @@
 -- Lists in classes, each connected inside, and the one list that each class becomes.
--- the darts of a class: its first list, and those that grow from it
 use Rattle.std.specs.Prelude.{◌≡◌, ℕ, List, [], ◌∷◌, ◌++◌, not, ◌↔◌}
 use Rattle.std.specs.List.{filter}
 use Rattle.cp_lists.specs.CyclicLists.{Has, Lacks}
+use Rattle.cp_lists.specs.Rows.{flat}
+use Rattle.cp_faces.specs.Twins.{twin}
 use Rattle.cp_maps.specs.Gluings.{Grows}
-use Rattle.cp_maps.specs.Maps.{flat, has}
-use Rattle.cp_maps.specs.Twins.{twin}
+use Rattle.cp_maps.specs.Maps.{has}
 
+-- the darts of a class: its first list, and those that grow from it
 abbrev pub class_darts : List ℕ × List (List ℕ) → List ℕ
 class_darts c = c.0 ++ flat c.1
 

@@ -2,24 +2,25 @@
 -- and on, and it is flat where these and twice the components add up as in the plane (Euler 1758).
 use Rattle.std.specs.Prelude.{◌≡◌, ℕ, eqb, List, [], ◌∷◌, suc, ◌+◌, ◌*◌, ◌≤◌, Bool, zero}
 use Rattle.cp_lists.specs.CyclicLists.{Has}
+use Rattle.cp_lists.specs.Rows.{flat}
 use Rattle.cp_orbits.specs.Classes.{classes, graph, labels, orbits}
 use Rattle.cp_faces.specs.Faces.{face_upto}
-use Rattle.cp_maps.specs.Maps.{IsMapOf, flat, next_by}
+use Rattle.cp_maps.specs.Maps.{IsMapOf, next_by}
 
 -- the pairs of darts of one edge, of the first i edges, and of darts that follow each other
 abbrev pub linked : (ℕ → ℕ) → ℕ → ℕ → List (ℕ × ℕ)
 linked f n zero = graph f n
 linked f n (suc i) = (2 * i, 2 * i + 1) ∷ linked f n i
 
--- how many components the darts make
+-- how many components the darts make by the links
 abbrev pub parts : ℕ → (ℕ → ℕ) → ℕ
 parts e f = classes (2 * e) (linked f (2 * e) e)
 
--- how many faces
+-- how many faces the map has
 abbrev pub rounds : ℕ → (ℕ → ℕ) → ℕ
 rounds e f = orbits (2 * e) (face_upto f e)
 
--- the counts add up as in the plane
+-- the counts add up as in the plane: the map is flat
 abbrev pub IsFlat : ℕ → (ℕ → ℕ) → Type 0
 IsFlat e f = e + 2 * parts e f ≤ orbits (2 * e) f + rounds e f
 
@@ -55,7 +56,7 @@ in_part e f c d = eqb (labels (linked f (2 * e) e) d) c
 abbrev pub Apart : ℕ → (ℕ → ℕ) → List ℕ → List ℕ → Type 0
 Apart e f xs ys = (c d : ℕ) → Has c xs → Has d ys → OnePart e f c d → ⊥
 
--- no two copies are of one component
+-- no two of the lists have darts of one component
 abbrev pub AllApart : ℕ → (ℕ → ℕ) → List (List ℕ) → Type 0
 AllApart e f [] = Unit {0}
 AllApart e f (xs ∷ copies) = Apart e f xs (flat copies) × AllApart e f copies

@@ -1,12 +1,16 @@
 -- Lists put together: pairs of darts, copies of one vertex, and lists that grow from one.
-use Rattle.std.specs.Prelude.{◌≡◌, ℕ, eqb, List, [], ◌∷◌, ◌++◌, ◌*◌, cond}
+use Rattle.std.specs.Prelude.{◌≡◌, ℕ, eqb, List, [], ◌∷◌, ◌++◌, ◌⊎◌, cond}
 use Rattle.std.specs.List.{filter}
 use Rattle.cp_lists.specs.CyclicLists.{Has, Lacks, follow}
+use Rattle.cp_lists.specs.Rows.{flat}
 use Rattle.cp_lists.specs.Turns.{IsTurn}
-use Rattle.cp_orbits.specs.Classes.{labels}
-use Rattle.cp_maps.specs.Genus.{AllApart, in_part, linked}
-use Rattle.cp_maps.specs.Maps.{flat, has}
-use Rattle.cp_maps.specs.Twins.{twin}
+use Rattle.cp_faces.specs.Twins.{twin}
+use Rattle.cp_maps.specs.Genus.{AllApart}
+use Rattle.cp_maps.specs.Maps.{IsMapOf, has}
+
+-- the dart q in place of t, and all others as they are
+abbrev pub in_place : ℕ → ℕ → ℕ → ℕ
+in_place t q d = cond (eqb d t) q d
 
 -- the dart in place of d, where the second dart of each pair takes the place of the twin of the first
 abbrev pub onto : List (ℕ × ℕ) → ℕ → ℕ
@@ -28,7 +32,7 @@ abbrev pub IsAssembled : List ℕ → List (List ℕ) → Type 0
 IsAssembled row [] = row ≡ []
 IsAssembled row (xs ∷ copies) = (rest : List ℕ) × IsTurn (xs ++ rest) row × IsAssembled rest copies
 
--- each list is, up to a turn, what it has of xs
+-- each list is, up to a turn, what the list xs has of its items
 abbrev pub EachTurnOf : List ℕ → List (List ℕ) → Type 0
 EachTurnOf xs [] = Unit {0}
 EachTurnOf xs (ys ∷ copies) = IsTurn (filter (λ d. has d ys) xs) ys × EachTurnOf xs copies
@@ -48,8 +52,20 @@ abbrev pub all_copies : List (List ℕ × List (List ℕ)) → List (List ℕ)
 all_copies [] = []
 all_copies (x ∷ xs) = x.1 ++ all_copies xs
 
--- at the items of the list a dart leads to the next one of its component
-abbrev pub AreSplit : ℕ → (ℕ → ℕ) → List (List ℕ) → Type 0
-AreSplit e g [] = Unit {0}
-AreSplit e g (xs ∷ rows) =
-    ((d : ℕ) → Has d xs → g d ≡ follow (filter (in_part e g (labels (linked g (2 * e) e) d)) xs) d) × AreSplit e g rows
+-- at the items of each list a dart leads to the next one of its class
+abbrev pub AreSplitBy : (ℕ → ℕ) → (ℕ → ℕ) → List (List ℕ) → Type 0
+AreSplitBy class g [] = Unit {0}
+AreSplitBy class g (xs ∷ rows) =
+    ((d : ℕ) → Has d xs → g d ≡ follow (filter (λ y. eqb (class y) (class d)) xs) d) × AreSplitBy class g rows
+
+-- of a group of lists, those that grow from zs as far as it goes, and those that are left
+pub record Grown (zs : List ℕ) (group : List (List ℕ)) : Type 0 where
+  pub taken : List (List ℕ)
+  pub left : List (List ℕ)
+  pub grows : Grows zs taken
+  pub closed : (d : ℕ) → Has d (flat left) → Lacks (twin d) (zs ++ flat taken)
+  pub taken_item : (d : ℕ) → Has d (flat taken) → Has d (flat group)
+  pub left_item : (d : ℕ) → Has d (flat left) → Has d (flat group)
+  pub each : (d : ℕ) → Has d (flat group) → Has d (flat taken) ⊎ Has d (flat left)
+  pub order : (n : ℕ) (f : ℕ → ℕ) (first : List (List ℕ)) → IsMapOf n f (first ++ group)
+      → IsMapOf n f (first ++ (taken ++ left))

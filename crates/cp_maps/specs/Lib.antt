@@ -1,9 +1,11 @@
-pub mod Twins
+pub mod Mirrors
 pub mod Maps
 pub mod Genus
 pub mod Names
 pub mod Borders
 pub mod Trees
 pub mod Gluings
-pub mod Crossings
+pub mod ListClasses
 pub mod Classes
+pub mod Blocks
+pub mod Bonds

@@ -1,7 +1,8 @@
 -- Maps of darts on a fixed stock of edges: edge i has the darts 2i and 2i + 1, a permutation leads from each dart to
 -- the dart behind it, and a dart that is not used is loose: it stays.
-use Rattle.std.specs.Prelude.{◌≡◌, ℕ, ◌<◌, false, ◌||◌, eqb, List, [], ◌∷◌, ◌++◌, Bool, cond}
+use Rattle.std.specs.Prelude.{◌≡◌, ℕ, ◌<◌, false, ◌||◌, eqb, List, [], ◌∷◌, Bool, cond}
 use Rattle.cp_lists.specs.CyclicLists.{Distinct, Has, Lacks, follow}
+use Rattle.cp_lists.specs.Rows.{flat}
 use Rattle.cp_orbits.specs.Orbits.{exchange}
 
 -- f, with what leads to a and what leads to b exchanged
@@ -12,11 +13,6 @@ swapped a b f d = exchange a b (f d)
 pub record Ring (f : ℕ → ℕ) (xs : List ℕ) : Type 0 where
   pub distinct : Distinct xs
   pub along : (d : ℕ) → Has d xs → f d ≡ follow xs d
-
--- all lists one behind the other
-abbrev pub flat : List (List ℕ) → List ℕ
-flat [] = []
-flat (xs ∷ rows) = xs ++ flat rows
 
 -- each list is a ring
 abbrev pub Rings : (ℕ → ℕ) → List (List ℕ) → Type 0
@@ -35,12 +31,12 @@ pub record IsMapOf (n : ℕ) (f : ℕ → ℕ) (rows : List (List ℕ)) : Type 0
   pub rings : Rings f rows
   pub loose : (d : ℕ) → d < n → Lacks d (flat rows) → f d ≡ d
 
--- d is an item of the list
+-- the test whether d is an item of the list
 abbrev pub has : ℕ → List ℕ → Bool
 has d [] = false
 has d (x ∷ xs) = eqb x d || has d xs
 
--- the dart behind d by the lists
+-- the map made of lists: the dart behind d in its list, and d itself where it is in none
 abbrev pub next_by : List (List ℕ) → ℕ → ℕ
 next_by [] d = d
 next_by (xs ∷ rows) d = cond (has d xs) (follow xs d) (next_by rows d)
@@ -49,6 +45,6 @@ next_by (xs ∷ rows) d = cond (has d xs) (follow xs d) (next_by rows d)
 abbrev pub only : (ℕ → Bool) → (ℕ → ℕ) → ℕ → ℕ
 only p f d = cond (p d) (f d) d
 
--- each map with the first lists has the second ones, too: they are the same up to turns, order and bare vertices
+-- the lists are the same up to turns, order and bare vertices: each map with the first ones has the second ones
 abbrev pub SameRings : ℕ → List (List ℕ) → List (List ℕ) → Type 0
 SameRings n rows others = (f : ℕ → ℕ) → IsMapOf n f rows → IsMapOf n f others

@@ -1,6 +1,6 @@
 -- Maps under other names for their darts.
 use Rattle.std.specs.Prelude.{◌≡◌, ℕ, ◌<◌, ◌≢◌, ◌*◌}
-use Rattle.cp_maps.specs.Twins.{twin}
+use Rattle.cp_faces.specs.Twins.{twin}
 
 -- j gives the darts of m edges different names below those of e edges, and twins names of twins
 pub record Names (m e : ℕ) (j : ℕ → ℕ) : Type 0 where

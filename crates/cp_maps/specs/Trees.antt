@@ -1,6 +1,6 @@
 -- A tree planted at a vertex, as the kids of a node.
 use Rattle.std.specs.Prelude.{ℕ, List, [], ◌∷◌, ◌++◌}
-use Rattle.cp_maps.specs.Twins.{twin}
+use Rattle.cp_faces.specs.Twins.{twin}
 
 -- the kids of a node: leaves, and nodes with kids of their own
 pub data Kids : Type 0 where

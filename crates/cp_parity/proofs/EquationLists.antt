@@ -24,19 +24,22 @@ AreOf-again : (eqs : List Equation) (bound x : ℕ) (places : List ℕ) (p : ℕ
 AreOf-again eqs bound x places p e are at touches = record {
   within = λ q c. ⊎_elim
       (λ old. are.within q old)
-      (λ new. subst (λ (k : ℕ). (f : Equation) × (slice_get eqs k ≡ Some f) × Touches f x) (one_at p q new.0 new.1 new.2) (e, at, touches))
+      (λ new. subst (λ (k : ℕ). (f : Equation) × (slice_get eqs k ≡ Some f) × Touches f x)
+      (one_at p q new.0 new.1 new.2) (e, at, touches))
       (Contains-append_cases places (p ∷ []) q c);
   all = λ q f lt fat t. Contains-append_left places (p ∷ []) q (are.all q f lt fat t);
 }
 
 -- one equation more, which the list contains if it is one of the var
 AreOf-next : (eqs : List Equation) (bound x : ℕ) (places : List ℕ) (e : Equation)
-    → AreOf eqs bound x places → slice_get eqs bound ≡ Some e → (Touches e x → Contains places bound) → AreOf eqs (bound + 1) x places
+    → AreOf eqs bound x places → slice_get eqs bound ≡ Some e → (Touches e x → Contains places bound)
+    → AreOf eqs (bound + 1) x places
 AreOf-next eqs bound x places e are at contained = record {
   within = are.within;
   all = λ q f lt fat t. ⊎_elim
       (λ same. subst (Contains places) (sym same)
-      (contained (subst (λ (g : Equation). Touches g x) (same_at eqs bound f e (ap (slice_get eqs) (sym same) ∙ fat) at) t)))
+      (contained (subst (λ (g : Equation). Touches g x) (same_at eqs bound f e (ap (slice_get eqs) (sym same)
+      ∙ fat) at) t)))
       (λ ne. are.all q f (omega arith) fat t)
       (cases_eq q bound);
 }
@@ -79,22 +82,26 @@ AreListed-more eqs vars place lists e one two listed within at one_is two_is = r
     mid_of : (x : ℕ) → x < vars → AreOf eqs place x (get_or mid x [])
     mid_of x lt = ⊎_elim
         (λ same. subst (λ (v : ℕ). AreOf eqs place v (get_or mid v [])) (sym same)
-        (subst (AreOf eqs place e.x) (sym mid_at) (AreOf-again eqs place e.x (get_or lists e.x []) place e (listed.each e.x within.0) at (inl refl))))
+        (subst (AreOf eqs place e.x) (sym mid_at) (AreOf-again eqs place e.x (get_or lists e.x []) place e
+        (listed.each e.x within.0) at (inl refl))))
         (λ ne. subst (AreOf eqs place x) (sym (get_or-set_other lists e.x x one [] ne)) (listed.each x lt))
         (cases_eq x e.x)
 
     last_of : (x : ℕ) → x < vars → AreOf eqs place x (get_or last x [])
     last_of x lt = ⊎_elim
         (λ same. subst (λ (v : ℕ). AreOf eqs place v (get_or last v [])) (sym same)
-        (subst (AreOf eqs place e.y) (sym last_at) (AreOf-again eqs place e.y (get_or mid e.y []) place e (mid_of e.y within.1) at (inr refl))))
+        (subst (AreOf eqs place e.y) (sym last_at) (AreOf-again eqs place e.y (get_or mid e.y []) place e
+        (mid_of e.y within.1) at (inr refl))))
         (λ ne. subst (AreOf eqs place x) (sym (get_or-set_other mid e.y x two [] ne)) (mid_of x lt))
         (cases_eq x e.y)
 
     at_second : Contains (get_or last e.y []) place
-    at_second = subst (λ (ps : List ℕ). Contains ps place) (sym last_at) (Contains-append_right (get_or mid e.y []) (place ∷ []) place (one_contained place))
+    at_second = subst (λ (ps : List ℕ). Contains ps place) (sym last_at)
+        (Contains-append_right (get_or mid e.y []) (place ∷ []) place (one_contained place))
 
     at_first : Contains (get_or mid e.x []) place
-    at_first = subst (λ (ps : List ℕ). Contains ps place) (sym mid_at) (Contains-append_right (get_or lists e.x []) (place ∷ []) place (one_contained place))
+    at_first = subst (λ (ps : List ℕ). Contains ps place) (sym mid_at)
+        (Contains-append_right (get_or lists e.x []) (place ∷ []) place (one_contained place))
 
     contained : (x : ℕ) → x < vars → Touches e x → Contains (get_or last x []) place
     contained x lt t = ⊎_elim

@@ -1,5 +1,5 @@
 -- Items of a list by their places.
-use Rattle.std.proofs.Common.{◌≡◌, ℕ, suc, zero, ◌<◌, ◌⊎◌, List, [], ◌∷◌, ◌++◌, length, set, get_or, Option, Some, None, replicate, slice_get, sym, refl, ap, ◌∙◌, subst, inl, inr, arith}
+use Rattle.std.proofs.Common.{◌≡◌, ℕ, suc, zero, ◌<◌, ◌⊎◌, List, [], ◌∷◌, ◌++◌, length, set, Some, replicate, slice_get, sym, refl, ap, ◌∙◌, subst, inl, inr, arith}
 use Rattle.std.specs.List.{All}
 use Rattle.std.proofs.lemmas.Option.{none-some, same_Some, slice_get_within, get_or_from_slice_get}
 
@@ -12,7 +12,8 @@ pub same_at : {A : Type 0} (xs : List A) (i : ℕ) (x y : A) → slice_get xs i 
 same_at xs i x y one other = same_Some x y (sym one ∙ other)
 
 -- an item of the first part is one of the whole
-pub at_append : {A : Type 0} (xs ys : List A) (i : ℕ) (x : A) → slice_get xs i ≡ Some x → slice_get (xs ++ ys) i ≡ Some x
+pub at_append : {A : Type 0} (xs ys : List A) (i : ℕ) (x : A) → slice_get xs i ≡ Some x
+    → slice_get (xs ++ ys) i ≡ Some x
 at_append [] ys i x at = absurd (none-some x at)
 at_append (z ∷ xs) ys zero x at = at
 at_append (z ∷ xs) ys (suc i) x at = at_append xs ys i x at
@@ -38,7 +39,8 @@ at_set (z ∷ xs) zero x lt = refl
 at_set (z ∷ xs) (suc i) x lt = at_set xs i x (omega arith)
 
 -- the items at other places stay
-pub at_set_other : {A : Type 0} (xs : List A) (i k : ℕ) (x : A) → (k ≡ i → ⊥) → slice_get (set xs i x) k ≡ slice_get xs k
+pub at_set_other : {A : Type 0} (xs : List A) (i k : ℕ) (x : A) → (k ≡ i → ⊥)
+    → slice_get (set xs i x) k ≡ slice_get xs k
 at_set_other [] i k x ne = refl
 at_set_other (z ∷ xs) zero zero x ne = absurd (ne refl)
 at_set_other (z ∷ xs) zero (suc k) x ne = refl

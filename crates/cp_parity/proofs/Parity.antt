@@ -1,5 +1,5 @@
 -- Sums of bits, and the parity of a list of equations.
-use Rattle.std.proofs.Common.{◌≡◌, ℕ, zero, suc, ◌+◌, ◌%◌, ◌<◌, Bool, true, false, cond, List, [], ◌∷◌, ◌++◌, map, Option, Some, reverse, slice_get, slice_index_or, sym, refl, ap, ◌∙◌, arith}
+use Rattle.std.proofs.Common.{◌≡◌, ℕ, zero, suc, ◌+◌, ◌%◌, Bool, true, false, cond, List, [], ◌∷◌, ◌++◌, Some, reverse, slice_get, sym, refl, ap, ◌∙◌, arith}
 use Rattle.std.specs.List.{count_by}
 use Rattle.std.proofs.lemmas.List.{reverse-append}
 use Rattle.std.proofs.lemmas.List.Sums.{sum_by-cons}
@@ -59,16 +59,19 @@ differ_ne false false true ne = refl
 differ_ne false false false ne = absurd (ne refl)
 
 -- the equation at a place tells whether it is odd
-pub is_odd_at-is : (eqs : List Equation) (place : ℕ) (e : Equation) → slice_get eqs place ≡ Some e → is_odd_at eqs place ≡ e.odd
+pub is_odd_at-is : (eqs : List Equation) (place : ℕ) (e : Equation) → slice_get eqs place ≡ Some e
+    → is_odd_at eqs place ≡ e.odd
 is_odd_at-is [] place e at = absurd (none-some e at)
 is_odd_at-is (x ∷ eqs) zero e at = ap (λ (z : Equation). z.odd) (same_Some x e at)
 is_odd_at-is (x ∷ eqs) (suc place) e at = is_odd_at-is eqs place e at
 
 -- the parity of two lists together
-pub parity-append : (eqs : List Equation) (ps qs : List ℕ) → parity eqs (ps ++ qs) ≡ differ (parity eqs ps) (parity eqs qs)
+pub parity-append : (eqs : List Equation) (ps qs : List ℕ) → parity eqs (ps ++ qs) ≡ differ (parity eqs ps)
+    (parity eqs qs)
 parity-append eqs [] qs = sym (differ_false (parity eqs qs))
 parity-append eqs (p ∷ ps) qs =
-    ap (differ (is_odd_at eqs p)) (parity-append eqs ps qs) ∙ sym (differ-assoc (is_odd_at eqs p) (parity eqs ps) (parity eqs qs))
+    ap (differ (is_odd_at eqs p)) (parity-append eqs ps qs) ∙ sym
+    (differ-assoc (is_odd_at eqs p) (parity eqs ps) (parity eqs qs))
 
 -- the parity of one place
 pub parity_one : (eqs : List Equation) (p : ℕ) → parity eqs (p ∷ []) ≡ is_odd_at eqs p

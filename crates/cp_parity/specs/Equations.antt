@@ -1,5 +1,5 @@
 -- Equations over bits, and closed walks along them.
-use Rattle.std.specs.Prelude.{◌≡◌, ℕ, ◌+◌, ◌%◌, ◌<◌, ◌⊎◌, Bool, true, false, not, Some, List, [], ◌∷◌, map, slice_get, slice_index_or}
+use Rattle.std.specs.Prelude.{◌≡◌, ℕ, ◌%◌, ◌<◌, ◌⊎◌, Bool, true, false, not, Some, List, [], ◌∷◌, map, slice_get, slice_index_or}
 use Rattle.std.specs.List.{All, count_by}
 use Rattle.cp_base.specs.declared.equation.Equation.{Equation}
 use Rattle.cp_orbits.specs.Connected.{Joins}

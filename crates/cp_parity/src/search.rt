@@ -27,7 +27,10 @@ pub(crate) fn empty_search(alloc: Global, vars: usize) -> Result<Search, Memory>
     ensures places { IfOk result (λ search. search.places.items ≡ replicate vars None) }
 {
     let places = vec![in alloc; None; vars]?;
-    Ok(Search { found: Vec::new(alloc), places })
+    Ok(Search {
+        found: Vec::new(alloc),
+        places,
+    })
 }
 
 // Finds a var.
@@ -79,7 +82,15 @@ fn follow(
     let bit = above.bit ^ equation.odd;
     match search.places[var] {
         None => {
-            find(search, Found { var, bit, up: from, link })?;
+            find(
+                search,
+                Found {
+                    var,
+                    bit,
+                    up: from,
+                    link,
+                },
+            )?;
             Ok(())
         }
         Some(to) => {

@@ -36,7 +36,15 @@ fn visit(
         return Ok(());
     }
     let root = search.found.len();
-    find(search, Found { var, bit: false, up: root, link: 0 })?;
+    find(
+        search,
+        Found {
+            var,
+            bit: false,
+            up: root,
+            link: 0,
+        },
+    )?;
     run(alloc, eqs, lists, root, search)?;
     Ok(())
 }

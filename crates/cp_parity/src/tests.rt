@@ -1,65 +1,84 @@
 // Equations that bits meet, and equations that none do.
-use crate::{ParityFault, solve};
-use cp_base::Equation;
+use crate::{ParityFault, Places, solve};
+use cp_base::{Equation, Equations};
+use std::alloc::Global;
 use std::process::Abort;
 use std::test::Fail;
 
 const SAME: bool = false;
+
 const ODD: bool = true;
 
-fn equation(x: usize, y: usize, odd: bool) -> Equation {
-    Equation { x, y, odd }
-}
-
-// Asserts that no bits meet the equations, and that the conflict has these places, in some order.
-fn assert_conflict(
+// The answer to equations, each given by its two vars and whether it is odd.
+fn answer(
     rt: &impl Abort,
-    outcome: Result<Vec<bool>, ParityFault>,
-    places: &[usize],
-) -> Result<(), Fail> {
-    match outcome {
-        Err(ParityFault::Conflict { cycle }) => {
-            assert_eq!(rt; cycle.len(), places.len());
-            for place in places {
-                assert!(rt; cycle.items().contains(place));
-            }
-        }
-        _ => assert!(rt; false, "no conflict"),
+    alloc: Global,
+    vars: usize,
+    rows: &[(usize, usize, bool)],
+) -> Result<Vec<bool>, ParityFault> {
+    let mut eqs = Equations::new(alloc);
+    for row in rows {
+        let (x, y, odd) = *row;
+        assert!(rt; x < vars);
+        assert!(rt; y < vars);
+        eqs.push(Equation { x, y, odd })?;
     }
-    Ok(())
+    solve(alloc, vars, eqs.items())
+}
+
+// The cycle of a conflict.
+fn cycle_of(answer: Result<Vec<bool>, ParityFault>) -> Option<Places> {
+    match answer {
+        Ok(_bits) => None,
+        Err(fault) => match fault {
+            ParityFault::Conflict { cycle } => Some(cycle),
+            ParityFault::Memory => None,
+        },
+    }
 }
 
 #[test]
-fn a_path_is_met_and_an_odd_triangle_is_not(rt: HostRuntime) -> Result<(), Fail> {
-    let eqs = [equation(0, 1, SAME), equation(1, 2, ODD), equation(0, 2, SAME)];
-    let bits = solve(rt.alloc(), 3, &eqs[..2])?;
-    assert_eq!(rt; bits.as_slice(), [false, false, true].as_slice());
-    assert_conflict(&rt, solve(rt.alloc(), 3, &eqs), &[0, 1, 2])?;
-    Ok(())
-}
-
-#[test]
-fn each_part_has_bits_of_its_own(rt: HostRuntime) -> Result<(), Fail> {
-    let eqs = [equation(4, 1, ODD), equation(1, 1, SAME), equation(3, 0, ODD), equation(1, 4, ODD)];
-    let bits = solve(rt.alloc(), 5, &eqs)?;
-    assert_eq!(rt; bits.as_slice(), [false, false, false, true, true].as_slice());
-    let none = solve(rt.alloc(), 0, &[])?;
+fn equations_are_met(rt: HostRuntime) -> Result<(), Fail> {
+    let path = answer(&rt, rt.alloc(), 3, &[(0, 1, SAME), (1, 2, ODD)])?;
+    assert_eq!(rt; path.as_slice(), [false, false, true].as_slice());
+    let none = answer(&rt, rt.alloc(), 0, &[])?;
     assert!(rt; none.is_empty());
+    let parts = answer(
+        &rt,
+        rt.alloc(),
+        5,
+        &[(4, 1, ODD), (1, 1, SAME), (3, 0, ODD), (1, 4, ODD)],
+    )?;
+    assert_eq!(rt;
+        parts.as_slice(),
+        [false, false, false, true, true].as_slice()
+    );
+    let even = answer(
+        &rt,
+        rt.alloc(),
+        4,
+        &[(0, 1, ODD), (1, 2, ODD), (2, 3, SAME), (3, 0, SAME)],
+    )?;
+    assert_eq!(rt; even.as_slice(), [false, true, false, false].as_slice());
     Ok(())
 }
 
 #[test]
-fn a_bit_does_not_differ_from_itself(rt: HostRuntime) -> Result<(), Fail> {
-    assert_conflict(&rt, solve(rt.alloc(), 2, &[equation(1, 1, ODD)]), &[0])?;
-    let pair = [equation(0, 1, SAME), equation(1, 0, ODD)];
-    assert_conflict(&rt, solve(rt.alloc(), 2, &pair), &[0, 1])?;
-    Ok(())
-}
-
-#[test]
-fn an_even_cycle_is_met(rt: HostRuntime) -> Result<(), Fail> {
-    let eqs = [equation(0, 1, ODD), equation(1, 2, ODD), equation(2, 3, SAME), equation(3, 0, SAME)];
-    let bits = solve(rt.alloc(), 4, &eqs)?;
-    assert_eq!(rt; bits.as_slice(), [false, true, false, false].as_slice());
+fn odd_cycles_are_told(rt: HostRuntime) -> Result<(), Fail> {
+    let triangle = cycle_of(answer(
+        &rt,
+        rt.alloc(),
+        3,
+        &[(0, 1, SAME), (1, 2, ODD), (0, 2, SAME)],
+    ));
+    let places = triangle.ok_or("no conflict")?;
+    assert_eq!(rt; places.len(), 3);
+    assert!(rt;
+        places.items().contains(&0) && places.items().contains(&1) && places.items().contains(&2)
+    );
+    let itself = cycle_of(answer(&rt, rt.alloc(), 2, &[(0, 0, SAME), (1, 1, ODD)]));
+    assert_eq!(rt; itself.ok_or("no conflict")?.items(), [1usize].as_slice());
+    let pair = cycle_of(answer(&rt, rt.alloc(), 2, &[(0, 1, SAME), (1, 0, ODD)]));
+    assert_eq!(rt; pair.ok_or("no conflict")?.len(), 2);
     Ok(())
 }

@@ -12,6 +12,7 @@ use Rattle.cp_report.proofs.CutLemmas.{lacks_by_test}
 use Rattle.cp_report.proofs.TextLemmas.{all-before, all-append, rows, rows_same, rows_are_lines, pieces, pieces-cut, pieces-whole, pieces_of_text, some_piece, lists_compare}
 use Rattle.cp_report.proofs.ReportLemmas.{behind_first, verdict_byte, no_not_yes, end_behind_nodes, end_behind_clusters}
 
+-- a layout is its two rows of lists
 layout_same : (l m : Layout) → l.nodes ≡ m.nodes → l.clusters ≡ m.clusters → l ≡ m
 layout_same l m p q =
     let other : Layout = record { nodes = m.nodes; clusters = l.clusters } in
@@ -33,6 +34,7 @@ report_unique (Yes l) No x y wl wm h = absurd (no_not_yes (sym (ap verdict_byte 
 report_unique No (Yes m) x y wl wm h = absurd (no_not_yes (ap verdict_byte h))
 report_unique No No x y wl wm h = (refl, ap (λ ls. behind_first (behind_first (behind_first ls))) h)
 
+-- no line of a report has a line feed in it
 report_lines_are_lines : (r : Report) → IsWithinLimits r → AllByRecursion IsLine (report_lines r)
 report_lines_are_lines No within = (lacks_by_test 10 (codes "cplan-report 1") refl, (lacks_by_test 10 (codes "no") refl, (lacks_by_test 10 (codes "end") refl, tt)))
 report_lines_are_lines (Yes l) within = (
@@ -54,9 +56,11 @@ same_reading r s a b wr ws h =
     let same = (report_unique r s _ _ wr ws cut).0 in
     (same, append_cancel_left (report_text s) a b (ap (λ t. report_text t ++ a) (sym same) ∙ h))
 
+-- no line of a report begun has a line feed in it
 begun_lines : (lines : List (List ℕ)) → IsBegun lines → AllByRecursion IsLine lines
 begun_lines lines begun = all-before IsLine lines (begun.next ∷ begun.later) (subst (AllByRecursion IsLine) begun.begins (report_lines_are_lines begun.report begun.within))
 
+-- nothing stands in an empty row
 no_tail : (more : List (List ℕ)) (next : List ℕ) (later : List (List ℕ)) → [] ≡ more ++ next ∷ later → ⊥
 no_tail [] next later h = absurd cc
 no_tail (m ∷ more) next later h = absurd cc
@@ -78,9 +82,11 @@ no_next_line lines rest kind line bytes more (missing lacks e) h r later within 
     let both : line ∷ more ++ pieces bytes ≡ rest ∷ [] = sym h ∙ pieces-whole rest lacks in
     some_piece bytes more cc
 
+-- bytes at fault begin with the lines before the fault
 fault_front : (bytes : List ℕ) (kind line : ℕ) (f : IsFaultOf bytes kind line) → pieces bytes ≡ f.before ++ pieces f.rest
 fault_front bytes kind line f = ap pieces f.front ∙ pieces_of_text f.before f.rest (begun_lines f.before f.begun)
 
+-- a fault does not stand behind lines that go on to a report
 apart_behind : (more : List (List ℕ)) (r : Report) (a bytes : List ℕ) (kind line : ℕ) → IsWithinLimits r → (f : IsFaultOf bytes kind line) → report_lines r ≡ f.before ++ more → pieces f.rest ≡ more ++ pieces a → ⊥
 apart_behind [] r a bytes kind line within f h k = not_longer f.before [] r within f.begun (sym (append-nil f.before) ∙ sym h ∙ sym (append-nil (report_lines r)))
 apart_behind (m ∷ more) r a bytes kind line within f h k = no_next_line f.before f.rest kind m a more f.breaks k r more within h
@@ -94,6 +100,7 @@ no_fault_in_report r a bytes kind line within h f =
       | inr m ↦ not_longer f.before m.0 r within f.begun m.1
     ]
 
+-- a fault behind given lines has one kind
 same_kind : (lines : List (List ℕ)) (q r : List ℕ) (k l : ℕ) → Breaks lines q k → Breaks lines r l → pieces q ≡ pieces r → k ≡ l
 same_kind lines q r k l (wrong _ _ _ _ _ e) (wrong _ _ _ _ _ f) h = e ∙ sym f
 same_kind lines q r k l (missing _ e) (missing _ f) h = e ∙ sym f
@@ -104,6 +111,7 @@ same_kind lines q r k l (missing whole e) (wrong line after lacks cut _ f) h =
     let both : line ∷ pieces after ≡ q ∷ [] = sym (pieces-cut line after lacks) ∙ ap pieces (sym cut) ∙ sym h ∙ pieces-whole q whole in
     absurd (some_piece after [] cc)
 
+-- of two faults none stands before the other
 faults_ordered : (more : List (List ℕ)) (bytes : List ℕ) (k a l b : ℕ) (f : IsFaultOf bytes k a) (g : IsFaultOf bytes l b) → g.before ≡ f.before ++ more → pieces f.rest ≡ more ++ pieces g.rest → (k ≡ l) × (a ≡ b)
 faults_ordered [] bytes k a l b f g h e =
     let same : g.before ≡ f.before = h ∙ append-nil f.before in

@@ -1,7 +1,10 @@
-pub mod CutLemmas
+-- for callers: facts about the definitions
 pub mod LawLemmas
-pub mod NumberLemmas
-pub mod ReportLemmas
-pub mod RowLemmas
-pub mod TextLemmas
-pub mod WordLemmas
+pub mod Outcomes
+-- what the proofs of this crate rest on
+mod CutLemmas
+mod NumberLemmas
+mod ReportLemmas
+mod RowLemmas
+mod TextLemmas
+mod WordLemmas

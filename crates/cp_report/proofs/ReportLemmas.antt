@@ -5,7 +5,7 @@ use Rattle.cp_report.specs.declared.report.Report.TheVariants.{Yes, No}
 use Rattle.cp_report.specs.declared.row.Row.TheVariants.{Nodes, Clusters}
 use Rattle.cp_report.specs.Texts.{numbered, node_line, cluster_line, text_of, IsLayoutWithinLimits}
 use Rattle.cp_report.specs.Faults.{IsBegun, IsWrongBehind, kind_behind, wrong, missing, IsFaultOf}
-use Rattle.cp_report.specs.Reading.{Lacks, AreItems, IsListLine, AreRows, HasNoRow, IsLate, other_line, no_line, behind_heading, behind_yes, behind_no}
+use Rattle.cp_report.specs.Reading.{Lacks, AreItems, IsListLine, AreListLines, HasNoRow, IsLate, other_line, no_line, behind_heading, behind_yes, behind_no}
 use Rattle.cp_report.proofs.CutLemmas.{cut_or_whole}
 use Rattle.cp_report.proofs.TextLemmas.{all-behind, text-append, rows, rows_compare, head_byte}
 
@@ -121,7 +121,7 @@ layout_begun ns cs within = record {
 no_begun : IsBegun (codes "cplan-report 1" ∷ codes "no" ∷ [])
 no_begun = record { report = No; within = tt; next = codes "end"; later = []; begins = refl }
 
-pub layout_within : (bytes after rest : List ℕ) (ns cs : List (List ℕ)) → AreRows Nodes 0 bytes ns after → AreRows Clusters 1 after cs rest → IsLayoutWithinLimits (record { nodes = ns; clusters = cs })
+pub layout_within : (bytes after rest : List ℕ) (ns cs : List (List ℕ)) → AreListLines Nodes 0 bytes ns after → AreListLines Clusters 1 after cs rest → IsLayoutWithinLimits (record { nodes = ns; clusters = cs })
 layout_within bytes after rest ns cs nodes clusters = record {
   nodes = omega (arith, nodes.fit);
   darts = nodes.items_fit;
@@ -129,7 +129,7 @@ layout_within bytes after rest ns cs nodes clusters = record {
   edges = clusters.items_fit;
 }
 
-layout_front : (bytes after rest : List ℕ) (ns cs : List (List ℕ)) → AreRows Nodes 0 bytes ns after → AreRows Clusters 1 after cs rest → text_of (layout_lines ns cs) ++ rest ≡ behind_yes bytes
+layout_front : (bytes after rest : List ℕ) (ns cs : List (List ℕ)) → AreListLines Nodes 0 bytes ns after → AreListLines Clusters 1 after cs rest → text_of (layout_lines ns cs) ++ rest ≡ behind_yes bytes
 layout_front bytes after rest ns cs nodes clusters =
     let start = codes "cplan-report 1" ∷ codes "yes" ∷ [] in
     text-append (start ++ numbered node_line 0 ns) (numbered cluster_line 1 cs) rest
@@ -141,7 +141,7 @@ layout_length : (ns cs : List (List ℕ)) → length (layout_lines ns cs) + 1 �
 layout_length ns cs = omega (arith, length-append (numbered node_line 0 ns) (numbered cluster_line 1 cs), length-numbered node_line 0 ns, length-numbered cluster_line 1 cs)
 
 -- the fault where the lists are read, but `end` does not follow
-pub layout_fault : (bytes after rest : List ℕ) (ns cs : List (List ℕ)) (kind : ℕ) → AreRows Nodes 0 bytes ns after × HasNoRow Nodes (0 + length ns) after → AreRows Clusters 1 after cs rest × HasNoRow Clusters (1 + length cs) rest → ((t : List ℕ) → rest ≡ codes "end" ++ 10 ∷ t → ⊥) → IsLate rest kind → IsFaultOf (behind_yes bytes) kind (length ns + length cs + 3)
+pub layout_fault : (bytes after rest : List ℕ) (ns cs : List (List ℕ)) (kind : ℕ) → AreListLines Nodes 0 bytes ns after × HasNoRow Nodes (0 + length ns) after → AreListLines Clusters 1 after cs rest × HasNoRow Clusters (1 + length cs) rest → ((t : List ℕ) → rest ≡ codes "end" ++ 10 ∷ t → ⊥) → IsLate rest kind → IsFaultOf (behind_yes bytes) kind (length ns + length cs + 3)
 layout_fault bytes after rest ns cs kind nodes clusters no_end late =
     let within = layout_within bytes after rest ns cs nodes.0 clusters.0 in
     let same : cs ≡ [] → after ≡ rest = λ e. clusters.0.spelled ∙ ap (λ k. text_of (rows Clusters 1 k) ++ rest) e in

@@ -7,7 +7,7 @@ use Rattle.std.proofs.lemmas.List.Concat.{flat_map-append}
 use Rattle.cp_report.specs.declared.row.Row.{Row}
 use Rattle.cp_report.specs.declared.row.Row.TheVariants.{Nodes, Clusters}
 use Rattle.cp_report.specs.Texts.{numbered, text_of}
-use Rattle.cp_report.specs.Reading.{Lacks, words, row_key, row_item, row_limit, row_line, AreItems, IsListLine, AreRows, HasNoRow}
+use Rattle.cp_report.specs.Reading.{Lacks, words, row_key, row_item, row_limit, row_line, AreItems, IsListLine, AreListLines, HasNoRow}
 use Rattle.cp_report.proofs.CutLemmas.{split_at_cut, lacks-append}
 use Rattle.cp_report.proofs.NumberLemmas.{lacks-decimal, lacks-label, lacks-dart}
 use Rattle.cp_report.proofs.WordLemmas.{words_of_line, line_of_words}
@@ -107,7 +107,7 @@ rows_written row first i number lists items old done new below at place so_far m
     ∙ ap (λ t. old ++ t) (sym (text_push row first (take i lists) items) ∙ ap (λ ls. text_of (numbered (row_line row) first ls)) (sym front))
 
 -- one line more
-pub rows_more : (row : Row) (first : ℕ) (text : List ℕ) (lists : List (List ℕ)) (rest line after items : List ℕ) → AreRows row first text lists rest → rest ≡ line ++ 10 ∷ after → IsListLine row (first + length lists) line items → AreRows row first text (lists ++ items ∷ []) after
+pub rows_more : (row : Row) (first : ℕ) (text : List ℕ) (lists : List (List ℕ)) (rest line after items : List ℕ) → AreListLines row first text lists rest → rest ≡ line ++ 10 ∷ after → IsListLine row (first + length lists) line items → AreListLines row first text (lists ++ items ∷ []) after
 rows_more row first text lists rest line after items rows cut it =
     let lines = numbered (row_line row) first lists in
     let last : rest ≡ (row_line row (first + length lists) items ++ 10 ∷ []) ++ after = cut ∙ ap (λ l. l ++ 10 ∷ after) it.spelled ∙ sym (append_assoc (row_line row (first + length lists) items) (10 ∷ []) after) in

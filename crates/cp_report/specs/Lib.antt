@@ -1,4 +1,6 @@
+-- what contracts rest on
+pub mod Texts
 pub mod Faults
+-- what functions inside promise each other
 pub mod Reading
 pub mod Rows
-pub mod Texts

@@ -42,7 +42,7 @@ pub record IsListLine (row : Row) (number : ℕ) (line items : List ℕ) : Type 
   pub spelled : line ≡ row_line row number items
 
 -- the text has lines for the lists, numbered from first on, and then the rest
-pub record AreRows (row : Row) (first : ℕ) (text : List ℕ) (lists : List (List ℕ)) (rest : List ℕ) : Type 0 where
+pub record AreListLines (row : Row) (first : ℕ) (text : List ℕ) (lists : List (List ℕ)) (rest : List ℕ) : Type 0 where
   pub fit : first + length lists ≤ 2 ^ 32
   pub items_fit : AllByRecursion (AreItems row) lists
   pub spelled : text ≡ text_of (numbered (row_line row) first lists) ++ rest

@@ -2,7 +2,7 @@
 ghost use Rattle.std.specs.Prelude.{◌≡◌, ◌++◌, ◌∷◌, [], ℕ, ◌+◌, ◌<◌, ◌≤◌, ◌^◌, List, length, map, take, IsTrue, ◌↔◌, MatchOption, IfOk, IfErr};
 ghost use Rattle.std.specs.Fmt.{decimal};
 ghost use Rattle.cp_report.specs.Faults.{IfBad, IsFaultOf};
-ghost use Rattle.cp_report.specs.Reading.{AreItems, row_item, row_key, IsListLine, AreRows, HasNoRow, IsLate, behind_heading, behind_no, behind_yes};
+ghost use Rattle.cp_report.specs.Reading.{AreItems, row_item, row_key, IsListLine, AreListLines, HasNoRow, IsLate, behind_heading, behind_no, behind_yes};
 ghost use Rattle.cp_report.specs.Texts.{BeginsWith, IsWithinLimits, report_text};
 
 use crate::number::{is_label, item_of};
@@ -57,7 +57,7 @@ fn read_rows(
     first: usize,
 ) -> Result<(CycLists, &[u8]), Memory>
     requires { first < 2 ^ 32 }
-    ensures { IfOk result (λ r. AreRows row first bytes.now r.0 r.1.now × HasNoRow row (first + length r.0) r.1.now) }
+    ensures { IfOk result (λ r. AreListLines row first bytes.now r.0 r.1.now × HasNoRow row (first + length r.0) r.1.now) }
 {
     let mut lists = Items::new(alloc);
     let mut rest = bytes;

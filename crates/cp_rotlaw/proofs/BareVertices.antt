@@ -1,9 +1,9 @@
 -- Vertices more at which no dart stands.
-use Rattle.std.proofs.Common.{◌≡◌, ℕ, suc, ◌+◌, ◌*◌, ◌<◌, ◌≤◌, true, cond, not, ltb, eqb, sym, refl, ap, ◌∙◌, ⊎_elim, arith}
+use Rattle.std.proofs.Common.{◌≡◌, ℕ, suc, ◌+◌, ◌*◌, ◌<◌, ◌≤◌, cond, not, ltb, eqb, sym, ap, ◌∙◌, ⊎_elim, arith}
 use Rattle.std.proofs.lemmas.Bool.{cases_lt, cond-true, cond-false, lt-ltb, le-ltb, eq-eqb, not_from_false}
 use Rattle.cp_orbits.specs.Classes.{labels}
 use Rattle.cp_faces.specs.Faces.{Rotates, ends_upto, stands, bare, faces, components}
-use Rattle.cp_lists.proofs.Counting.{count_all, count_inject}
+use Rattle.cp_lists.proofs.Counting.{count_all}
 use Rattle.cp_orbits.proofs.ClassLabels.{labels-keeps}
 use Rattle.cp_faces.proofs.Faces.{stands_none}
 use Rattle.cp_faces.proofs.Renaming.{Respects-ends}

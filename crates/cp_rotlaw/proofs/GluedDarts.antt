@@ -2,14 +2,13 @@
 use Rattle.std.proofs.Common.{◌≡◌, ℕ, ◌+◌, ◌-◌, ◌*◌, ◌/◌, ◌%◌, ◌<◌, ◌≤◌, ◌≢◌, ◌⊎◌, true, false, ◌&&◌, eqb, ltb, List, [], length, map, slice_index, sym, ap, ap₂, ◌∙◌, subst, inl, inr, ⊎_elim, arith}
 use Rattle.std.proofs.lemmas.Bool.{cases_eq, cases_Bool, cases_lt, eq-eqb, ne_eqb, cond-true, cond-false, lt-ltb, le-ltb, false≢true}
 use Rattle.cp_lists.specs.Count.{count}
-use Rattle.cp_lists.specs.CyclicLists.{Has, Distinct, follow}
+use Rattle.cp_lists.specs.CyclicLists.{Has, Distinct}
 use Rattle.cp_faces.specs.Faces.{on_edges}
-use Rattle.cp_rot.specs.Systems.{System, darts, edges, vertex_of, list_of, next, IsRotation}
+use Rattle.cp_rot.specs.Systems.{System, darts, edges, vertex_of, list_of, IsRotation}
 use Rattle.cp_faces.specs.Twins.{twin}
 use Rattle.cp_rot.specs.Tables.{system_of}
 use Rattle.cp_rot.specs.Rewrites.{values}
 use Rattle.cp_faces.proofs.Twins.{twin-twin, twin-below, twin_even, twin_odd}
-use Rattle.cp_rot.proofs.Functions.{next-follow}
 use Rattle.cp_rot.proofs.ListEdits.{length-values, values_at}
 use Rattle.cp_rot.proofs.ListSystems.{Listed, Listed-system, Listed-exact}
 use Rattle.cp_rotlaw.specs.Systems.{is_other, HasNoLoopAt}
@@ -17,7 +16,7 @@ use Rattle.cp_rotlaw.specs.Glue.{ArePartners, partner_of_first, partner_of_secon
 use Rattle.cp_rotlaw.specs.GlueTables.{old_vertex, glued_list, AreNumbers, AreVertices}
 use Rattle.cp_rotlaw.proofs.GluedNumbers.{is_other_yes, is_other_no, count_other-below, old_vertex-count, count-old_vertex, old_vertex-other, old_vertex-below}
 use Rattle.cp_rotlaw.proofs.GluedPairs.{partner_first, partner_second, passing, passing-is, count_before, count_before-apart}
-use Rattle.cp_lists.proofs.MappedLists.{Has-map_on, map_on-Has, follow-map_on, Distinct-map_on, map_agree_on}
+use Rattle.cp_lists.proofs.MappedLists.{Has-map_on, map_on-Has, Distinct-map_on, map_agree_on}
 
 -- an edge that has no dart at w
 avoids_both : (b : System) (w e : ℕ) → vertex_of b (2 * e) ≢ w → vertex_of b (2 * e + 1) ≢ w → edge_avoids b w e ≡ true
@@ -60,7 +59,7 @@ module _ (a b : System) (is_a : IsRotation a) (is_b : IsRotation b) (u w : ℕ) 
   twin_b d lt = twin-below (darts b) d is_b.paired lt
 
   -- an edge of which no dart stands at w
-  avoids_dart : (d : ℕ) → vertex_of b d ≢ w → vertex_of b (twin d) ≢ w → edge_avoids b w (d / 2) ≡ true
+  pub avoids_dart : (d : ℕ) → vertex_of b d ≢ w → vertex_of b (twin d) ≢ w → edge_avoids b w (d / 2) ≡ true
   avoids_dart d nd nt = ⊎_elim
       (λ e.
       let first : 2 * (d / 2) ≡ d = omega arith in
@@ -225,18 +224,6 @@ module _ (a b : System) (is_a : IsRotation a) (is_b : IsRotation b) (u w : ℕ) 
     -- the result is a rotation system
     pub IsRotation-glued : IsRotation s
     IsRotation-glued = record { paired = even; placed = Listed-glued.placed; listed = lists; arranged = Listed-exact s.vertices (darts s) (vertex_of s) (list_of s) Listed-glued }
-
-    -- behind a dart of a comes what came there
-    pub next_first : (d : ℕ) → d < darts a → vertex_of a d ≢ u → next s d ≡ next a d
-    next_first d lt ne = next-follow s IsRotation-glued d (omega (arith, size)) ∙ ap (λ xs. follow xs d) (own_first d lt ne).1 ∙ sym (next-follow a is_a d lt)
-
-    -- behind a dart of b comes the number of what came there
-    pub next_second : (d : ℕ) → d < darts b → vertex_of b d ≢ w → next s (number d) ≡ number (next b d)
-    next_second d lt ne =
-        next-follow s IsRotation-glued (number d) (omega (arith, number-below d lt ne, size))
-        ∙ ap (λ xs. follow xs (number d)) (own_second d lt ne).1
-        ∙ follow-map_on number d (list_of b (vertex_of b d)) (λ x hx e. apart_b (vertex_of b d) (second.placed d lt) ne x d hx (second.own d lt) e) (second.own d lt)
-        ∙ ap number (sym (next-follow b is_b d lt))
 
   -- the tables make the result
   pub IsGlued-tables : (at : List ℕ) (numbers : List ℕ) (count : ℕ) (ls : List (List ℕ)) → u < a.vertices → w < b.vertices → AreNumbers a b w pairs numbers count → AreVertices a u b w pairs at → ls ≡ values (a.vertices + b.vertices - 2) (glued_list a u b w (slice_index numbers)) → IsGlued a u b w pairs (system_of at ls)

@@ -1,40 +1,45 @@
--- Gluing two rotation systems of genus zero at vertices with reverse lists gives genus zero.
-use Rattle.std.proofs.Common.{◌≡◌, ℕ, suc, ◌+◌, ◌-◌, ◌*◌, ◌/◌, ◌%◌, ◌<◌, ◌≤◌, ◌≢◌, Bool, true, false, cond, eqb, ltb, List, length, map, reverse, slice_index, sym, refl, ap, ap₂, ◌∙◌, subst, ⊎_elim, arith}
-use Rattle.std.proofs.lemmas.Bool.{cases_eq, cases_lt, eq-eqb, ne_eqb, eqb-true, eqb-false, cond-true, cond-false, lt-ltb, le-ltb, false≢true}
-use Rattle.std.proofs.lemmas.List.{get_or-map, length-map, length-reverse}
+-- Gluing two rotation systems of genus zero at vertices with reverse lists gives genus zero: their maps side by side
+-- are glued dart by dart.
+use Rattle.std.proofs.Common.{◌≡◌, ℕ, ◌+◌, ◌-◌, ◌*◌, ◌/◌, ◌%◌, ◌<◌, ◌≢◌, eqb, List, [], ◌∷◌, ◌++◌, append_assoc, length, map, reverse, sym, refl, ap, ap₂, ◌∙◌, subst, inl, inr, ⊎_elim, arith}
+use Rattle.std.proofs.lemmas.Bool.{cases_eq, eq-eqb, ne_eqb, cond-true, cond-false}
+use Rattle.std.proofs.lemmas.List.{map-append, reverse-reverse}
 use Rattle.cp_lists.specs.Count.{count}
+use Rattle.cp_lists.specs.CyclicLists.{Has}
+use Rattle.cp_lists.specs.Rows.{flat}
+use Rattle.cp_lists.specs.Turns.{IsTurn}
+use Rattle.cp_lists.proofs.Counting.{count-le}
+use Rattle.cp_lists.proofs.DistinctLists.{Has-append_left}
+use Rattle.cp_lists.proofs.FlatLists.{flat-append, flat-map}
+use Rattle.cp_lists.proofs.MappedLists.{Has-map_on, map_agree_on, map_on-Has}
+use Rattle.cp_lists.proofs.ReversedLists.{Has-reverse, map-reverse, reverse-Has}
+use Rattle.cp_lists.proofs.TurnedLists.{turn-map, turn-sym}
 use Rattle.cp_orbits.specs.Classes.{labels}
-use Rattle.cp_orbits.specs.Orbits.{Permutes}
-use Rattle.cp_lists.specs.CyclicLists.{Has, Distinct, follow}
-use Rattle.cp_faces.specs.Faces.{partner, on_edges}
-use Rattle.cp_orbits.proofs.ClassLabels.{same_labels}
-use Rattle.cp_orbits.proofs.OrbitLaws.{Respects-graph}
-use Rattle.cp_faces.proofs.Merges.{partner-twin}
-use Rattle.cp_faces.proofs.Parts.{partner_more, partner_shift}
-use Rattle.cp_lists.proofs.DistinctLists.{Has_at, Has-place, Distinct-from}
-use Rattle.cp_lists.proofs.FollowedLists.{follow_at, follow_last}
-use Rattle.cp_rot.specs.Systems.{System, darts, edges, vertex_of, list_of, next, place_after, IsRotation}
+use Rattle.cp_faces.specs.Faces.{on_edges}
 use Rattle.cp_faces.specs.Twins.{twin}
+use Rattle.cp_faces.proofs.Twins.{twin-below, twin-twin}
+use Rattle.cp_maps.specs.Genus.{Apart, CanBeFlat, linked}
+use Rattle.cp_maps.specs.Gluings.{onto}
+use Rattle.cp_maps.specs.Maps.{IsMapOf}
+use Rattle.cp_maps.proofs.GluedVertices.{glued, maps_agree}
+use Rattle.cp_maps.proofs.MapLists.{IsMapOf-front, IsMapOf-swap, IsMapOf-turn}
+use Rattle.cp_maps.proofs.Mirrors.{twin-farther}
 use Rattle.cp_rot.specs.Genus.{HasGenusZero}
-use Rattle.cp_rot.proofs.Rotations.{place_after_last, place_after_other, item_stands, next_stands, next_of_item}
-use Rattle.cp_faces.proofs.Twins.{twin-twin, twin-below, twin_even, twin_odd}
-use Rattle.cp_rot.proofs.Functions.{next-follow, Turns-system, zero_counts, HasGenusZero-from}
+use Rattle.cp_rot.specs.Systems.{IsRotation, System, darts, edges, list_of, vertex_of}
 use Rattle.cp_rot.proofs.ListSystems.{Listed-system}
-use Rattle.cp_rotlaw.specs.Systems.{HasNoLoopAt}
-use Rattle.cp_rotlaw.specs.Glue.{ArePartners, AreReversed, partner_of_first, partner_of_second, edge_avoids, IsGlued}
-use Rattle.cp_lists.proofs.ReversedLists.{reverse_at}
-use Rattle.cp_lists.proofs.TurnedLists.{turn-follow}
+use Rattle.cp_maplaw.specs.Systems.{rows_of, rows_upto}
+use Rattle.cp_maplaw.proofs.Systems.{system_names}
+use Rattle.cp_rotlaw.specs.Glue.{ArePartners, AreReversed, IsGlued, edge_avoids, partner_of_first, partner_of_second}
+use Rattle.cp_rotlaw.specs.GlueTables.{old_vertex}
+use Rattle.cp_rotlaw.specs.Systems.{HasNoLoopAt, is_other}
+use Rattle.cp_rotlaw.proofs.GluedDarts.{IsRotation-glued, avoids_dart, number, number_joined, number_kept}
+use Rattle.cp_rotlaw.proofs.GluedNumbers.{count-old_vertex, count_other-below, old_vertex-below, old_vertex-count, old_vertex-other}
 use Rattle.cp_rotlaw.proofs.GluedPairs.{partner_first, partner_second}
-use Rattle.cp_rotlaw.proofs.GluedDarts.{number, kept, number_joined, number_kept, number-below, number-apart, number-other, origin, size, IsRotation-glued, next_first, next_second}
-use Rattle.cp_lists.proofs.Choices.{choose}
-use Rattle.cp_maps.specs.Genus.{linked, IsFlat}
-use Rattle.cp_maps.proofs.FlatMaps.{linked-from}
-use Rattle.cp_maps.proofs.FlatRotations.{flat_from_zero, zero_from_flat}
-use Rattle.cp_maps.proofs.FlatUnions.{Permutes-union, IsFlat-union}
-use Rattle.cp_rotlaw.proofs.ZippedVertices.{AreReverseRows, zipped, zip-Permutes, zip_other, zip-IsFlat, zip_x, zip_y}
-use Rattle.cp_rotlaw.proofs.ShortCuts.{IsShortCut, IsFlat-cut}
+use Rattle.cp_rotlaw.proofs.NumberedLists.{rows_upto-Has, rows_upto-among, rows_upto-map, rows_upto-more, rows_upto-names}
+use Rattle.cp_rotlaw.proofs.SideBySide.{apart_sides, side, side-IsFlat, side-IsMapOf}
+use Rattle.cp_rotlaw.proofs.GluedNames.{Names-glued, glued_name, glued_name_high, glued_name_low, pass, pass-rank}
 
-module _ (a b : System) (is_a : IsRotation a) (is_b : IsRotation b) (u w : ℕ) (ltu : u < a.vertices) (ltw : w < b.vertices) (pairs : List (ℕ × ℕ)) (partners : ArePartners a u b w pairs) where
+module _ (a b : System) (is_a : IsRotation a) (is_b : IsRotation b) (u w : ℕ) (ltu : u < a.vertices)
+    (ltw : w < b.vertices) (pairs : List (ℕ × ℕ)) (partners : ArePartners a u b w pairs) where
   -- the darts of b come behind those of a
   abbrev n : ℕ
   n = 2 * edges a
@@ -42,6 +47,10 @@ module _ (a b : System) (is_a : IsRotation a) (is_b : IsRotation b) (u w : ℕ) 
   -- all edges
   abbrev all : ℕ
   all = edges a + edges b
+
+  -- the name of a dart of b
+  abbrev name : ℕ → ℕ
+  name d = n + d
 
   -- the partner of a dart at u
   abbrev mate : ℕ → ℕ
@@ -51,395 +60,255 @@ module _ (a b : System) (is_a : IsRotation a) (is_b : IsRotation b) (u w : ℕ) 
   abbrev mate_back : ℕ → ℕ
   mate_back = partner_of_second pairs
 
-  -- a dart of both is one of a or one of b
-  either : (P : ℕ → Type 0) → ((d : ℕ) → d < darts a → P d) → ((d : ℕ) → d < darts b → P (n + d)) → (d : ℕ) → d < 2 * all → P d
-  either P one two d lt = ⊎_elim (λ l. one d (omega (arith, is_a.paired))) (λ q. let whole : n + (d - n) ≡ d = omega arith in subst P whole (two (d - n) (omega (arith, is_b.paired)))) (cases_lt d n)
+  -- the dart behind a dart, sides by sides
+  abbrev sides : ℕ → ℕ
+  sides = side a b is_a is_b
 
-  -- the dart behind a dart, side by side
-  side : ℕ → ℕ
-  side d = cond (ltb d n) (next a d) (n + next b (d - n))
+  -- the lists of b under their names
+  abbrev lists_b : List (List ℕ)
+  lists_b = map (map name) (rows_of b)
 
-  -- of a
-  side_low : (d : ℕ) → d < n → side d ≡ next a d
-  unfolding side
-  side_low d lt = cond-true (ltb d n) (next a d) (n + next b (d - n)) (lt-ltb d n lt)
+  -- the name of a dart of the result
+  abbrev j : ℕ → ℕ
+  j = glued_name a b w
 
-  -- of b
-  side_high : (d : ℕ) → side (n + d) ≡ n + next b d
-  unfolding side
-  side_high d = let off : n + d - n ≡ d = omega arith in cond-false (ltb (n + d) n) (next a (n + d)) (n + next b (n + d - n)) (le-ltb (n + d) n (omega arith)) ∙ ap (λ (y : ℕ). n + next b y) off
+  -- the lists of the other vertices of a
+  abbrev rest_a : List (List ℕ)
+  rest_a = rows_upto (λ x. list_of a (old_vertex u x)) (a.vertices - 1)
 
-  -- the darts at the two vertices
-  out : ℕ → Bool
-  out d = cond (ltb d n) (eqb (vertex_of a d) u) (eqb (vertex_of b (d - n)) w)
+  -- and of b, under their names
+  abbrev rest_b : List (List ℕ)
+  rest_b = map (map name) (rows_upto (λ x. list_of b (old_vertex w x)) (b.vertices - 1))
 
-  -- of a
-  out_low : (d : ℕ) → d < n → out d ≡ eqb (vertex_of a d) u
-  unfolding out
-  out_low d lt = cond-true (ltb d n) (eqb (vertex_of a d) u) (eqb (vertex_of b (d - n)) w) (lt-ltb d n lt)
+  -- the two vertices in front
+  front-IsMapOf : IsMapOf (2 * all) sides (map name (list_of b w) ∷ list_of a u ∷ (rest_b ++ rest_a))
+  front-IsMapOf =
+      let in_a = rows_upto-among (list_of a) a.vertices u ltu in
+      let in_b = rows_upto-among (list_of b) b.vertices w ltw in
+      let us : List ℕ = list_of a u in
+      let ws : List ℕ = map name (list_of b w) in
+      let before : List (List ℕ) = map (map name) in_b.0 in
+      let behind : List (List ℕ) = map (map name) in_b.1 in
+      let parted : lists_b ≡ before ++ ws ∷ behind =
+      ap (map (map name)) in_b.2 ∙ map-append (map name) in_b.0 (list_of b w ∷ in_b.1) in
+      let joined : before ++ behind ≡ rest_b =
+      sym (map-append (map name) in_b.0 in_b.1) ∙ ap (map (map name)) (sym in_b.3) in
+      let one : IsMapOf (2 * all) sides (ws ∷ (before ++ (behind ++ rows_of a))) =
+      IsMapOf-front (2 * all) sides ws before (behind ++ rows_of a)
+      (subst (IsMapOf (2 * all) sides)
+      (ap (λ zs. zs ++ rows_of a) parted ∙ append_assoc before (ws ∷ behind) (rows_of a))
+      (side-IsMapOf a b is_a is_b)) in
+      let two : IsMapOf (2 * all) sides (ws ∷ ((rest_b ++ in_a.0) ++ us ∷ in_a.1)) =
+      subst (λ zs. IsMapOf (2 * all) sides (ws ∷ zs))
+      (sym (append_assoc before behind (rows_of a)) ∙ ap₂ (λ ys zs. ys ++ zs) joined in_a.2
+      ∙ sym (append_assoc rest_b in_a.0 (us ∷ in_a.1))) one in
+      subst (λ zs. IsMapOf (2 * all) sides (ws ∷ us ∷ zs))
+      (append_assoc rest_b in_a.0 in_a.1 ∙ ap (λ zs. rest_b ++ zs) (sym in_a.3))
+      (IsMapOf-swap (2 * all) sides us ws ((rest_b ++ in_a.0) ++ in_a.1)
+      (IsMapOf-front (2 * all) sides us (ws ∷ (rest_b ++ in_a.0)) in_a.1 two))
 
-  -- of b
-  out_high : (d : ℕ) → out (n + d) ≡ eqb (vertex_of b d) w
-  unfolding out
-  out_high d = let off : n + d - n ≡ d = omega arith in cond-false (ltb (n + d) n) (eqb (vertex_of a (n + d)) u) (eqb (vertex_of b (n + d - n)) w) (le-ltb (n + d) n (omega arith)) ∙ ap (λ (y : ℕ). eqb (vertex_of b y) w) off
+  -- a dart at u and its partner, which comes first
+  abbrev glued_pair : ℕ → ℕ × ℕ
+  glued_pair x = (n + mate x, x)
 
-  -- side by side they are a permutation
-  side-Permutes : Permutes (2 * all) side
-  side-Permutes = Permutes-union (edges a) (edges b) (next a) (next b) side (Turns-system a is_a).permutes (Turns-system b is_b).permutes side_low (λ d lt. side_high d)
+  -- the pairs in the reverse of the order that they have round u
+  abbrev ps : List (ℕ × ℕ)
+  ps = map glued_pair (reverse (list_of a u))
 
-  -- side by side they are flat
-  side-IsFlat : HasGenusZero a → HasGenusZero b → IsFlat all side
-  side-IsFlat zero_a zero_b = IsFlat-union (edges a) (edges b) (next a) (next b) side (Turns-system a is_a).permutes (Turns-system b is_b).permutes side_low (λ d lt. side_high d)
-      (flat_from_zero a.vertices (edges a) (vertex_of a) (next a) (Turns-system a is_a) (zero_counts a is_a zero_a))
-      (flat_from_zero b.vertices (edges b) (vertex_of b) (next b) (Turns-system b is_b) (zero_counts b is_b zero_b))
+  -- the partners
+  pair_firsts : (xs : List ℕ) → map (λ p. p.0) (map glued_pair xs) ≡ map (λ x. n + mate x) xs
+  pair_firsts [] = refl
+  pair_firsts (x ∷ xs) = ap (λ ys. (n + mate x) ∷ ys) (pair_firsts xs)
 
-  -- a dart of a and one of b lie in different parts
-  apart_sides : (x y : ℕ) → x < n → labels (linked side (2 * all) all) x ≢ labels (linked side (2 * all) all) (n + y)
-  apart_sides x y lt same =
-      let keeps : ltb x n ≡ ltb (n + y) n = same_labels (λ d. ltb d n) (linked side (2 * all) all) x (n + y)
-      (linked-from (λ d. ltb d n) side (2 * all) all
-      (Respects-graph (λ d. ltb d n) side (2 * all) (either (λ d. ltb d n ≡ ltb (side d) n)
-      (λ d l. let ld : d < n = omega (arith, is_a.paired) in lt-ltb d n ld ∙ sym (ap (λ z. ltb z n) (side_low d ld) ∙ lt-ltb (next a d) n (omega (arith, (next_stands a is_a d l).0, is_a.paired))))
-      (λ d l. le-ltb (n + d) n (omega arith) ∙ sym (ap (λ z. ltb z n) (side_high d) ∙ le-ltb (n + next b d) n (omega arith)))))
-      (λ i l. ⊎_elim
-      (λ below. lt-ltb (2 * i) n (omega arith) ∙ sym (lt-ltb (2 * i + 1) n (omega arith)))
-      (λ above. le-ltb (2 * i) n (omega arith) ∙ sym (le-ltb (2 * i + 1) n (omega arith)))
-      (cases_lt i (edges a)))) same in
-      false≢true (sym (le-ltb (n + y) n (omega arith)) ∙ sym keeps ∙ lt-ltb x n lt)
+  -- the darts at u
+  pair_seconds : (xs : List ℕ) → map (λ p. p.1) (map glued_pair xs) ≡ xs
+  pair_seconds [] = refl
+  pair_seconds (x ∷ xs) = ap (λ ys. x ∷ ys) (pair_seconds xs)
 
-  -- what the function is behind zipping: partners follow each other, and all other darts have what they had
-  record IsZipped (f : ℕ → ℕ) : Type 0 where
-    pub permutes : Permutes (2 * all) f
-    pub flat : IsFlat all f
-    pub others : (d : ℕ) → d < 2 * all → out d ≡ false → f d ≡ side d
-    pub firsts : (x : ℕ) → x < darts a → vertex_of a x ≡ u → f x ≡ n + mate x
-    pub seconds : (y : ℕ) → y < darts b → vertex_of b y ≡ w → f (n + y) ≡ mate_back y
+  -- a dart of a stays in the place that it has
+  onto_low : (xs : List ℕ) (d : ℕ) → d < n → onto (map glued_pair xs) d ≡ d
+  onto_low [] d lt = refl
+  onto_low (x ∷ xs) d lt =
+      cond-false (eqb d (twin (n + mate x))) x (onto (map glued_pair xs) d)
+      (ne_eqb d (twin (n + mate x)) (λ e. omega (arith, e, twin-farther (edges a) (mate x), lt)))
+      ∙ onto_low xs d lt
 
-  -- the list of u
-  abbrev xs : List ℕ
-  xs = list_of a u
+  -- so does a dart of b whose twin is no partner
+  onto_kept : (xs : List ℕ) (d : ℕ) → ((x : ℕ) → Has x xs → mate x ≢ twin d) → onto (map glued_pair xs) (n + d) ≡ n + d
+  onto_kept [] d none = refl
+  onto_kept (x ∷ xs) d none =
+      cond-false (eqb (n + d) (twin (n + mate x))) x (onto (map glued_pair xs) (n + d))
+      (ne_eqb (n + d) (twin (n + mate x)) (λ e.
+      let same : d ≡ twin (mate x) = omega (arith, e, twin-farther (edges a) (mate x)) in
+      none x (inl refl) (sym (twin-twin (mate x)) ∙ ap twin (sym same))))
+      ∙ onto_kept xs d (λ z h. none z (inr h))
 
-  -- a dart at u stands at a place of its list
-  place_of_first : (x : ℕ) → x < darts a → vertex_of a x ≡ u → (i : ℕ) × (i < length xs) × (slice_index xs i ≡ x)
-  place_of_first x lt e = Has-place x xs (subst (λ v. Has x (list_of a v)) e ((Listed-system a is_a).own x lt))
+  -- in the place of the twin of a partner comes the dart at u
+  onto_joined : (xs : List ℕ) (y : ℕ) → ((x : ℕ) → Has x xs → mate_back (mate x) ≡ x) → Has y (map mate xs)
+      → onto (map glued_pair xs) (n + twin y) ≡ mate_back y
+  onto_joined [] y back h = absurd h
+  onto_joined (x ∷ xs) y back h = ⊎_elim
+      (λ e.
+      cond-true (eqb (n + twin y) (twin (n + mate x))) x (onto (map glued_pair xs) (n + twin y))
+      (eq-eqb (n + twin y) (twin (n + mate x))
+      (ap (λ (z : ℕ). n + twin z) e ∙ sym (twin-farther (edges a) (mate x))))
+      ∙ sym (back x (inl refl)) ∙ ap mate_back (sym e))
+      (λ ne.
+      cond-false (eqb (n + twin y) (twin (n + mate x))) x (onto (map glued_pair xs) (n + twin y))
+      (ne_eqb (n + twin y) (twin (n + mate x)) (λ e.
+      let same : twin y ≡ twin (mate x) = omega (arith, e, twin-farther (edges a) (mate x)) in
+      ne (sym (twin-twin y) ∙ ap twin same ∙ twin-twin (mate x))))
+      ∙ onto_joined xs y (λ z k. back z (inr k)) (⊎_elim (λ e. absurd (ne (sym e))) (λ k. k) h))
+      (cases_eq y (mate x))
 
-  -- with no dart at u nothing is to be done
-  none_zipped : length xs ≡ 0 → IsFlat all side → IsZipped side
-  none_zipped none flat = record {
-    permutes = side-Permutes;
-    flat = flat;
-    others = λ d lt o. refl;
-    firsts = λ x lt e. let p = place_of_first x lt e in absurd (omega (arith, p.1, none));
-    seconds = λ y lt e. let q = partner_second a b u w pairs partners y lt e in let p = place_of_first (mate_back y) q.0 q.1 in absurd (omega (arith, p.1, none));
-  }
+  -- a dart of the list of u, and its partner
+  at_first : (x : ℕ) → Has x (list_of a u)
+      → (x < n) × (mate x < darts b) × (vertex_of b (mate x) ≡ w) × (mate_back (mate x) ≡ x)
+  at_first x h =
+      let i = (Listed-system a is_a).item u x ltu h in
+      let p = partner_first a b u w pairs partners x i.0 i.1 in
+      (omega (arith, i.0, is_a.paired), p.0, p.1, p.2)
 
-  module _ (m : ℕ) (many : length xs ≡ suc m) (reversed : AreReversed a u b w pairs) where
-    -- dart i from the last
-    abbrev x : ℕ → ℕ
-    x i = slice_index xs (m - i)
+  -- the pairs, and all other lists
+  pairs-IsMapOf : AreReversed a u b w pairs
+      → IsMapOf (2 * all) sides (map (λ p. p.0) ps ∷ reverse (map (λ p. p.1) ps) ∷ (rest_b ++ rest_a))
+  pairs-IsMapOf reversed =
+      let us : List ℕ = list_of a u in
+      let firsts : map name (reverse (map mate us)) ≡ map (λ p. p.0) ps =
+      ap (map name) (sym (map-reverse mate us)) ∙ maps_agree mate name (λ x. n + mate x) (reverse us) (λ x h. refl)
+      ∙ sym (pair_firsts (reverse us)) in
+      let seconds : us ≡ reverse (map (λ p. p.1) ps) =
+      sym (reverse-reverse us) ∙ ap reverse (sym (pair_seconds (reverse us))) in
+      let turned : IsTurn (map name (list_of b w)) (map (λ p. p.0) ps) =
+      turn-sym (map (λ p. p.0) ps) (map name (list_of b w)) (subst (λ zs. IsTurn zs (map name (list_of b w))) firsts
+      (turn-map name (reverse (map mate us)) (list_of b w) reversed)) in
+      subst (λ zs. IsMapOf (2 * all) sides (map (λ p. p.0) ps ∷ zs ∷ (rest_b ++ rest_a))) seconds
+      (IsMapOf-turn (2 * all) sides (map name (list_of b w)) (map (λ p. p.0) ps) (us ∷ (rest_b ++ rest_a)) turned
+      front-IsMapOf)
 
-    -- its partner
-    abbrev y : ℕ → ℕ
-    y i = n + mate (x i)
+  -- a first dart of the pairs is a partner
+  pair_first : (d : ℕ) → Has d (map (λ p. p.0) ps)
+      → (x : ℕ) × Has x (list_of a u) × (n + mate x ≡ d)
+  pair_first d h =
+      let m = map_on-Has (λ x. n + mate x) d (reverse (list_of a u))
+      (subst (Has d) (pair_firsts (reverse (list_of a u))) h) in
+      (m.0, reverse-Has m.0 (list_of a u) m.1, m.2)
 
-    -- it stands at u
-    x_stands : (i : ℕ) → i ≤ m → (x i < darts a) × (vertex_of a (x i) ≡ u)
-    x_stands i le = item_stands a is_a u (m - i) ltu (omega arith)
+  -- the two vertices are of different components
+  pairs-Apart : Apart all sides (map (λ p. p.0) ps) (reverse (map (λ p. p.1) ps))
+  pairs-Apart c d hc hd one =
+      let f = pair_first c hc in
+      let k : Has d (list_of a u) = reverse-Has d (list_of a u)
+      (subst (Has d) (pair_seconds (reverse (list_of a u))) (reverse-Has d (map (λ p. p.1) ps) hd)) in
+      apart_sides a b is_a is_b d (mate f.0) (at_first d k).0
+      (sym one ∙ ap (labels (linked sides (2 * all) all)) (sym f.2))
 
-    -- its partner stands at w
-    y_stands : (i : ℕ) → i ≤ m → (mate (x i) < darts b) × (vertex_of b (mate (x i)) ≡ w) × (mate_back (mate (x i)) ≡ x i)
-    y_stands i le = let s = x_stands i le in partner_first a b u w pairs partners (x i) s.0 s.1
+  -- the twins of the partners are in other lists
+  twins_there : HasNoLoopAt b w → (d : ℕ) → Has d (map (λ p. p.0) ps) → Has (twin d) (flat (rest_b ++ rest_a))
+  twins_there no_b d h =
+      let f = pair_first d h in
+      let p = at_first f.0 f.1 in
+      let y : ℕ = twin (mate f.0) in
+      let lt : y < darts b = twin-below (darts b) (mate f.0) is_b.paired p.1 in
+      let v : ℕ = vertex_of b y in
+      let ne : v ≢ w = no_b (mate f.0) p.1 p.2 in
+      let ltv : v < b.vertices = is_b.placed y lt in
+      let rest : List (List ℕ) = rows_upto (λ x. list_of b (old_vertex w x)) (b.vertices - 1) in
+      let has : Has y (flat rest) =
+      rows_upto-Has (λ x. list_of b (old_vertex w x)) (b.vertices - 1) (count v (is_other w)) y
+      (count_other-below b.vertices w v ltw ltv ne)
+      (subst (λ x. Has y (list_of b x)) (sym (old_vertex-count w v ne)) ((Listed-system b is_b).own y lt)) in
+      subst (λ z. Has z (flat (rest_b ++ rest_a))) (sym (twin-farther (edges a) (mate f.0)) ∙ ap twin f.2)
+      (subst (Has (n + y)) (sym (flat-append rest_b rest_a))
+      (Has-append_left (n + y) (flat rest_b) (flat rest_a)
+      (subst (Has (n + y)) (sym (flat-map name rest)) (Has-map_on name y (flat rest) has))))
 
-    -- the partners in reverse
-    abbrev back : List ℕ
-    back = reverse (map mate xs)
-
-    -- how many
-    back-length : length back ≡ suc m
-    back-length = length-reverse (map mate xs) ∙ length-map xs mate ∙ many
-
-    -- partner i
-    back_at : (i : ℕ) → i ≤ m → slice_index back i ≡ mate (x i)
-    back_at i le =
-        let size : length (map mate xs) ≡ suc m = length-map xs mate ∙ many in
-        let index : length (map mate xs) - 1 - i ≡ m - i = omega arith in
-        reverse_at (map mate xs) i (omega arith) ∙ ap (slice_index (map mate xs)) index ∙ get_or-map mate xs (m - i) 0 0 (omega arith)
-
-    -- two places of the list with one dart are one
-    x_once : (i j : ℕ) → i ≤ m → j ≤ m → x i ≡ x j → i ≡ j
-    x_once i j lei lej e = let same : m - i ≡ m - j = (is_a.arranged u ltu).each_once (m - i) (m - j) (omega arith) (omega arith) e in omega arith
-
-    -- so are two with one partner
-    y_once : (i j : ℕ) → i ≤ m → j ≤ m → mate (x i) ≡ mate (x j) → i ≡ j
-    y_once i j lei lej e = x_once i j lei lej (sym (y_stands i lei).2 ∙ ap mate_back e ∙ (y_stands j lej).2)
-
-    -- the partners are distinct
-    back-Distinct : Distinct back
-    back-Distinct = Distinct-from back (λ i j lti ltj e. y_once i j (omega (arith, lti, back-length)) (omega (arith, ltj, back-length)) (sym (back_at i (omega (arith, lti, back-length))) ∙ e ∙ back_at j (omega (arith, ltj, back-length))))
-
-    -- behind a partner comes what is behind it in reverse
-    y_behind : (i : ℕ) → i ≤ m → next b (mate (x i)) ≡ follow back (slice_index back i)
-    y_behind i le =
-        let s = y_stands i le in
-        next-follow b is_b (mate (x i)) s.0 ∙ ap (λ v. follow (list_of b v) (mate (x i))) s.1
-        ∙ turn-follow back (list_of b w) (mate (x i)) back-Distinct reversed (subst (λ z. Has z back) (back_at i le) (Has_at back i (omega (arith, back-length))))
-        ∙ ap (follow back) (sym (back_at i le))
-
-    -- the lists of the two vertices are reverse
-    rows : AreReverseRows all m side x y
-    rows = record {
-      x_below = λ i le. omega (arith, (x_stands i le).0, is_a.paired);
-      y_below = λ i le. omega (arith, (y_stands i le).0, is_b.paired);
-      x_apart = x_once;
-      y_apart = λ i j lei lej e. y_once i j lei lej (omega (arith, e));
-      apart = λ i j lei lej e. omega (arith, e, (x_stands i lei).0, is_a.paired);
-      x_next = λ i lt.
-          let s = x_stands (suc i) (omega arith) in
-          let after : place_after (length xs) (m - suc i) ≡ m - i = place_after_other (length xs) (m - suc i) (λ e. omega arith) ∙ omega arith in
-          side_low (x (suc i)) (omega (arith, s.0, is_a.paired)) ∙ next_of_item a is_a u (m - suc i) ltu (omega arith) ∙ ap (slice_index xs) after;
-      x_close =
-          let s = x_stands 0 (omega arith) in
-          let after : place_after (length xs) (m - 0) ≡ m - m = place_after_last (length xs) (m - 0) (omega arith) ∙ omega arith in
-          side_low (x 0) (omega (arith, s.0, is_a.paired)) ∙ next_of_item a is_a u (m - 0) ltu (omega arith) ∙ ap (slice_index xs) after;
-      y_next = λ i lt.
-          let one : i + 1 ≡ suc i = omega arith in
-          side_high (mate (x i)) ∙ ap (λ (z : ℕ). n + z) (y_behind i (omega arith) ∙ follow_at back i back-Distinct (omega (arith, back-length)) ∙ ap (slice_index back) one ∙ back_at (suc i) (omega arith));
-      y_close = side_high (mate (x m)) ∙ ap (λ (z : ℕ). n + z) (y_behind m (omega arith) ∙ follow_last back m back-Distinct (omega (arith, back-length)) ∙ back_at 0 (omega arith));
-    }
-
-    -- place i from the last
-    place_from_last : (d : ℕ) → d < darts a → vertex_of a d ≡ u → (i : ℕ) × (i ≤ m) × (x i ≡ d)
-    place_from_last d lt e =
-        let p = place_of_first d lt e in
-        let index : m - (m - p.0) ≡ p.0 = omega (arith, p.1) in
-        (m - p.0, omega arith, ap (slice_index xs) index ∙ p.2)
-
-    -- zipped
-    some_zipped : IsFlat all side → IsZipped (zipped m side x y m)
-    some_zipped flat = record {
-      permutes = zip-Permutes all m side x y side-Permutes rows m (omega arith);
-      flat = zip-IsFlat all m side x y side-Permutes rows (apart_sides (x 0) (mate (x m)) (omega (arith, (x_stands 0 (omega arith)).0, is_a.paired))) flat m (omega arith);
-      others = λ d lt o. zip_other all m side x y side-Permutes rows m d (omega arith)
-          (λ j le e. let s = x_stands j le in false≢true (sym o ∙ ap out e ∙ out_low (x j) (omega (arith, s.0, is_a.paired)) ∙ eq-eqb (vertex_of a (x j)) u s.1))
-          (λ j le e. let s = y_stands j le in false≢true (sym o ∙ ap out e ∙ out_high (mate (x j)) ∙ eq-eqb (vertex_of b (mate (x j))) w s.1));
-      firsts = λ d lt e.
-          let p = place_from_last d lt e in
-          ap (zipped m side x y m) (sym p.2) ∙ zip_x all m side x y side-Permutes rows m p.0 p.1 (omega arith) ∙ ap (λ (z : ℕ). n + mate z) p.2;
-      seconds = λ d lt e.
-          let q = partner_second a b u w pairs partners d lt e in
-          let p = place_from_last (mate_back d) q.0 q.1 in
-          ap (λ (z : ℕ). zipped m side x y m (n + z)) (sym (ap mate p.2 ∙ q.2)) ∙ zip_y all m side x y side-Permutes rows p.0 p.1 ∙ p.2;
-    }
-
-  module _ (no_a : HasNoLoopAt a u) (no_b : HasNoLoopAt b w) (s : System) (glued : IsGlued a u b w pairs s) (even : darts s ≡ 2 * edges s) (lists : length s.lists ≡ s.vertices) (f : ℕ → ℕ) (zip : IsZipped f) where
+  module _ (no_b : HasNoLoopAt b w) (s : System) (result : IsGlued a u b w pairs s) where
     -- the number of a dart of b
     abbrev num : ℕ → ℕ
     num = number a b is_a is_b u w pairs partners
 
-    -- how many darts the result has
-    total : darts s ≡ darts a + 2 * kept a b is_a is_b u w pairs partners
-    total = size a b is_a is_b u w pairs partners ltu ltw no_b s glued even lists
+    -- what stands in the place of a dart of b is the name of its number
+    onto_second : (d : ℕ) → d < darts b → vertex_of b d ≢ w → onto ps (n + d) ≡ j (num d)
+    onto_second d lt ne = ⊎_elim
+        (λ e.
+        let lt_twin : twin d < darts b = twin-below (darts b) d is_b.paired lt in
+        let q = partner_second a b u w pairs partners (twin d) lt_twin e in
+        let own : Has (mate_back (twin d)) (list_of a u) =
+        subst (λ v. Has (mate_back (twin d)) (list_of a v)) q.1
+        ((Listed-system a is_a).own (mate_back (twin d)) q.0) in
+        let partner_in : Has (twin d) (map mate (reverse (list_of a u))) =
+        subst (λ y. Has y (map mate (reverse (list_of a u)))) q.2
+        (Has-map_on mate (mate_back (twin d)) (reverse (list_of a u))
+        (Has-reverse (mate_back (twin d)) (list_of a u) own)) in
+        ap (λ (y : ℕ). onto ps (n + y)) (sym (twin-twin d))
+        ∙ onto_joined (reverse (list_of a u)) (twin d)
+        (λ x h. (at_first x (reverse-Has x (list_of a u) h)).3) partner_in
+        ∙ sym (glued_name_low a b w (mate_back (twin d)) (omega (arith, q.0, is_a.paired)))
+        ∙ ap j (sym (number_joined a b is_a is_b u w pairs partners d e)))
+        (λ nt.
+        let rank : ℕ → ℕ = λ e. count e (edge_avoids b w) in
+        let back : pass a b w (rank (d / 2)) ≡ d / 2 =
+        pass-rank a b w (d / 2) (omega (arith, lt, is_b.paired))
+        (avoids_dart a b is_a is_b u w pairs partners d ne nt) in
+        let half : on_edges rank d / 2 ≡ rank (d / 2) = omega arith in
+        let bit : on_edges rank d % 2 ≡ d % 2 = omega arith in
+        let whole : 2 * (d / 2) + d % 2 ≡ d = omega arith in
+        onto_kept (reverse (list_of a u)) d
+        (λ x h e. nt (ap (vertex_of b) (sym e) ∙ (at_first x (reverse-Has x (list_of a u) h)).2))
+        ∙ ap (λ (z : ℕ). n + z) (sym whole ∙ sym (ap₂ (λ (x y : ℕ). 2 * pass a b w x + y) half bit
+        ∙ ap (λ (z : ℕ). 2 * z + d % 2) back))
+        ∙ sym (glued_name_high a b w (on_edges rank d))
+        ∙ ap j (sym (number_kept a b is_a is_b u w pairs partners d nt)))
+        (cases_eq (vertex_of b (twin d)) w)
 
-    -- the number of each dart that stays
-    place : ℕ → ℕ
-    place d = cond (ltb d n) d (num (d - n))
+    -- the lists that come from a are those of the result
+    first_row : (x : ℕ) → x < a.vertices - 1
+        → map (onto ps) (list_of a (old_vertex u x)) ≡ map j (list_of s x)
+    first_row x lt =
+        let v : ℕ = old_vertex u x in
+        let ltv : v < a.vertices = old_vertex-below a.vertices u x ltu lt in
+        map_agree_on (onto ps) j (list_of a v)
+        (λ d h. let l : d < n = omega (arith, ((Listed-system a is_a).item v d ltv h).0, is_a.paired) in
+        onto_low (reverse (list_of a u)) d l ∙ sym (glued_name_low a b w d l))
+        ∙ ap (map j) (sym (ap (list_of s) (sym (count-old_vertex u x))
+        ∙ result.first_lists v ltv (old_vertex-other u x)))
 
-    -- of a
-    place_low : (d : ℕ) → d < n → place d ≡ d
-    unfolding place
-    place_low d lt = cond-true (ltb d n) d (num (d - n)) (lt-ltb d n lt)
+    -- so are those that come from b
+    second_row : (x : ℕ) → x < b.vertices - 1
+        → map (onto ps) (map name (list_of b (old_vertex w x))) ≡ map j (list_of s ((a.vertices - 1) + x))
+    second_row x lt =
+        let v : ℕ = old_vertex w x in
+        let ltv : v < b.vertices = old_vertex-below b.vertices w x ltw lt in
+        maps_agree name (onto ps) (λ d. j (num d)) (list_of b v)
+        (λ d h. let i = (Listed-system b is_b).item v d ltv h in
+        onto_second d i.0 (λ e. old_vertex-other w x (sym i.1 ∙ e)))
+        ∙ sym (maps_agree num j (λ d. j (num d)) (list_of b v) (λ d h. refl))
+        ∙ ap (map j) (sym (ap (λ (y : ℕ). list_of s ((a.vertices - 1) + y)) (sym (count-old_vertex w x))
+        ∙ result.second_lists v ltv (old_vertex-other w x)))
 
-    -- of b
-    place_high : (d : ℕ) → place (n + d) ≡ num d
-    unfolding place
-    place_high d = let off : n + d - n ≡ d = omega arith in cond-false (ltb (n + d) n) (n + d) (num (n + d - n)) (le-ltb (n + d) n (omega arith)) ∙ ap num off
-
-    -- a dart of a that stays
-    stays_low : (d : ℕ) → d < n → out d ≡ false → vertex_of a d ≢ u
-    stays_low d lt o = eqb-false (vertex_of a d) u (sym (out_low d lt) ∙ o)
-
-    -- a dart of b that stays
-    stays_high : (d : ℕ) → out (n + d) ≡ false → vertex_of b d ≢ w
-    stays_high d o = eqb-false (vertex_of b d) w (sym (out_high d) ∙ o)
-
-    -- a dart of a that goes
-    goes_low : (d : ℕ) → d < n → out d ≡ true → vertex_of a d ≡ u
-    goes_low d lt o = eqb-true (vertex_of a d) u (sym (out_low d lt) ∙ o)
-
-    -- a dart of b that goes
-    goes_high : (d : ℕ) → out (n + d) ≡ true → vertex_of b d ≡ w
-    goes_high d o = eqb-true (vertex_of b d) w (sym (out_high d) ∙ o)
-
-    -- twins of a
-    twin_low : (d : ℕ) → d < darts a → (twin d < darts a) × (partner all d ≡ twin d)
-    twin_low d lt = let l : d < n = omega (arith, is_a.paired) in (twin-below (darts a) d is_a.paired lt, partner_more (edges a) (edges b) d l ∙ partner-twin (edges a) d l)
-
-    -- twins of b
-    twin_high : (d : ℕ) → d < darts b → (twin d < darts b) × (partner all (n + d) ≡ n + twin d)
-    twin_high d lt = let l : d < 2 * edges b = omega (arith, is_b.paired) in (twin-below (darts b) d is_b.paired lt, partner_shift (edges a) (edges b) d l ∙ ap (λ (z : ℕ). n + z) (partner-twin (edges b) d l))
-
-    -- twins of the result
-    twin_new : (d : ℕ) → d < darts s → partner (edges s) d ≡ twin d
-    twin_new d lt = partner-twin (edges s) d (omega (arith, even))
-
-    -- a dart of b that stays is a dart of the result
-    num-below : (d : ℕ) → d < darts b → vertex_of b d ≢ w → num d < darts s
-    num-below d lt ne = omega (arith, total, number-below a b is_a is_b u w pairs partners d lt ne)
-
-    -- darts that stay have different numbers
-    place-apart : (c d : ℕ) → c < 2 * all → d < 2 * all → out c ≡ false → out d ≡ false → place c ≡ place d → c ≡ d
-    place-apart c d ltc ltd = either (λ p. out p ≡ false → out d ≡ false → place p ≡ place d → p ≡ d)
-        (λ p lp. either (λ q. out p ≡ false → out q ≡ false → place p ≡ place q → p ≡ q)
-        (λ q lq op oq e. let l : p < n = omega (arith, is_a.paired) in let r : q < n = omega (arith, is_a.paired) in sym (place_low p l) ∙ e ∙ place_low q r)
-        (λ q lq op oq e. let l : p < n = omega (arith, is_a.paired) in absurd (number-other a b is_a is_b u w pairs partners q p lq (stays_high q oq) lp (stays_low p l op) (sym (sym (place_low p l) ∙ e ∙ place_high q))))
-        d ltd)
-        (λ p lp. either (λ q. out (n + p) ≡ false → out q ≡ false → place (n + p) ≡ place q → n + p ≡ q)
-        (λ q lq op oq e. let r : q < n = omega (arith, is_a.paired) in absurd (number-other a b is_a is_b u w pairs partners p q lp (stays_high p op) lq (stays_low q r oq) (sym (place_high p) ∙ e ∙ place_low q r)))
-        (λ q lq op oq e. ap (λ (z : ℕ). n + z) (number-apart a b is_a is_b u w pairs partners p q lp lq (stays_high p op) (stays_high q oq) (sym (place_high p) ∙ e ∙ place_high q)))
-        d ltd)
-        c ltc
-
-    -- what was a dart of the result
-    abbrev WasDart : ℕ → ℕ → Type 0
-    WasDart x d = (d < 2 * all) × (out d ≡ false) × (place d ≡ x)
-
-    -- each dart of the result was one
-    was : (x : ℕ) → x < 2 * edges s → (d : ℕ) × WasDart x d
-    was x lt = ⊎_elim
-        (λ o. let l : x < n = omega (arith, o.0, is_a.paired) in (x, (omega arith, out_low x l ∙ ne_eqb (vertex_of a x) u o.1, place_low x l)))
-        (λ o. (n + o.0, (omega (arith, o.1, is_b.paired), out_high o.0 ∙ ne_eqb (vertex_of b o.0) w o.2, place_high o.0 ∙ o.3)))
-        (origin a b is_a is_b u w pairs partners no_b x (omega (arith, total, even)))
-
-    -- which one
-    chosen : (g : ℕ → ℕ) × ((x : ℕ) → x < 2 * edges s → WasDart x (g x))
-    chosen = choose (2 * edges s) WasDart was
-
-    -- it
-    abbrev from : ℕ → ℕ
-    from = chosen.0
-
-    -- each dart that stays is one of the result
-    there : (d : ℕ) → d < 2 * all → out d ≡ false → place d < 2 * edges s
-    there = either (λ d. out d ≡ false → place d < 2 * edges s)
-        (λ d lt o. let l : d < n = omega (arith, is_a.paired) in omega (arith, place_low d l, total, even))
-        (λ d lt o. omega (arith, place_high d, num-below d lt (stays_high d o), even))
-
-    -- where no dart of an edge of b goes, its twins stay twins
-    twin_number : (d : ℕ) → vertex_of b d ≢ w → vertex_of b (twin d) ≢ w → twin (num d) ≡ num (twin d)
-    twin_number d nd nt =
-        let one = number_kept a b is_a is_b u w pairs partners d nt in
-        let two = number_kept a b is_a is_b u w pairs partners (twin d) (λ e. nd (ap (vertex_of b) (sym (twin-twin d)) ∙ e)) in
-        ⊎_elim
-        (λ ev.
-        let up : twin d ≡ d + 1 = twin_even d ev in
-        let half : (d + 1) / 2 ≡ d / 2 = omega arith in
-        let bit : (d + 1) % 2 ≡ 1 = omega arith in
-        let there_is : num (twin d) ≡ num d + 1 = two ∙ ap (λ z. n + on_edges (λ e. count e (edge_avoids b w)) z) up ∙ ap₂ (λ (i j : ℕ). n + (2 * count i (edge_avoids b w) + j)) half bit ∙ omega (arith, one, ev) in
-        twin_even (num d) (omega (arith, one, ev)) ∙ sym there_is)
-        (λ od.
-        let down : twin d ≡ d - 1 = twin_odd d od in
-        let half : (d - 1) / 2 ≡ d / 2 = omega arith in
-        let bit : (d - 1) % 2 ≡ 0 = omega arith in
-        let there_is : num (twin d) ≡ num d - 1 = two ∙ ap (λ z. n + on_edges (λ e. count e (edge_avoids b w)) z) down ∙ ap₂ (λ (i j : ℕ). n + (2 * count i (edge_avoids b w) + j)) half bit ∙ omega (arith, one, od) in
-        twin_odd (num d) (λ e. omega (arith, one, od, e)) ∙ sym there_is)
-        (cases_eq (d % 2) 0)
-
-    -- behind a dart of a that stays
-    step_low : (d : ℕ) → d < darts a → vertex_of a d ≢ u → (next a d < darts a) × (vertex_of a (next a d) ≢ u) × (f d ≡ next a d)
-    step_low d lt ne =
-        let l : d < n = omega (arith, is_a.paired) in
-        let t = next_stands a is_a d lt in
-        (t.0, λ e. ne (sym t.1 ∙ e), zip.others d (omega arith) (out_low d l ∙ ne_eqb (vertex_of a d) u ne) ∙ side_low d l)
-
-    -- behind a dart of b that stays
-    step_high : (d : ℕ) → d < darts b → vertex_of b d ≢ w → (next b d < darts b) × (vertex_of b (next b d) ≢ w) × (f (n + d) ≡ n + next b d)
-    step_high d lt ne =
-        let t = next_stands b is_b d lt in
-        (t.0, λ e. ne (sym t.1 ∙ e), zip.others (n + d) (omega (arith, is_b.paired)) (out_high d ∙ ne_eqb (vertex_of b d) w ne) ∙ side_high d)
-
-    -- a dart of a that goes, and its partner
-    pair_low : (d : ℕ) → d < n → out d ≡ true → (mate d < darts b) × (vertex_of b (mate d) ≡ w) × (mate_back (mate d) ≡ d) × (f d ≡ n + mate d)
-    pair_low d lt o =
-        let l : d < darts a = omega (arith, is_a.paired) in
-        let p = partner_first a b u w pairs partners d l (goes_low d lt o) in
-        (p.0, p.1, p.2, zip.firsts d l (goes_low d lt o))
-
-    -- a dart of b that goes, and its partner
-    pair_high : (d : ℕ) → d < darts b → out (n + d) ≡ true → (mate_back d < darts a) × (vertex_of a (mate_back d) ≡ u) × (mate (mate_back d) ≡ d) × (f (n + d) ≡ mate_back d)
-    pair_high d lt o =
-        let p = partner_second a b u w pairs partners d lt (goes_high d o) in
-        (p.0, p.1, p.2, zip.seconds d lt (goes_high d o))
-
-    -- the result is what is left behind the short cuts
-    cut : IsShortCut all (edges s) f (next s) out place from
-    cut = record {
-      out_stays = either (λ d. out d ≡ true → out (f d) ≡ true)
-          (λ d lt o. let l : d < n = omega (arith, is_a.paired) in let p = pair_low d l o in ap out p.3 ∙ out_high (mate d) ∙ eq-eqb (vertex_of b (mate d)) w p.1)
-          (λ d lt o. let p = pair_high d lt o in ap out p.3 ∙ out_low (mate_back d) (omega (arith, p.0, is_a.paired)) ∙ eq-eqb (vertex_of a (mate_back d)) u p.1);
-      out_pair = either (λ d. out d ≡ true → f (f d) ≡ d)
-          (λ d lt o. let l : d < n = omega (arith, is_a.paired) in let p = pair_low d l o in ap f p.3 ∙ zip.seconds (mate d) p.0 p.1 ∙ p.2)
-          (λ d lt o. let p = pair_high d lt o in ap f p.3 ∙ zip.firsts (mate_back d) p.0 p.1 ∙ ap (λ (z : ℕ). n + z) p.2);
-      out_moves = either (λ d. out d ≡ true → f d ≢ d)
-          (λ d lt o e. let l : d < n = omega (arith, is_a.paired) in omega (arith, (pair_low d l o).3, e, l))
-          (λ d lt o e. let p = pair_high d lt o in omega (arith, p.3, p.0, is_a.paired, e));
-      out_twin = either (λ d. out d ≡ true → out (partner all d) ≡ false)
-          (λ d lt o. let l : d < n = omega (arith, is_a.paired) in let t = twin_low d lt in ap out t.1 ∙ out_low (twin d) (omega (arith, t.0, is_a.paired)) ∙ ne_eqb (vertex_of a (twin d)) u (no_a d lt (goes_low d l o)))
-          (λ d lt o. let t = twin_high d lt in ap out t.1 ∙ out_high (twin d) ∙ ne_eqb (vertex_of b (twin d)) w (no_b d lt (goes_high d o)));
-      in_stays = either (λ d. out d ≡ false → out (f d) ≡ false)
-          (λ d lt o. let l : d < n = omega (arith, is_a.paired) in let t = step_low d lt (stays_low d l o) in ap out t.2 ∙ out_low (next a d) (omega (arith, t.0, is_a.paired)) ∙ ne_eqb (vertex_of a (next a d)) u t.1)
-          (λ d lt o. let t = step_high d lt (stays_high d o) in ap out t.2 ∙ out_high (next b d) ∙ ne_eqb (vertex_of b (next b d)) w t.1);
-      there = there;
-      there_back = λ d lt o. let c = chosen.1 (place d) (there d lt o) in place-apart (from (place d)) d c.0 lt c.1 o c.2;
-      here = λ x lt. (chosen.1 x lt).0;
-      here_in = λ x lt. (chosen.1 x lt).1;
-      here_there = λ x lt. (chosen.1 x lt).2;
-      steps = either (λ d. out d ≡ false → next s (place d) ≡ place (f d))
-          (λ d lt o.
-          let l : d < n = omega (arith, is_a.paired) in
-          let t = step_low d lt (stays_low d l o) in
-          ap (next s) (place_low d l) ∙ next_first a b is_a is_b u w pairs partners ltu ltw no_b s glued even lists d lt (stays_low d l o) ∙ sym (ap place t.2 ∙ place_low (next a d) (omega (arith, t.0, is_a.paired))))
-          (λ d lt o.
-          let t = step_high d lt (stays_high d o) in
-          ap (next s) (place_high d) ∙ next_second a b is_a is_b u w pairs partners ltu ltw no_b s glued even lists d lt (stays_high d o) ∙ sym (ap place t.2 ∙ place_high (next b d)));
-      twins = either (λ d. out d ≡ false → out (partner all d) ≡ false → partner (edges s) (place d) ≡ place (partner all d))
-          (λ d lt o q.
-          let l : d < n = omega (arith, is_a.paired) in
-          let t = twin_low d lt in
-          ap (partner (edges s)) (place_low d l) ∙ twin_new d (omega (arith, total)) ∙ sym (ap place t.1 ∙ place_low (twin d) (omega (arith, t.0, is_a.paired))))
-          (λ d lt o q.
-          let t = twin_high d lt in
-          ap (partner (edges s)) (place_high d) ∙ twin_new (num d) (num-below d lt (stays_high d o)) ∙ twin_number d (stays_high d o) (stays_high (twin d) (sym (ap out t.1) ∙ q)) ∙ sym (ap place t.1 ∙ place_high (twin d)));
-      twins_far = either (λ d. out d ≡ false → out (partner all d) ≡ true → partner (edges s) (place d) ≡ place (partner all (f (partner all d))))
-          (λ d lt o q.
-          let l : d < n = omega (arith, is_a.paired) in
-          let t = twin_low d lt in
-          let lt_twin : twin d < n = omega (arith, t.0, is_a.paired) in
-          let p = pair_low (twin d) lt_twin (sym (ap out t.1) ∙ q) in
-          let far : partner all (f (partner all d)) ≡ n + twin (mate (twin d)) = ap (λ z. partner all (f z)) t.1 ∙ ap (partner all) p.3 ∙ (twin_high (mate (twin d)) p.0).1 in
-          ap (partner (edges s)) (place_low d l) ∙ twin_new d (omega (arith, total))
-          ∙ sym (ap place far ∙ place_high (twin (mate (twin d))) ∙ number_joined a b is_a is_b u w pairs partners (twin (mate (twin d))) (ap (vertex_of b) (twin-twin (mate (twin d))) ∙ p.1) ∙ ap mate_back (twin-twin (mate (twin d))) ∙ p.2))
-          (λ d lt o q.
-          let t = twin_high d lt in
-          let p = pair_high (twin d) t.0 (sym (ap out t.1) ∙ q) in
-          let far : partner all (f (partner all (n + d))) ≡ twin (mate_back (twin d)) = ap (λ z. partner all (f z)) t.1 ∙ ap (partner all) p.3 ∙ (twin_low (mate_back (twin d)) p.0).1 in
-          ap (partner (edges s)) (place_high d) ∙ twin_new (num d) (num-below d lt (stays_high d o))
-          ∙ ap twin (number_joined a b is_a is_b u w pairs partners d (goes_high (twin d) (sym (ap out t.1) ∙ q)))
-          ∙ sym (ap place far ∙ place_low (twin (mate_back (twin d))) (omega (arith, (twin_low (mate_back (twin d)) p.0).0, is_a.paired))));
-    }
-
-    -- so the result has genus zero
-    zipped-HasGenusZero : HasGenusZero s
-    zipped-HasGenusZero =
-        let is_s = IsRotation-glued a b is_a is_b u w pairs partners ltu ltw no_b s glued even lists in
-        HasGenusZero-from s is_s (zero_from_flat s.vertices (edges s) (vertex_of s) (next s) (Turns-system s is_s)
-        (IsFlat-cut all (edges s) f (next s) zip.permutes out place from cut zip.flat))
+    -- the glued lists are those of the result, under the names of its darts
+    rows_glued : map (map (onto ps)) (rest_b ++ rest_a) ≡ map (map j) (rows_of s)
+    rows_glued =
+        let size : (a.vertices - 1) + (b.vertices - 1) ≡ s.vertices = omega (arith, result.vertices, ltu, ltw) in
+        let lists : ℕ → List ℕ = λ x. list_of s ((a.vertices - 1) + x) in
+        map-append (map (onto ps)) rest_b rest_a
+        ∙ ap₂ (λ ys zs. ys ++ zs)
+        (ap (map (map (onto ps))) (rows_upto-map name (λ x. list_of b (old_vertex w x)) (b.vertices - 1))
+        ∙ rows_upto-names (onto ps) j (λ x. map name (list_of b (old_vertex w x))) lists (b.vertices - 1) second_row)
+        (rows_upto-names (onto ps) j (λ x. list_of a (old_vertex u x)) (list_of s) (a.vertices - 1) first_row)
+        ∙ sym (map-append (map j) (rows_upto lists (b.vertices - 1)) (rows_upto (list_of s) (a.vertices - 1)))
+        ∙ ap (map (map j)) (sym (rows_upto-more (list_of s) (a.vertices - 1) (b.vertices - 1))
+        ∙ ap (rows_upto (list_of s)) size)
 
   -- what is glued has genus zero
-  pub glued-HasGenusZero : HasNoLoopAt a u → HasNoLoopAt b w → AreReversed a u b w pairs → HasGenusZero a → HasGenusZero b → (s : System) → IsGlued a u b w pairs s → darts s ≡ 2 * edges s → length s.lists ≡ s.vertices → HasGenusZero s
-  glued-HasGenusZero no_a no_b reversed zero_a zero_b s glued even lists = ⊎_elim
-      (λ none. zipped-HasGenusZero no_a no_b s glued even lists side (none_zipped none (side-IsFlat zero_a zero_b)))
-      (λ some.
-      let m : ℕ = length xs - 1 in
-      let many : length xs ≡ suc m = omega arith in
-      zipped-HasGenusZero no_a no_b s glued even lists (zipped m side (x m many reversed) (y m many reversed) m) (some_zipped m many reversed (side-IsFlat zero_a zero_b)))
-      (cases_eq (length xs) 0)
+  pub glued-HasGenusZero : HasNoLoopAt b w → AreReversed a u b w pairs → HasGenusZero a → HasGenusZero b
+      → (s : System) → IsGlued a u b w pairs s → darts s ≡ 2 * edges s → length s.lists ≡ s.vertices → HasGenusZero s
+  glued-HasGenusZero no_b reversed zero_a zero_b s result even lists =
+      let flat_map : CanBeFlat all (map (map (onto ps)) (rest_b ++ rest_a)) =
+      glued all sides ps (rest_b ++ rest_a) (pairs-IsMapOf reversed) pairs-Apart (twins_there no_b)
+      (side-IsFlat a b is_a is_b zero_a zero_b) in
+      let is_s = IsRotation-glued a b is_a is_b u w pairs partners ltu ltw no_b s result even lists in
+      (system_names s all j flat_map.0 is_s (omega (arith, result.size, count-le (edges b) (edge_avoids b w)))
+      (Names-glued a b w (edges s) result.size)
+      (subst (IsMapOf (2 * all) flat_map.0) (rows_glued no_b s result) flat_map.1)).1 flat_map.2

@@ -1,13 +1,14 @@
-pub mod ShortOrbits
 pub mod DipoleGenus
 pub mod GluedNumbers
+mod NumberedLists
+mod SideBySide
+mod GluedNames
 pub mod GluedPairs
 pub mod ListedPartners
 pub mod GluedDarts
 pub mod GluedTables
-pub mod ZippedVertices
-pub mod ShortCuts
 pub mod GluedGenus
+mod PartPlaces
 pub mod StarCode
 pub mod StarSystems
 pub mod StarGenus

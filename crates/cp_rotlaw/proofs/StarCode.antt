@@ -1,18 +1,16 @@
 -- Components without a vertex, the parts that its edges enter, and the rows of the parts, as the program finds them.
-use Rattle.std.proofs.Common.{◌≡◌, ◌≢◌, ℕ, suc, ◌+◌, ◌*◌, ◌/◌, ◌<◌, ◌≤◌, Bool, true, false, cond, eqb, List, [], ◌∷◌, ◌++◌, length, take, map, get_or, set, slice_index, slice_index_or, sym, refl, ap, ap₂, ◌∙◌, subst, subst₂, inl, inr, ⊎_elim, arith}
-use Rattle.std.specs.Prelude.{replicate}
+use Rattle.std.proofs.Common.{◌≡◌, ◌≢◌, ℕ, ◌+◌, ◌*◌, ◌/◌, ◌<◌, cond, eqb, List, [], ◌∷◌, ◌++◌, length, take, map, get_or, set, slice_index, slice_index_or, sym, refl, ap, ap₂, ◌∙◌, subst, subst₂, inl, inr, ⊎_elim, arith}
 use Rattle.std.specs.List.{Contains}
-use Rattle.std.proofs.lemmas.Bool.{cases_eq, cases_lt, cases_order, eq-eqb, ne_eqb, eqb-true, false≢true}
-use Rattle.std.proofs.lemmas.List.{get_or-set_same, get_or-set_other, length-set, get_or-replicate, length-replicate, get_or_past, take_more, get_or_default, get_or-map, length-map}
+use Rattle.std.proofs.lemmas.Bool.{cases_eq, cases_lt, eq-eqb, ne_eqb, eqb-true}
+use Rattle.std.proofs.lemmas.List.{get_or-set_same, get_or-set_other, length-set, get_or_past, take_more, get_or_default, get_or-map, length-map}
 use Rattle.std.proofs.lemmas.List.Elements.{filter_more}
 use Rattle.cp_base.specs.Graphs.{AreWithin}
-use Rattle.cp_lists.specs.Count.{count, IsCount}
 use Rattle.cp_orbits.specs.Connected.{Connected}
-use Rattle.cp_lists.proofs.Counting.{IsCount-unique, IsCount-le, IsCount-next_yes, count_higher}
-use Rattle.cp_orbits.proofs.ClassLabels.{Connected-sym, Connected-trans, Connected-closed}
+use Rattle.cp_orbits.proofs.ClassLabels.{Connected-closed}
 use Rattle.cp_conn.specs.CutVertex.{avoids, without_vertex}
-use Rattle.cp_conn.specs.Numbering.{IsLeast, HasNumber, AreNumbered}
+use Rattle.cp_conn.specs.Numbering.{AreNumbered}
 use Rattle.cp_conn.proofs.CutVertices.{kept_pair, avoided}
+use Rattle.cp_conn.proofs.NumberedClasses.{connected_by_number, number_of_connected}
 use Rattle.cp_rot.specs.Systems.{System, darts, vertex_of, list_of, IsRotation}
 use Rattle.cp_faces.specs.Twins.{twin}
 use Rattle.cp_rot.specs.Genus.{end_pairs}
@@ -22,6 +20,7 @@ use Rattle.cp_faces.proofs.Twins.{twin-below}
 use Rattle.cp_rot.proofs.Searches.{end_pair_at, pair_of_edge}
 use Rattle.cp_rotlaw.specs.Systems.{HasNoLoopAt}
 use Rattle.cp_rotlaw.specs.Stars.{IsDartOf}
+use Rattle.cp_rotlaw.proofs.PartPlaces.{ArePlaced-new, ArePlaced-old, ArePlaced-skip, parts-le, place-apart, place-least, place-seen, place-some, place-within}
 use Rattle.cp_rotlaw.specs.StarParts.{far_key, ArePlaced, AreEntered, part_of, star_row, AreRows}
 
 -- the other end of a dart is a vertex
@@ -47,47 +46,6 @@ AreWithin-end_pairs r is e lt =
     let p = end_pair_at r.at (slice_index_or (end_pairs r.at) e (0, 0)) e lt (get_or_default (end_pairs r.at) e (slice_index_or (end_pairs r.at) e (0, 0)) (0, 0) lt) in
     (subst (λ (x : ℕ). x < r.vertices) p.1 (is.placed (2 * e) (omega (arith, p.0))), subst (λ (x : ℕ). x < r.vertices) p.2 (is.placed (2 * e + 1) p.0))
 
--- a count is higher at a higher bound
-IsCount-higher : (P : ℕ → Type 0) (m n a b : ℕ) → m ≤ n → IsCount P m a → IsCount P n b → a ≤ b
-IsCount-higher P m n a b le ca cb =
-    let low : IsCount P m (count m cb.test) = record { test = cb.test; decides = λ x lt. cb.decides x (omega arith); counted = refl } in
-    omega (arith, IsCount-unique P m a (count m cb.test) ca low, count_higher m n cb.test le, cb.counted)
-
--- classes of a higher least member have a higher number
-number_lower : (R : ℕ → ℕ → Type 0) (x y c d : ℕ) (h : HasNumber R x c) (k : HasNumber R y d) → h.least < k.least → c ≡ d → ⊥
-number_lower R x y c d h k lt e = omega (arith, IsCount-higher (IsLeast R) (suc h.least) k.least (suc c) d (omega arith) (IsCount-next_yes (IsLeast R) h.least c h.counted h.leads) k.counted)
-
--- the components have different numbers
-module _ (es : List (ℕ × ℕ)) (n : ℕ) (numbers : List ℕ) (are : AreNumbered (Connected es) n numbers) where
-  -- one number, one component
-  pub connected_by_number : (x y : ℕ) → x < n → y < n → slice_index numbers x ≡ slice_index numbers y → Connected es x y
-  connected_by_number x y ltx lty e =
-      let h = are.by_least x ltx in
-      let k = are.by_least y lty in
-      ⊎_elim
-      (λ same. Connected-trans es x h.least y (Connected-sym es h.least x h.related) (subst (λ (z : ℕ). Connected es z y) (sym same) k.related))
-      (λ other. ⊎_elim
-      (λ lt. absurd (number_lower (Connected es) x y (slice_index numbers x) (slice_index numbers y) h k lt e))
-      (λ gt. absurd (number_lower (Connected es) y x (slice_index numbers y) (slice_index numbers x) k h gt (sym e)))
-      other)
-      (cases_order h.least k.least)
-
-  -- one component, one number
-  pub number_of_connected : (x y : ℕ) → x < n → y < n → Connected es x y → slice_index numbers x ≡ slice_index numbers y
-  number_of_connected x y ltx lty c =
-      let h = are.by_least x ltx in
-      let k = are.by_least y lty in
-      let there : h.least ≤ k.least = h.leads k.least (Connected-trans es h.least y k.least (Connected-trans es h.least x y h.related c) (Connected-sym es k.least y k.related)) in
-      let back : k.least ≤ h.least = k.leads h.least (Connected-trans es k.least x h.least (Connected-trans es k.least y x k.related (Connected-sym es x y c)) (Connected-sym es h.least x h.related)) in
-      let same : h.least ≡ k.least = omega arith in
-      IsCount-unique (IsLeast (Connected es)) k.least (slice_index numbers x) (slice_index numbers y) (subst (λ (m : ℕ). IsCount (IsLeast (Connected es)) m (slice_index numbers x)) same h.counted) k.counted
-
-  -- a number is below the number of vertices
-  pub number-below : (x : ℕ) → x < n → slice_index numbers x < n
-  number-below x lt =
-      let h = are.by_least x lt in
-      omega (arith, IsCount-le (IsLeast (Connected es)) h.least (slice_index numbers x) h.counted, h.leads x h.related)
-
 -- what is removed is connected to nothing
 pub alone : (u : ℕ) (es : List (ℕ × ℕ)) (y : ℕ) → Connected (without_vertex u es) u y → y ≡ u
 alone u es y c = eqb-true y u (Connected-closed (λ x. eqb x u) (without_vertex u es) u y pair (eq-eqb u u refl) c)
@@ -96,107 +54,6 @@ alone u es y c = eqb-true y u (Connected-closed (λ x. eqb x u) (without_vertex 
     pair e h =
         let t = (kept_pair (avoids u) es e h).1 in
         ne_eqb e.0 u (avoided u e e.1 e.0 t (inr (refl, refl))) ∙ sym (ne_eqb e.1 u (avoided u e e.0 e.1 t (inl (refl, refl))))
-
--- no part yet
-pub ArePlaced-none : (p : ℕ → Bool) (key : ℕ → ℕ) (size : ℕ) → ArePlaced p key size 0 (replicate size 0) 0
-ArePlaced-none p key size = record {
-  one_each = length-replicate size none;
-  few = omega arith;
-  within = λ k. omega (arith, zeros k);
-  apart = λ k l lt e. absurd (omega (arith, zeros k));
-  some = λ k lt. absurd (omega (arith, zeros k));
-  seen = λ d lt t. absurd (omega arith);
-  least = λ i lt. absurd (omega arith);
-}
-  where
-    none : ℕ
-    none = 0
-
-    zeros : (k : ℕ) → slice_index (replicate size 0) k ≡ 0
-    zeros k = ⊎_elim (λ lt. get_or-replicate size k none none lt) (λ ge. get_or_past (replicate size none) k none (omega (arith, length-replicate size none))) (cases_lt k size)
-
--- a number that fails
-pub ArePlaced-skip : (p : ℕ → Bool) (key : ℕ → ℕ) (size n : ℕ) (places : List ℕ) (parts : ℕ) → ArePlaced p key size n places parts → p n ≡ false → ArePlaced p key size (n + 1) places parts
-ArePlaced-skip p key size n places parts a fails = record {
-  one_each = a.one_each;
-  few = omega (arith, a.few);
-  within = a.within;
-  apart = a.apart;
-  some = λ k lt. let h = a.some k lt in (h.0, omega (arith, h.1), h.2, h.3);
-  seen = λ d lt t. a.seen d (old d lt t) t;
-  least = λ i lt. let h = a.least i lt in (h.0, omega (arith, h.1), h.2, h.3, λ f ltf t above. h.4 f (old f ltf t) t above);
-}
-  where
-    old : (d : ℕ) → d < n + 1 → p d ≡ true → d < n
-    old d lt t = ⊎_elim (λ e. absurd (false≢true (sym fails ∙ ap p (sym e) ∙ t))) (λ ne. omega arith) (cases_eq d n)
-
--- a number whose key has a place
-pub ArePlaced-old : (p : ℕ → Bool) (key : ℕ → ℕ) (size n : ℕ) (places : List ℕ) (parts : ℕ) → ArePlaced p key size n places parts → 0 < slice_index places (key n) → ArePlaced p key size (n + 1) places parts
-ArePlaced-old p key size n places parts a some = record {
-  one_each = a.one_each;
-  few = omega (arith, a.few);
-  within = a.within;
-  apart = a.apart;
-  some = λ k lt. let h = a.some k lt in (h.0, omega (arith, h.1), h.2, h.3);
-  seen = λ d lt t. ⊎_elim (λ e. subst (λ (x : ℕ). 0 < slice_index places (key x)) (sym e) some) (λ ne. a.seen d (omega arith) t) (cases_eq d n);
-  least = λ i lt. let h = a.least i lt in (h.0, omega (arith, h.1), h.2, h.3, λ f ltf t above. ⊎_elim (λ e. omega (arith, h.1)) (λ ne. h.4 f (omega arith) t above) (cases_eq f n));
-}
-
--- a number whose key gets the next place
-pub ArePlaced-new : (p : ℕ → Bool) (key : ℕ → ℕ) (size n : ℕ) (places : List ℕ) (parts : ℕ) → ArePlaced p key size n places parts → p n ≡ true → key n < size → slice_index places (key n) ≡ 0 → ArePlaced p key size (n + 1) (set places (key n) (parts + 1)) (parts + 1)
-ArePlaced-new p key size n places parts a t low none = record {
-  one_each = length-set places (key n) (parts + 1) ∙ a.one_each;
-  few = omega (arith, a.few);
-  within = λ k. ⊎_elim (λ e. omega (arith, at_new k e)) (λ ne. omega (arith, at_old k ne, a.within k)) (cases_eq k (key n));
-  apart = λ k l lt e. ⊎_elim
-      (λ k_new. ⊎_elim (λ l_new. k_new ∙ sym l_new) (λ l_old. absurd (omega (arith, at_new k k_new, at_old l l_old, a.within l))) (cases_eq l (key n)))
-      (λ k_old. ⊎_elim
-      (λ l_new. absurd (omega (arith, at_new l l_new, at_old k k_old, a.within k)))
-      (λ l_old. a.apart k l (omega (arith, at_old k k_old)) (sym (at_old k k_old) ∙ e ∙ at_old l l_old))
-      (cases_eq l (key n)))
-      (cases_eq k (key n));
-  some = λ k lt. ⊎_elim
-      (λ k_new. (n, omega arith, t, sym k_new))
-      (λ k_old. let h = a.some k (omega (arith, at_old k k_old)) in (h.0, omega (arith, h.1), h.2, h.3))
-      (cases_eq k (key n));
-  seen = λ d lt td. ⊎_elim
-      (λ e. omega (arith, at_new (key d) (ap key e)))
-      (λ ne. let h = a.seen d (omega arith) td in omega (arith, h, at_old (key d) (differs d h)))
-      (cases_eq d n);
-  least = λ i lt. ⊎_elim
-      (λ e. (
-        n,
-        omega arith,
-        t,
-        at_new (key n) refl ∙ omega arith,
-        λ f ltf tf above. ⊎_elim
-            (λ f_new. omega arith)
-            (λ f_old. let h = a.seen f (omega arith) tf in absurd (omega (arith, at_old (key f) (differs f h), a.within (key f))))
-            (cases_eq f n),
-      ))
-      (λ ne.
-      let h = a.least i (omega arith) in
-      let same = at_old (key h.0) (differs h.0 (omega (arith, h.3))) in (
-        h.0,
-        omega (arith, h.1),
-        h.2,
-        same ∙ h.3,
-        λ f ltf tf above. ⊎_elim
-            (λ f_new. omega (arith, h.1))
-            (λ f_old. let k = a.seen f (omega arith) tf in h.4 f (omega arith) tf (omega (arith, at_old (key f) (differs f k))))
-            (cases_eq f n),
-      ))
-      (cases_eq i parts);
-}
-  where
-    at_new : (k : ℕ) → k ≡ key n → slice_index (set places (key n) (parts + 1)) k ≡ parts + 1
-    at_new k e = ap (slice_index (set places (key n) (parts + 1))) e ∙ get_or-set_same places (key n) (parts + 1) 0 (omega (arith, a.one_each))
-
-    at_old : (k : ℕ) → (k ≡ key n → ⊥) → slice_index (set places (key n) (parts + 1)) k ≡ slice_index places k
-    at_old k ne = get_or-set_other places (key n) k (parts + 1) 0 ne
-
-    differs : (d : ℕ) → 0 < slice_index places (key d) → key d ≡ key n → ⊥
-    differs d h e = omega (arith, ap (slice_index places) e)
 
 -- the rows of no darts are empty
 pub AreRows-none : (part : ℕ → ℕ) (xs : List ℕ) (parts : ℕ) (rows : List (List ℕ)) → length rows ≡ parts → ((i : ℕ) → slice_index_or rows i [] ≡ []) → AreRows part (take 0 xs) parts rows
@@ -226,14 +83,14 @@ pub AreEntered-from : (r : System) (u : ℕ) (numbers places : List ℕ) (parts 
     → ArePlaced (stands_at r.at u) (far_key r numbers) (length numbers) (darts r) places parts → entered ≡ map (slice_index places) numbers → AreEntered r u parts entered
 AreEntered-from r u numbers places parts {entered} is ltu no_loop are placed made = record {
   one_each = size;
-  few = placed.few;
+  few = (parts-le (stands_at r.at u) (far_key r numbers) (length numbers) (darts r) places parts placed);
   away = ⊎_elim (λ e. e) (λ ne. absurd (apart_from_u ne)) (cases_eq (slice_index entered u) 0);
   kept = λ x y ltx lty c. reads x ltx ∙ ap (slice_index places) (number_of_connected es r.vertices numbers are x y ltx lty c) ∙ sym (reads y lty);
-  seen = λ d dart. subst (λ (k : ℕ). 0 < k) (sym (far d dart.within)) (placed.seen d dart.within (eq-eqb (vertex_of r d) u dart.stands));
-  within = λ x. ⊎_elim (λ lt. omega (arith, reads x lt, placed.within (slice_index numbers x))) (λ ge. omega (arith, get_or_past entered x 0 (omega (arith, size)))) (cases_lt x r.vertices);
+  seen = λ d dart. subst (λ (k : ℕ). 0 < k) (sym (far d dart.within)) ((place-seen (stands_at r.at u) (far_key r numbers) (length numbers) (darts r) places parts placed) d dart.within (eq-eqb (vertex_of r d) u dart.stands));
+  within = λ x. ⊎_elim (λ lt. omega (arith, reads x lt, (place-within (stands_at r.at u) (far_key r numbers) (length numbers) (darts r) places parts placed) (slice_index numbers x))) (λ ge. omega (arith, get_or_past entered x 0 (omega (arith, size)))) (cases_lt x r.vertices);
   same = λ d f dart_d dart_f e. connected_by_number es r.vertices numbers are (vertex_of r (twin d)) (vertex_of r (twin f)) (far_within r is d dart_d.within).1 (far_within r is f dart_f.within).1
-      (placed.apart (far_key r numbers d) (far_key r numbers f) (placed.seen d dart_d.within (eq-eqb (vertex_of r d) u dart_d.stands)) (sym (far d dart_d.within) ∙ e ∙ far f dart_f.within));
-  least = λ i lt. let h = placed.least i lt in
+      ((place-apart (stands_at r.at u) (far_key r numbers) (length numbers) (darts r) places parts placed) (far_key r numbers d) (far_key r numbers f) ((place-seen (stands_at r.at u) (far_key r numbers) (length numbers) (darts r) places parts placed) d dart_d.within (eq-eqb (vertex_of r d) u dart_d.stands)) (sym (far d dart_d.within) ∙ e ∙ far f dart_f.within));
+  least = λ i lt. let h = (place-least (stands_at r.at u) (far_key r numbers) (length numbers) (darts r) places parts placed) i lt in
       (h.0, record { within = h.1; stands = eqb-true (vertex_of r h.0) u h.2 }, far h.0 h.1 ∙ h.3, λ f dart above. h.4 f dart.within (eq-eqb (vertex_of r f) u dart.stands) (subst (λ (k : ℕ). i < k) (far f dart.within) above));
 }
   where
@@ -251,7 +108,7 @@ AreEntered-from r u numbers places parts {entered} is ltu no_loop are placed mad
 
     apart_from_u : (slice_index entered u ≡ 0 → ⊥) → ⊥
     apart_from_u ne =
-        let h = placed.some (slice_index numbers u) (omega (arith, reads u ltu)) in
+        let h = (place-some (stands_at r.at u) (far_key r numbers) (length numbers) (darts r) places parts placed) (slice_index numbers u) (omega (arith, reads u ltu)) in
         no_loop h.0 h.1 (eqb-true (vertex_of r h.0) u h.2) (alone u (end_pairs r.at) (vertex_of r (twin h.0)) (connected_by_number es r.vertices numbers are u (vertex_of r (twin h.0)) ltu (far_within r is h.0 h.1).1 (sym h.3)))
 
 -- there is a part where there is a dart
@@ -271,10 +128,11 @@ placed_skip r u d v numbers {places} {parts} a at ne e_places e_parts =
     (ArePlaced-skip (stands_at r.at u) (far_key r numbers) (length numbers) d places parts a (ne_eqb (vertex_of r d) u (λ e. ne (at ∙ e))))
 
 -- its part is known
-pub placed_old : (r : System) (u d far key : ℕ) (numbers : List ℕ) {places moved : List ℕ} {parts more : ℕ} → ArePlaced (stands_at r.at u) (far_key r numbers) (length numbers) d places parts → far ≡ vertex_of r (twin d) → key ≡ slice_index numbers far → (slice_index places key ≡ 0 → ⊥) → moved ≡ places → more ≡ parts → ArePlaced (stands_at r.at u) (far_key r numbers) (length numbers) (d + 1) moved more
-placed_old r u d far key numbers {places} {parts} a at read ne e_places e_parts =
+pub placed_old : (r : System) (u d v far key : ℕ) (numbers : List ℕ) {places moved : List ℕ} {parts more : ℕ} → ArePlaced (stands_at r.at u) (far_key r numbers) (length numbers) d places parts → v ≡ vertex_of r d → v ≡ u → far ≡ vertex_of r (twin d) → key ≡ slice_index numbers far → key < length numbers → (slice_index places key ≡ 0 → ⊥) → moved ≡ places → more ≡ parts → ArePlaced (stands_at r.at u) (far_key r numbers) (length numbers) (d + 1) moved more
+placed_old r u d v far key numbers {places} {parts} a at is far_at read low ne e_places e_parts =
+    let key_is : key ≡ far_key r numbers d = read ∙ ap (slice_index numbers) far_at in
     subst₂ (λ (xs : List ℕ) (n : ℕ). ArePlaced (stands_at r.at u) (far_key r numbers) (length numbers) (d + 1) xs n) (sym e_places) (sym e_parts)
-    (ArePlaced-old (stands_at r.at u) (far_key r numbers) (length numbers) d places parts a (subst (λ (k : ℕ). 0 < slice_index places k) (read ∙ ap (slice_index numbers) at) (omega arith)))
+    (ArePlaced-old (stands_at r.at u) (far_key r numbers) (length numbers) d places parts a (eq-eqb (vertex_of r d) u (sym at ∙ is)) (subst (λ (k : ℕ). k < length numbers) key_is low) (subst (λ (k : ℕ). 0 < slice_index places k) key_is (omega arith)))
 
 -- its part is a new one
 pub placed_new : (r : System) (u d v far key : ℕ) (numbers : List ℕ) {places moved : List ℕ} {parts more : ℕ} → ArePlaced (stands_at r.at u) (far_key r numbers) (length numbers) d places parts → v ≡ vertex_of r d → v ≡ u → far ≡ vertex_of r (twin d) → key ≡ slice_index numbers far → key < length numbers → slice_index places key ≡ 0 → moved ≡ set places key (parts + 1) → more ≡ parts + 1 → ArePlaced (stands_at r.at u) (far_key r numbers) (length numbers) (d + 1) moved more

@@ -3,6 +3,7 @@ use Rattle.std.specs.Prelude.{◌≡◌, ℕ, suc, ◌+◌, ◌-◌, ◌<◌, �
 use Rattle.std.specs.List.{filter}
 use Rattle.cp_orbits.specs.Connected.{Connected}
 use Rattle.cp_conn.specs.CutVertex.{without_vertex}
+use Rattle.cp_conn.specs.Grouping.{AreGrouped, IsPlaced}
 use Rattle.cp_rot.specs.Systems.{System, darts, vertex_of, list_of}
 use Rattle.cp_faces.specs.Twins.{twin}
 use Rattle.cp_rot.specs.Genus.{end_pairs}
@@ -12,16 +13,14 @@ use Rattle.cp_rotlaw.specs.Stars.{IsDartOf, EnterOne, star_vertex}
 abbrev pub far_key : System → List ℕ → ℕ → ℕ
 far_key r numbers d = slice_index numbers (vertex_of r (twin d))
 
--- the keys of the numbers below n that pass are numbered by the least number that has them, and are so many as parts
--- tells: places tells for each of size keys one more than this number, and 0 for a key that no such number has
+-- the numbers below n that pass are in so many parts as parts tells, of one key each, by their first items; places
+-- tells for each of size keys one more than the number of its part, and 0 for a key that no such number has
 pub record ArePlaced (p : ℕ → Bool) (key : ℕ → ℕ) (size n : ℕ) (places : List ℕ) (parts : ℕ) : Type 0 where
-  pub one_each : length places ≡ size
-  pub few : parts ≤ n
-  pub within : (k : ℕ) → slice_index places k ≤ parts
-  pub apart : (k l : ℕ) → 0 < slice_index places k → slice_index places k ≡ slice_index places l → k ≡ l
-  pub some : (k : ℕ) → 0 < slice_index places k → (d : ℕ) × (d < n) × (p d ≡ true) × (key d ≡ k)
-  pub seen : (d : ℕ) → d < n → p d ≡ true → 0 < slice_index places (key d)
-  pub least : (i : ℕ) → i < parts → (d : ℕ) × (d < n) × (p d ≡ true) × (slice_index places (key d) ≡ suc i) × ((f : ℕ) → f < n → p f ≡ true → i < slice_index places (key f) → d ≤ f)
+  pub rows : List (List ℕ)
+  pub counted : length rows ≡ parts
+  pub grouped : AreGrouped p key n rows
+  pub placed : IsPlaced key size rows places
+  pub keys : (d : ℕ) → d < n → p d ≡ true → key d < size
 
 -- entered tells for each vertex one more than the number of the part that it lies in, and 0 where it lies in none:
 -- a part is a component that an edge of u enters once u is removed

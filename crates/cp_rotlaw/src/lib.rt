@@ -12,6 +12,8 @@ mod systems;
 #[cfg(test)]
 mod tests_glue;
 #[cfg(test)]
+mod tests_merge;
+#[cfg(test)]
 mod tests_star;
 #[cfg(test)]
 mod tests_systems;

@@ -13,7 +13,7 @@ ghost use Rattle.cp_rotlaw.specs.StarParts.{far_key, ArePlaced, AreEntered};
 
 use crate::systems::other_dart;
 use cp_base::{Graph, Memory};
-use cp_conn::components;
+use cp_conn::components_without;
 use cp_rot::Rot;
 use std::alloc::Global;
 
@@ -28,7 +28,7 @@ pub(crate) fn far_end(a: &Rot, d: usize) -> usize
 }
 
 // The two ends of each edge.
-fn ends_of(alloc: Global, a: &Rot) -> Result<Vec<(usize, usize)>, Memory>
+pub(crate) fn ends_of(alloc: Global, a: &Rot) -> Result<Vec<(usize, usize)>, Memory>
     ensures { IfOk result (λ ends. ends.items ≡ end_pairs a.now.at) }
 {
     let mut ends = Vec::new(alloc);
@@ -38,31 +38,16 @@ fn ends_of(alloc: Global, a: &Rot) -> Result<Vec<(usize, usize)>, Memory>
     Ok(ends)
 }
 
-// The edges that do not touch vertex `u`.
-fn ends_without(
-    alloc: Global,
-    ends: &[(usize, usize)],
-    u: usize,
-) -> Result<Vec<(usize, usize)>, Memory>
-    ensures { IfOk result (λ rest. rest.items ≡ without_vertex u ends.now) }
-{
-    let rest = ends
-        .iter()
-        .copied()
-        .filter(|pair| pair.0 != u && pair.1 != u)
-        .collect(alloc)?;
-    Ok(rest)
-}
-
 // For each vertex the number of its component where vertex `u` is removed.
-fn components_without(alloc: Global, a: &Rot, u: usize) -> Result<Vec<usize>, Memory>
+fn numbers_without(alloc: Global, a: &Rot, u: usize) -> Result<Vec<usize>, Memory>
+    requires { u < a.now.vertices }
     ensures { IfOk result (λ numbers. AreNumbered (Connected (without_vertex u (end_pairs a.now.at))) a.now.vertices numbers.items) }
 {
     let ends = ends_of(alloc, a)?;
-    let rest = ends_without(alloc, ends.as_slice(), u)?;
-    let graph = Graph::from_ends(alloc, a.vertices(), rest.as_slice())?;
-    let numbers = components(alloc, &graph)?;
-    Ok(numbers)
+    let graph = Graph::from_ends(alloc, a.vertices(), ends.as_slice())?;
+    let mut removed = vec![in alloc; false; a.vertices()]?;
+    removed[u] = true;
+    components_without(alloc, &graph, removed.as_slice())
 }
 
 // For each component one more than the number of its part, 0 where no edge of vertex `u` enters it;
@@ -111,7 +96,7 @@ pub(crate) fn entered_parts(alloc: Global, a: &Rot, u: usize) -> Result<(Vec<usi
     requires no_loop { HasNoLoopAt a.now u }
     ensures { IfOk result (λ found. AreEntered a.now u found.1 found.0.items) }
 {
-    let numbers = components_without(alloc, a, u)?;
+    let numbers = numbers_without(alloc, a, u)?;
     let (places, parts) = places_of(alloc, a, u, numbers.as_slice())?;
     let entered = looked_up(alloc, places.as_slice(), numbers.as_slice())?;
     prove!(entered.len() == a.vertices());

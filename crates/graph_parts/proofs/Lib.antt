@@ -1,1 +1,2 @@
-pub mod BlockLemmas
+mod BlockLemmas
+mod OwnEnds

@@ -1,3 +1,4 @@
+-- what contracts rest on
 pub mod Ends
 pub mod Asking
 pub mod Fitting

@@ -16,11 +16,5 @@ usage_line = line (codes "usage: graph_parts edges|components|blocks|bipolar")
 abbrev pub unfit_line : List ℕ
 unfit_line = line (codes "no answer")
 
-abbrev pub read_fault_line : List ℕ
-read_fault_line = line (codes "read fault")
-
-abbrev pub too_long_line : List ℕ
-too_long_line = line (codes "input too long")
-
 abbrev pub refused_line : ℕ → ℕ → List ℕ
 refused_line kind at = line (codes "refused " ++ decimal kind ++ codes " at " ++ decimal at)

@@ -1,7 +1,13 @@
 // What the words of the command line ask for.
-ghost use Rattle.std.specs.Prelude.{◌≡◌, map, MatchOption, string_bytes};
+ghost use Rattle.std.specs.Prelude.{◌≡◌, MatchOption};
 ghost use Rattle.graph_parts.specs.Asking.{Asks, word_of};
 ghost use Rattle.graph_parts.specs.declared.ask.Asked.{Asked as AnyAsked};
+
+use crate::decide::decide;
+use crate::end::End;
+use cp_base::Memory;
+use cp_io::Command;
+use std::alloc::Global;
 
 /// What a run prints.
 #[derive(Clone, Copy, Debug, PartialEq, Eq)]
@@ -29,12 +35,24 @@ fn asked_by(word: &str) -> Option<Asked>
     }
 }
 
-/// What the words ask for: one word alone does.
-pub fn asked_of(words: &[String]) -> Option<Asked>
-    ensures { MatchOption result ((a : AnyAsked) → ¬ Asks (map string_bytes words.now) a) (Asks (map string_bytes words.now)) }
-{
-    match words {
-        [word] => asked_by(word.as_str()),
-        _ => None,
+impl Command for Asked {
+    ghost use Rattle.graph_parts.specs.Answer.{Told};
+
+    type End = End;
+
+    ghost asks = { Asks };
+
+    ghost answers = { Told };
+
+    /// What the words ask for: one word alone does.
+    fn asked_of(words: &[String]) -> Option<Asked> {
+        match words {
+            [word] => asked_by(word.as_str()),
+            _ => None,
+        }
+    }
+
+    fn decide(self, alloc: Global, bytes: &[u8]) -> Result<(End, Vec<u8>), Memory> {
+        decide(alloc, self, bytes)
     }
 }

@@ -1,28 +1,30 @@
 // The answer to all bytes of an input.
-ghost use Rattle.std.specs.Prelude.{◌≢◌, IfOk};
+ghost use Rattle.std.specs.Prelude.{IfOk};
 ghost use Rattle.graph_parts.specs.Answer.{Told};
-ghost use Rattle.graph_parts.specs.Run.{IsAnswer};
 
 use crate::ask::Asked;
 use crate::end::End;
-use crate::graph::{TextFault, graph_of};
+use crate::graph::graph_of;
 use crate::numbers::numbers_of;
 use crate::texts;
 use cp_base::Memory;
+use cp_cgraph::TextFault;
 use std::alloc::Global;
 
-/// The end and its text. Linear in the number of bytes, but for the look-ups of ids.
+/// The end and its text. Linear on average in the number of bytes.
 pub fn decide(alloc: Global, asked: Asked, bytes: &[u8]) -> Result<(End, Vec<u8>), Memory>
-    ensures answer { IfOk result (λ a. Told asked bytes.now a.0 a.1.items) }
-    ensures kind { IfOk result (λ a. IsAnswer a.0) }
-    ensures short { IfOk result (λ a. a.0 ≢ End.TooLong) }
+    ensures { IfOk result (λ a. Told asked bytes.now a.0 a.1.items) }
 {
     match graph_of(alloc, bytes) {
         Ok(g) => match numbers_of(alloc, asked, &g)? {
             Some(numbers) => Ok((End::Done, texts::number_text(alloc, numbers.as_slice())?)),
             None => Ok((End::Unfit, Vec::from_slice(alloc, texts::UNFIT)?)),
         },
-        Err(TextFault::Bad { kind, at }) => {
+        Err(TextFault::Grammar { kind, at }) => {
+            let line = texts::refused(alloc, kind, at)?;
+            Ok((End::Refused { kind, at }, line))
+        }
+        Err(TextFault::Graph { kind, at }) => {
             let line = texts::refused(alloc, kind, at)?;
             Ok((End::Refused { kind, at }, line))
         }

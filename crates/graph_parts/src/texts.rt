@@ -7,10 +7,6 @@ use std::alloc::Global;
 
 pub const USAGE: &[u8] = b"usage: graph_parts edges|components|blocks|bipolar\n";
 
-pub const READ_FAULT: &[u8] = b"read fault\n";
-
-pub const TOO_LONG: &[u8] = b"input too long\n";
-
 pub const UNFIT: &[u8] = b"no answer\n";
 
 /// The line of a fault of the text.

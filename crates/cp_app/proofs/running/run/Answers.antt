@@ -1,60 +1,33 @@
--- What is written at each end, by the lemmas on answers written whole and in front.
-use Rattle.std.proofs.Common.{map, string_bytes, ap, Err}
-use Rattle.std.proofs.lemmas.Option.{IfSome_then}
-use Rattle.cp_io.specs.Streams.{most_bytes}
-use Rattle.cp_io.proofs.AnsweredLemmas.{IfSome-all, Took-long, read_left, wrote, wrote_front, fault_front}
-use Rattle.cp_app.specs.Answer.{Answer, Checked, IsCheck}
-use Rattle.cp_app.specs.Answer.Answer.{usage, too_long, checked}
-use Rattle.cp_app.specs.Texts.{read_fault_line}
-use Rattle.cp_app.proofs.WordLemmas.{refuted}
-use Rattle.cp_app.specs.declared.end.End.TheVariants as ends
+-- A run of commands, of which there is one.
+use Rattle.std.proofs.Common.{IfSome, map, string_bytes, subst}
+use Rattle.cp_app.specs.Answer.{Answer}
+use Rattle.cp_app.specs.Run.{IsJudged}
+use Rattle.cp_app.specs.declared.command.Asked.TheVariants.{Check}
+use Rattle.cp_app.proofs.AnswerLemmas.{answer_or_memory, asks_nothing, judged_answer, own_answers, shared_apart}
 use Rattle.cp_app.proofs.running.run.Goals as goal
 
-pub returns-then-not-is_check-clause-answer : goal.returns-then-not-is_check-clause-answer
-returns-then-not-is_check-clause-answer g c =
-    let words = map string_bytes c.args.words.now in
-    let none = refuted c.is_check.result (IsCheck words) c.is_check.ensures c.if-not-is_check.true in
-    λ is. wrote (Answer words) (g.S.Source.left c.args.source.now) _ _ ends.Usage ends.WriteFault c.tell.result _ c.tell.ensures.cases c.tell.ensures.whole (IfSome-all _ _ (λ bytes. usage none)) is.write
+pub run_command-requires-clause-apart : goal.run_command-requires-clause-apart
+run_command-requires-clause-apart g c = shared_apart
 
-pub returns-then-not-is_check-clause-write_fault : goal.returns-then-not-is_check-clause-write_fault
-returns-then-not-is_check-clause-write_fault g c =
-    let words = map string_bytes c.args.words.now in
-    let none = refuted c.is_check.result (IsCheck words) c.is_check.ensures c.if-not-is_check.true in
-    wrote_front (Answer words) read_fault_line (g.S.Source.left c.args.source.now) _ _ _ _ _ _ ends.Usage _ c.tell.result _ c.tell.ensures.fault (IfSome-all _ _ (λ bytes. usage none))
+pub run_command-requires-clause-own : goal.run_command-requires-clause-own
+run_command-requires-clause-own g c = own_answers
 
-pub returns-in-Err-Fault-clause-write_fault : goal.returns-in-Err-Fault-clause-write_fault
-returns-in-Err-Fault-clause-write_fault g c =
-    let words = map string_bytes c.args.words.now in
-    fault_front (Answer words) read_fault_line (g.S.Source.left c.args.source.now) _ _ _ _ _ _ _ c.tell-in-Err-Fault.result c.tell-in-Err-Fault.ensures.fault (c.in-Err-Fault.ensures.fault (ap Err c.in-Err-Fault.field-0-is))
+pub returns-clause-unread : goal.returns-clause-unread
+returns-clause-unread g c none = c.run_command.ensures.unread (asks_nothing (map string_bytes c.args.words.now) none)
 
-pub returns-in-Err-TooLong-clause-answer : goal.returns-in-Err-TooLong-clause-answer
-returns-in-Err-TooLong-clause-answer g c =
-    let words = map string_bytes c.args.words.now in
-    let check = c.is_check.ensures.0 c.if-not-is_check.false in
-    let long = rw c.in-Err-TooLong.field-0-is at c.in-Err-TooLong.ensures.bytes in
-    let answers = IfSome_then _ (Took-long _ _ _ long) (λ bytes. too_long check) in
-    λ is. wrote (Answer words) (g.S.Source.left c.args.source.now) _ _ ends.TooLong ends.WriteFault c.tell-in-Err-TooLong.result _ c.tell-in-Err-TooLong.ensures.cases c.tell-in-Err-TooLong.ensures.whole answers is.write
+pub returns-clause-usage : goal.returns-clause-usage
+returns-clause-usage g c none = c.run_command.ensures.usage (asks_nothing (map string_bytes c.args.words.now) none)
 
-pub returns-in-Err-TooLong-clause-write_fault : goal.returns-in-Err-TooLong-clause-write_fault
-returns-in-Err-TooLong-clause-write_fault g c =
-    let words = map string_bytes c.args.words.now in
-    let check = c.is_check.ensures.0 c.if-not-is_check.false in
-    let long = rw c.in-Err-TooLong.field-0-is at c.in-Err-TooLong.ensures.bytes in
-    let answers = IfSome_then _ (Took-long _ _ _ long) (λ bytes. too_long check) in
-    wrote_front (Answer words) read_fault_line (g.S.Source.left c.args.source.now) _ _ _ _ _ _ ends.TooLong _ c.tell-in-Err-TooLong.result _ c.tell-in-Err-TooLong.ensures.fault answers
+pub returns-clause-read_whole : goal.returns-clause-read_whole
+returns-clause-read_whole g c check = c.run_command.ensures.read_whole Check check
 
-pub returns-in-Ok-decide-clause-answer : goal.returns-in-Ok-decide-clause-answer
-returns-in-Ok-decide-clause-answer g c =
+pub returns-clause-complete : goal.returns-clause-complete
+returns-clause-complete g c = λ bytes r n graph check told short begins is calm_source calm_sink.
     let words = map string_bytes c.args.words.now in
-    let left = g.S.Source.left c.args.source.now in
-    let check = c.is_check.ensures.0 c.if-not-is_check.false in
-    let answers = read_left Checked (Answer words) most_bytes left _ _ _ c.in-Ok-decide.end _ _ (λ b t. checked check) c.in-Ok.ensures.bytes c.deref.ensures.value c.deref-in-Ok-decide.ensures.value c.in-Ok-decide.ensures.answer in
-    λ is. wrote (Answer words) left _ _ c.in-Ok-decide.end ends.WriteFault c.tell-in-Ok-decide.result _ c.tell-in-Ok-decide.ensures.cases c.tell-in-Ok-decide.ensures.whole answers is.write
-
-pub returns-in-Ok-decide-clause-write_fault : goal.returns-in-Ok-decide-clause-write_fault
-returns-in-Ok-decide-clause-write_fault g c =
-    let words = map string_bytes c.args.words.now in
-    let left = g.S.Source.left c.args.source.now in
-    let check = c.is_check.ensures.0 c.if-not-is_check.false in
-    let answers = read_left Checked (Answer words) most_bytes left _ _ _ c.in-Ok-decide.end _ _ (λ b t. checked check) c.in-Ok.ensures.bytes c.deref.ensures.value c.deref-in-Ok-decide.ensures.value c.in-Ok-decide.ensures.answer in
-    wrote_front (Answer words) read_fault_line left _ _ _ _ _ _ c.in-Ok-decide.end _ c.tell-in-Ok-decide.result _ c.tell-in-Ok-decide.ensures.fault answers
+    answer_or_memory IsJudged c.run_command.result
+    (λ e. calm_source (c.run_command.ensures.read_fault e).0.0)
+    (λ e. calm_sink (c.run_command.ensures.write_fault e).0)
+    (λ answer.
+    let wrote = c.run_command.ensures.answer answer in
+    let answers : Answer words bytes c.run_command.result wrote.0 = subst (λ left. IfSome left (λ b. Answer words b c.run_command.result wrote.0)) told wrote.1 in
+    judged_answer words bytes r n graph check short begins is answers)

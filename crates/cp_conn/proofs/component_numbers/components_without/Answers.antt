@@ -1,4 +1,4 @@
-use Rattle.std.proofs.Common.{◌≡◌, ℕ, List, subst, sym, ◌∙◌}
+use Rattle.std.proofs.Common.{ℕ, subst, sym, ◌∙◌}
 use Rattle.cp_base.specs.Graphs.{AreWithin}
 use Rattle.cp_conn.specs.Removed.{is_left}
 use Rattle.cp_conn.proofs.CutVertices.{AreWithin-filter}

@@ -1,12 +1,13 @@
--- The bytes so far are what was taken from the source. Each turn but the last takes at least one.
-use Rattle.std.proofs.Common.{◌-◌, ◌≤◌, vec_len}
+-- The bytes so far are what was taken from the source. Each turn but the last takes at least
+-- one, and no read failed.
+use Rattle.std.proofs.Common.{◌≡◌, ◌-◌, vec_len}
 use Rattle.std.specs.Io.KnownBytes.{Consumes}
 use Rattle.cp_io.proofs.whole.read_all.Given as goal
 
 abbrev pub invariant-loop-piece : goal.invariant-loop-piece
 invariant-loop-piece g l = record {
   taken : Consumes (g.S.Source.left l.initial.source) (g.S.Source.left l.source) l.bytes.items;
-  later : g.S.Source.faults l.initial.source ≤ g.S.Source.faults l.source;
+  kept : g.S.Source.faults l.source ≡ g.S.Source.faults l.initial.source;
 }
 
 abbrev pub decreases-loop-piece : goal.decreases-loop-piece

@@ -7,7 +7,8 @@ abbrev pub invariant-loop-done : goal.invariant-loop-done
 invariant-loop-done l = record {
   not_before : l.root ≤ l.done;
   within : l.done ≤ length l.search.found.items;
-  goes_on : GoesOn l.eqs l.root l.fn.search.found.items l.fn.search.places.items l.search.found.items l.search.places.items;
+  goes_on : GoesOn l.eqs l.root l.fn.search.found.items l.fn.search.places.items l.search.found.items
+      l.search.places.items;
   are_done : AreDone l.eqs l.root l.search.found.items l.done;
 }
 

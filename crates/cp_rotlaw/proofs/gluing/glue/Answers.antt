@@ -18,4 +18,4 @@ returns-clause-result c = IfOk-weaker c.from_rotation.result _ _ (λ rot is. sub
 pub returns-clause-genus : goal.returns-clause-genus
 returns-clause-genus c = IfOk-weaker c.from_rotation.result _ _ (λ rot is. subst HasGenusZero (sym (is ∙ ap₂ system_of c.as_slice.ensures.value c.as_slice-2.ensures.value))
     (glued-HasGenusZero c.args.a.now c.args.b.now c.vertices.ensures.rotation c.vertices-2.ensures.rotation c.args.u c.args.w c.requires.first_vertex c.requires.second_vertex c.args.pairs.now c.requires.partners
-    c.requires.first_no_loop c.requires.second_no_loop c.requires.reversed c.requires.first_plane c.requires.second_plane (system_of c.in_ok-at.at.items c.in_ok-at.lists.items) c.in_ok-at.ensures.result c.in_ok-at.ensures.even refl)) c.from_rotation.ensures
+    c.requires.second_no_loop c.requires.reversed c.requires.first_plane c.requires.second_plane (system_of c.in_ok-at.at.items c.in_ok-at.lists.items) c.in_ok-at.ensures.result c.in_ok-at.ensures.even refl)) c.from_rotation.ensures

@@ -4,7 +4,8 @@ use Rattle.cp_rot.specs.Systems.{darts}
 use Rattle.cp_rot.specs.Tables.{stands_at}
 use Rattle.cp_rotlaw.specs.StarParts.{far_key, ArePlaced}
 use Rattle.cp_rot.specs.Genus.{end_pairs}
-use Rattle.cp_rotlaw.proofs.StarCode.{number-below, AreEntered-from}
+use Rattle.cp_conn.proofs.NumberedClasses.{number-below}
+use Rattle.cp_rotlaw.proofs.StarCode.{AreEntered-from}
 use Rattle.cp_rotlaw.proofs.star_parts.entered_parts.Goals as goal
 
 pub places_of-requires-clause-within : goal.places_of-requires-clause-within
@@ -23,7 +24,7 @@ looked_up-requires c x lt =
     let first : c.as_slice.result.now ≡ numbers = c.as_slice.ensures.value in
     let size : length numbers ≡ r.vertices = c.in_ok-numbers.ensures.one_each in
     let below = number-below (without_vertex c.args.u (end_pairs r.at)) r.vertices numbers c.in_ok-numbers.ensures x (omega (arith, lt, ap length same, size)) in
-    omega (arith, below, size, ap (λ (xs : List ℕ). slice_index xs x) same, ap length first, ap length c.as_slice-2.ensures.value, c.in_ok-places.ensures.one_each)
+    omega (arith, below, size, ap (λ (xs : List ℕ). slice_index xs x) same, ap length first, ap length c.as_slice-2.ensures.value, c.in_ok-places.ensures.placed.size)
 
 pub returns : goal.returns
 returns c =

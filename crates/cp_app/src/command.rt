@@ -1,0 +1,50 @@
+// The command `check`.
+ghost use Rattle.std.specs.Prelude.{◌↔◌, IsTrue, map, string_bytes};
+ghost use Rattle.cp_app.specs.Answer.{IsCheck};
+
+use crate::End;
+use crate::decide::decide;
+use cp_base::Memory;
+use cp_io::Command;
+use std::alloc::Global;
+
+/// Whether the words are the one command `check`.
+fn is_check(words: &[String]) -> bool
+    ensures { IsTrue result ↔ IsCheck (map string_bytes words.now) }
+{
+    match words {
+        [word] => word.as_str() == "check",
+        _ => false,
+    }
+}
+
+/// What the words of the command line may ask for.
+#[derive(Clone, Copy, Debug, PartialEq, Eq)]
+pub(crate) enum Asked {
+    /// `check`: a report and a graph are read, and the layout is checked.
+    Check,
+}
+
+impl Command for Asked {
+    ghost use Rattle.cp_app.specs.Answer.{Asks, Answers};
+
+    type End = End;
+
+    ghost asks = { Asks };
+
+    ghost answers = { Answers };
+
+    fn asked_of(words: &[String]) -> Option<Asked> {
+        if is_check(words) {
+            Some(Asked::Check)
+        } else {
+            None
+        }
+    }
+
+    fn decide(self, alloc: Global, bytes: &[u8]) -> Result<(End, Vec<u8>), Memory> {
+        match self {
+            Asked::Check => decide(alloc, bytes),
+        }
+    }
+}

@@ -1,8 +1,0 @@
-use Rattle.std.proofs.Common.{◌+◌, ◌*◌}
-use Rattle.cp_rot.specs.Systems.{vertex_of}
-use Rattle.cp_border.specs.Borders.{borders}
-use Rattle.cp_border.specs.Tables.{IsTable}
-use Rattle.cp_border.proofs.tables.write_border.Given as goal
-
-abbrev pub invariant-loop-k : goal.invariant-loop-k
-invariant-loop-k l = IsTable (l.start + 2 * l.k) l.at (vertex_of (borders l.g l.lay))

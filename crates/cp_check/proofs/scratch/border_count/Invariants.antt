@@ -1,9 +1,0 @@
-use Rattle.std.proofs.Common.{◌≡◌, ◌^◌, ◌<◌}
-use Rattle.cp_border.specs.Borders.{before, crossed}
-use Rattle.cp_check.proofs.scratch.border_count.Given as goal
-
-abbrev pub invariant-loop-e : goal.invariant-loop-e
-invariant-loop-e l = record {
-  counted : l.count ≡ before (crossed l.g) l.e;
-  few : l.count < 2 ^ 59;
-}

@@ -1,0 +1,4 @@
+pub mod Shapes
+pub mod Owners
+mod NodeLayers
+mod Words

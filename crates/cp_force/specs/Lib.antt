@@ -1,0 +1,5 @@
+-- what contracts rest on
+pub mod Shapes
+pub mod Owners
+-- what functions inside promise each other
+pub mod Words

@@ -1,0 +1,24 @@
+-- What bits read of a node whose P-nodes are read as they stand.
+use Rattle.std.specs.Prelude.{ℕ, Bool, cond, List, [], ◌∷◌, reverse}
+use Rattle.std.specs.List.{flat_map}
+use Rattle.cp_pq.specs.declared.node.Node.{Node}
+use Rattle.cp_pq.specs.declared.node.Node.TheOpen.{Node-F}
+use Rattle.cp_pq.specs.declared.node.Node.TheFolds.{fold-Node}
+use Rattle.cp_pq.specs.Bits.{bit_of}
+
+-- the row, or the row from its end
+abbrev pub turned_row : {A : Type 0} → Bool → List A → List A
+turned_row turned row = cond turned (reverse row) row
+
+abbrev pub word_step : List Bool → Node-F (List ℕ) → List ℕ
+word_step bits (Node-F.Leaf x) = x ∷ []
+word_step bits (Node-F.P owner words) = flat_map (λ word. word) words
+word_step bits (Node-F.Q var words) = flat_map (λ word. word) (turned_row (bit_of bits var) words)
+
+-- the leaves of a node: a P-node in its order, a Q-node by the bit of its var
+unfoldable pub word_by : List Bool → Node → List ℕ
+word_by bits = fold-Node (List ℕ) (word_step bits)
+
+-- the leaves of a row of nodes
+unfoldable pub words_by : List Bool → List Node → List ℕ
+words_by bits row = flat_map (word_by bits) row

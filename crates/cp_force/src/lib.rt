@@ -1,0 +1,19 @@
+//! Order trees as the solver uses them: copies, shapes, orders by bits, owners and forced orders.
+#![tactic(auto)]
+
+mod copying;
+mod fault;
+mod order_tree;
+mod ownership;
+mod reading;
+mod shaping;
+
+pub use copying::copy_of;
+pub use fault::ForceFault;
+pub use order_tree::OrderTree;
+pub use ownership::owner_of;
+pub use reading::order_of;
+pub use shaping::shape_of;
+
+#[cfg(test)]
+mod tests;

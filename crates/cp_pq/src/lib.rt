@@ -1,0 +1,28 @@
+//! Order trees: PQ-trees with a bit at each Q-node, equations over the bits and an owner at each P-node.
+#![tactic(auto)]
+
+mod change;
+mod close;
+mod fault;
+mod found;
+mod frame;
+mod kinds;
+mod lists;
+mod node;
+mod part;
+mod pour;
+mod reducing;
+mod row;
+mod star_tree;
+mod step;
+mod tree;
+
+pub use fault::ReduceFault;
+pub use node::{Node, Nodes};
+pub use part::Part;
+pub use reducing::reduce;
+pub use star_tree::star;
+pub use tree::Tree;
+
+#[cfg(test)]
+mod tests;
