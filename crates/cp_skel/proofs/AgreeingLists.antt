@@ -21,7 +21,7 @@ use Rattle.cp_border.specs.Borders.{end_dart, node_list, segments}
 use Rattle.cp_border.specs.Good.{IsArranged}
 use Rattle.cp_border.proofs.Rotation.{length-node_lists}
 use Rattle.cp_maps.specs.Genus.{IsFlat}
-use Rattle.cp_maps.specs.Maps.{IsMapOf, Ring, Rings, flat, next_by}
+use Rattle.cp_maps.specs.Maps.{IsMapOf, Ring, Rings, next_by}
 use Rattle.cp_maps.proofs.ListFacts.{has_yes}
 use Rattle.cp_maps.proofs.MapLists.{IsMapOf-other}
 use Rattle.cp_maps.proofs.Rings.{Ring-turned, Rings-append}
@@ -38,6 +38,7 @@ use Rattle.cp_skel.proofs.SkeletonVertices.{kept-IsVertex, node_of-lt}
 use Rattle.cp_skel.proofs.StockDarts.{edge_count, ends, ends-differ, ends-within, kept-stock, skeleton_graph, stock-Names, stock-kept, vertex_count}
 use Rattle.cp_skel.proofs.TabledLists.{map_twice}
 use Rattle.cp_skel.proofs.VertexLists.{border_edges-inner, has-true, kept-vertex_list, kept_list-stands}
+use Rattle.cp_lists.specs.Rows.{flat}
 
 -- values that agree on the numbers of a range
 map_range_agree : {X : Type 0} (f h : ℕ → X) (a n : ℕ) → ((v : ℕ) → a ≤ v → v < a + n → f v ≡ h v)

@@ -24,8 +24,8 @@ use Rattle.cp_border.proofs.Rotation.{crossing_at, crossing_of, item_at, item_of
 use Rattle.cp_border.proofs.RotationLaw.{IsRotation-borders, border_vertex-lt}
 use Rattle.cp_maps.specs.Borders.{border_lists, closed_border, last_begin}
 use Rattle.cp_maps.specs.Maps.{IsMapOf}
-use Rattle.cp_maps.specs.Twins.{twin}
-use Rattle.cp_maps.proofs.Twins.{twin_even}
+use Rattle.cp_faces.specs.Twins.{twin}
+use Rattle.cp_faces.proofs.Twins.{twin_even}
 use Rattle.cp_skel.specs.BorderPlaces.{border_of, border_place, vertices_at, vertices_of}
 use Rattle.cp_skel.specs.OpenedBorders.{closed_borders}
 use Rattle.cp_skel.specs.SkeletonLists.{crossing_place, dart_before, dart_behind, inner_clusters}

@@ -19,7 +19,7 @@ use Rattle.cp_rot.specs.Systems.{IsRotation, System, darts, edges, list_of, next
 use Rattle.cp_border.proofs.Numbering.{length-pairs, pairs_first, pairs_second}
 use Rattle.cp_board.specs.Rotations.{ArrangesEdges, dart, system}
 use Rattle.cp_maps.specs.Genus.{IsFlat, OneGenus}
-use Rattle.cp_maps.specs.Maps.{IsMapOf, flat, next_by}
+use Rattle.cp_maps.specs.Maps.{IsMapOf, next_by}
 use Rattle.cp_maps.specs.Names.{Names}
 use Rattle.cp_maps.proofs.Genus.{OneGenus-IsFlat, OneGenus-sym}
 use Rattle.cp_maps.proofs.ListFacts.{Below-from, below_item}
@@ -29,6 +29,7 @@ use Rattle.cp_maplaw.proofs.Systems.{system_flat}
 use Rattle.cp_skel.proofs.Permutations.{IsPermutation-Distinct, IsPermutation-Has, IsPermutation-from}
 use Rattle.cp_skel.proofs.Ranges.{Distinct-range, Has-range, range-Has}
 use Rattle.cp_skel.proofs.SystemLists.{IsMapOf-vertices}
+use Rattle.cp_lists.specs.Rows.{flat}
 
 -- there is a map with the lists of a map under other names
 pub named-IsMapOf : (m e : ℕ) (j f : ℕ → ℕ) (rows : List (List ℕ)) → Names m e j → IsMapOf (2 * m) f rows

@@ -7,14 +7,15 @@ use Rattle.cp_lists.proofs.DistinctLists.{Distinct-swapped, Has-swapped, Lacks-f
 use Rattle.cp_lists.proofs.ReversedLists.{reverse-Has, reverse-cons}
 use Rattle.cp_maps.specs.Borders.{Place, border_lists, closed_border, inside_darts, last_begin, outside_darts}
 use Rattle.cp_maps.specs.Genus.{Apart, Becomes, Evenly}
-use Rattle.cp_maps.specs.Maps.{IsMapOf, flat, next_by}
-use Rattle.cp_maps.specs.Twins.{twin}
+use Rattle.cp_maps.specs.Maps.{IsMapOf, next_by}
+use Rattle.cp_faces.specs.Twins.{twin}
 use Rattle.cp_maps.proofs.Borders.{border-SameGenus}
 use Rattle.cp_maps.proofs.Genus.{SameGenus-sym, SameGenus-trans}
-use Rattle.cp_maps.proofs.ListFacts.{flat-append}
 use Rattle.cp_maps.proofs.MapLists.{IsMapOf-among, IsMapOf-bare, IsMapOf-front, IsMapOf-some, IsMapOf-swap}
 use Rattle.cp_maps.proofs.Parts.{Evenly-two_parts}
 use Rattle.cp_skel.specs.OpenedBorders.{AreParted, AtPlaces, IsSettled, closed_borders, opened_borders}
+use Rattle.cp_lists.specs.Rows.{flat}
+use Rattle.cp_lists.proofs.FlatLists.{flat-append}
 
 -- what holds at the places of a border holds at other words for it
 pub AtPlaces-from : (P Q : Place → Type 0) (qs : List Place) → ((q : Place) → P q → Q q) → AtPlaces P qs → AtPlaces Q qs

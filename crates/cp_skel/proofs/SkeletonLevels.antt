@@ -16,8 +16,8 @@ use Rattle.cp_border.specs.Good.{IsArranged}
 use Rattle.cp_border.proofs.Darts.{begin_dart, border_length, toward_source, toward_target}
 use Rattle.cp_border.proofs.Numbering.{before_within, piece_at, pieces_length}
 use Rattle.cp_border.proofs.Rotation.{crossing_of, end_source, end_target, item_at, length-node_lists}
-use Rattle.cp_maps.specs.Twins.{twin}
-use Rattle.cp_maps.proofs.Twins.{twin_even, twin_odd}
+use Rattle.cp_faces.specs.Twins.{twin}
+use Rattle.cp_faces.proofs.Twins.{twin_even, twin_odd}
 use Rattle.cp_skel.specs.BorderPlaces.{border_of, border_place}
 use Rattle.cp_skel.specs.OpenedBorders.{AreInOneCluster, AreLevelled, AtPlaces, IsAtBorder}
 use Rattle.cp_skel.specs.SegmentLevels.{ahead, behind, border_levels, level, levels, segment_levels}

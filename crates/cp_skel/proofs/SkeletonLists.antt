@@ -21,10 +21,10 @@ use Rattle.cp_border.proofs.Rotation.{cluster_exact, crossing_of, end_source, en
 use Rattle.cp_border.proofs.RotationLaw.{IsRotation-borders, length-borders_at-graph}
 use Rattle.cp_maps.specs.Borders.{inside_darts, outside_darts}
 use Rattle.cp_maps.specs.Genus.{Becomes, IsPlane}
-use Rattle.cp_maps.specs.Maps.{IsMapOf, flat, next_by}
+use Rattle.cp_maps.specs.Maps.{IsMapOf, next_by}
 use Rattle.cp_maps.proofs.FewerDarts.{IsPlane-IsFlat}
 use Rattle.cp_maps.proofs.Genus.{OneGenus-IsFlat, OneGenus-sym, SameGenus-IsFlat, SameGenus-sym}
-use Rattle.cp_maps.proofs.ListFacts.{Below-from, flat-append}
+use Rattle.cp_maps.proofs.ListFacts.{Below-from}
 use Rattle.cp_maps.proofs.MapLists.{IsMapOf-by}
 use Rattle.cp_maps.proofs.Names.{larger_stock-OneGenus}
 use Rattle.cp_maplaw.proofs.Systems.{system_flat}
@@ -37,6 +37,8 @@ use Rattle.cp_skel.proofs.ClusterLevels.{levelled_borders-Becomes}
 use Rattle.cp_skel.proofs.Ranges.{Distinct-range}
 use Rattle.cp_skel.proofs.SkeletonLevels.{AreInOneCluster-nodes, AreLevelled-borders}
 use Rattle.cp_skel.proofs.TabledLists.{map_places, map_twice}
+use Rattle.cp_lists.specs.Rows.{flat}
+use Rattle.cp_lists.proofs.FlatLists.{flat-append}
 
 -- the two lists of an opened border, by the list of its cluster
 opened_pair : (g : Clustered) (l : Layout) (c : ℕ)

@@ -21,9 +21,9 @@ use Rattle.cp_border.specs.Good.{IsArranged, IsGood}
 use Rattle.cp_border.proofs.Rotation.{crossing_at}
 use Rattle.cp_maps.specs.Genus.{IsFlat}
 use Rattle.cp_maps.specs.Maps.{IsMapOf, next_by}
-use Rattle.cp_maps.specs.Twins.{twin}
+use Rattle.cp_faces.specs.Twins.{twin}
 use Rattle.cp_maps.proofs.ListFacts.{has_yes}
-use Rattle.cp_maps.proofs.Twins.{twin_even}
+use Rattle.cp_faces.proofs.Twins.{twin_even}
 use Rattle.cp_skel.specs.LoopLists.{AllTurned, Looped, bare_lists, loop_darts, looped_lists}
 use Rattle.cp_skel.specs.SkeletonLists.{border_pair, in_dart, inner_clusters, out_dart, skeleton_lists}
 use Rattle.cp_skel.specs.Skeletons.{Child, Node, Outside, Vertex, below, dart_vertex, is_left, kept_segments, segment_name, skeleton_pipe, skeletons, vertex_name}

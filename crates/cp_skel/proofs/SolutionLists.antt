@@ -12,8 +12,8 @@ use Rattle.cp_cgraph.specs.Clustered.{Clustered, IsClustered, clusters, edges, n
 use Rattle.cp_cgraph.specs.Crossings.{leaves}
 use Rattle.cp_border.specs.Borders.{before, crossed, end_dart, first_segment}
 use Rattle.cp_border.proofs.Numbering.{piece_at}
-use Rattle.cp_maps.specs.Twins.{twin}
-use Rattle.cp_maps.proofs.Twins.{twin_even}
+use Rattle.cp_faces.specs.Twins.{twin}
+use Rattle.cp_faces.proofs.Twins.{twin_even}
 use Rattle.cp_skel.specs.LoopLists.{loop_darts}
 use Rattle.cp_skel.specs.SkeletonLists.{in_dart, out_dart}
 use Rattle.cp_skel.specs.Skeletons.{Child, IsVertex, Node, Outside, Vertex, dart_vertex, kept_segments, segment_name, vertex_name}

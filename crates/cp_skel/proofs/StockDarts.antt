@@ -11,8 +11,8 @@ use Rattle.cp_board.specs.Rotations.{dart}
 use Rattle.cp_cgraph.specs.Clustered.{Clustered, IsClustered}
 use Rattle.cp_border.specs.Borders.{segments}
 use Rattle.cp_maps.specs.Names.{Names}
-use Rattle.cp_maps.specs.Twins.{twin}
-use Rattle.cp_maps.proofs.Twins.{twin_even, twin_odd}
+use Rattle.cp_faces.specs.Twins.{twin}
+use Rattle.cp_faces.proofs.Twins.{twin_even, twin_odd}
 use Rattle.cp_skel.specs.Skeletons.{IsVertex, Vertex, all_vertices, dart_vertex, kept_segments, skeletons, vertex_name}
 use Rattle.cp_skel.specs.VertexLists.{stock_dart}
 use Rattle.cp_skel.proofs.KeptDarts.{segment-differ}

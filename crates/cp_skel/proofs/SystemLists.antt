@@ -5,8 +5,9 @@ use Rattle.cp_lists.proofs.DistinctLists.{Distinct-append, Has-append_cases, Has
 use Rattle.cp_rot.specs.Systems.{IsRotation, System, darts, edges, list_of, next, vertex_of}
 use Rattle.cp_rot.proofs.Functions.{next-follow}
 use Rattle.cp_rot.proofs.ListSystems.{Listed, Listed-system}
-use Rattle.cp_maps.specs.Maps.{IsMapOf, Rings, flat}
+use Rattle.cp_maps.specs.Maps.{IsMapOf, Rings}
 use Rattle.cp_maps.proofs.ListFacts.{Below-from}
+use Rattle.cp_lists.specs.Rows.{flat}
 
 -- the lists of some vertices of a rotation system
 module _ (r : System) (is : IsRotation r) where

@@ -3,12 +3,13 @@ use Rattle.std.proofs.Common.{ℕ, ◌*◌, List, [], ◌∷◌, ◌++◌, sym, 
 use Rattle.cp_lists.specs.CyclicLists.{Distinct, Has}
 use Rattle.cp_lists.proofs.DistinctLists.{Distinct-turn, Has-turn}
 use Rattle.cp_maps.specs.Genus.{SameGenus}
-use Rattle.cp_maps.specs.Maps.{IsMapOf, flat}
+use Rattle.cp_maps.specs.Maps.{IsMapOf}
 use Rattle.cp_maps.proofs.Genus.{SameGenus-agree}
-use Rattle.cp_maps.proofs.ListFacts.{flat-append}
 use Rattle.cp_maps.proofs.MapLists.{IsMapOf-Permutes, IsMapOf-among, IsMapOf-front, IsMapOf-other, IsMapOf-turn, IsMapOf-unique}
 use Rattle.cp_maps.proofs.Rings.{Rings-append, Rings-append_left, Rings-append_right}
 use Rattle.cp_skel.specs.LoopLists.{AllTurned}
+use Rattle.cp_lists.specs.Rows.{flat}
+use Rattle.cp_lists.proofs.FlatLists.{flat-append}
 
 -- two maps with the same lists have one genus
 pub same_lists-SameGenus : (e : ℕ) (f g : ℕ → ℕ) (rows : List (List ℕ)) → IsMapOf (2 * e) f rows

@@ -1,7 +1,7 @@
 -- Lists of darts with loops at their ends.
 use Rattle.std.specs.Prelude.{ℕ, List, [], ◌∷◌, ◌++◌, map}
 use Rattle.cp_lists.specs.Turns.{IsTurn}
-use Rattle.cp_maps.specs.Twins.{twin}
+use Rattle.cp_faces.specs.Twins.{twin}
 
 -- the two darts of each loop, side by side
 abbrev pub loop_darts : List ℕ → List ℕ

@@ -3,7 +3,7 @@ use Rattle.std.specs.Prelude.{◌≡◌, ◌≢◌, ℕ, ◌-◌, ◌<◌, Bool,
 use Rattle.std.specs.List.{flat_map}
 use Rattle.cp_lists.specs.CyclicLists.{Has}
 use Rattle.cp_maps.specs.Borders.{Place, closed_border, inside_darts, outside_darts}
-use Rattle.cp_maps.specs.Twins.{twin}
+use Rattle.cp_faces.specs.Twins.{twin}
 
 -- the lists of all vertices of closed borders
 abbrev pub closed_borders : (ℕ → List Place) → List ℕ → List (List ℕ)
