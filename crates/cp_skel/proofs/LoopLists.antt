@@ -7,7 +7,7 @@ use Rattle.cp_maps.proofs.ContractedEdges.{trivial_loop-SameGenus}
 use Rattle.cp_maps.proofs.Genus.{SameGenus-trans}
 use Rattle.cp_maps.proofs.MapLists.{IsMapOf-among, IsMapOf-by, IsMapOf-turn}
 use Rattle.cp_skel.specs.LoopLists.{Looped, bare_lists, loop_darts, looped_lists}
-use Rattle.cp_skel.proofs.TurnedMaps.{same_lists-SameGenus}
+use Rattle.cp_maps.proofs.MergedVertices.{same_lists-SameGenus}
 
 -- there is a map without the loops in front of a list
 loops_out-IsMapOf : (e : ℕ) (g : ℕ → ℕ) (loops xs : List ℕ) (rows : List (List ℕ))

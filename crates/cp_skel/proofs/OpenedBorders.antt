@@ -11,6 +11,7 @@ use Rattle.cp_maps.specs.Maps.{IsMapOf, next_by}
 use Rattle.cp_faces.specs.Twins.{twin}
 use Rattle.cp_maps.proofs.Borders.{border-SameGenus}
 use Rattle.cp_maps.proofs.Genus.{SameGenus-sym, SameGenus-trans}
+use Rattle.cp_maps.proofs.Growth.{Evenly-append}
 use Rattle.cp_maps.proofs.MapLists.{IsMapOf-among, IsMapOf-bare, IsMapOf-front, IsMapOf-some, IsMapOf-swap}
 use Rattle.cp_maps.proofs.Parts.{Evenly-two_parts}
 use Rattle.cp_skel.specs.OpenedBorders.{AreParted, AtPlaces, IsSettled, closed_borders, opened_borders}
@@ -44,12 +45,6 @@ last_value : (p : ℕ → Bool) (v : Bool) (s : ℕ) (qs : List Place) → p s �
     → p (last_begin s qs) ≡ v
 last_value p v s [] first at = first
 last_value p v s (q ∷ qs) first at = last_value p v q.begins qs at.0.begins at.1
-
--- a test that is even on two rows of lists is even on both together
-Evenly-append : (p : ℕ → Bool) (rows others : List (List ℕ)) → Evenly p rows → Evenly p others
-    → Evenly p (rows ++ others)
-Evenly-append p [] others one two = two
-Evenly-append p (xs ∷ rows) others one two = (one.0, Evenly-append p rows others one.1 two)
 
 -- a test with one value on a border is even on the lists of its vertices
 border_lists-Evenly : (p : ℕ → Bool) (v : Bool) (back : ℕ) (qs : List Place) → ((d : ℕ) → p d ≡ p (twin d))

@@ -18,7 +18,8 @@ use Rattle.cp_skel.specs.LoopLists.{AllTurned}
 use Rattle.cp_skel.specs.SkeletonLists.{border_pair, in_dart, inner_clusters, out_dart, skeleton_lists}
 use Rattle.cp_skel.proofs.GoodLayouts.{good_exactly}
 use Rattle.cp_skel.proofs.SkeletonLists.{IsMapOf-skeletons}
-use Rattle.cp_skel.proofs.TurnedMaps.{IsMapOf-turned, same_lists-SameGenus}
+use Rattle.cp_skel.proofs.TurnedMaps.{IsMapOf-turned}
+use Rattle.cp_maps.proofs.MergedVertices.{same_lists-SameGenus}
 
 -- as many lists, and each a turn of the one at its place
 pub record IsTurnedLayout (l k : Layout) : Type 0 where

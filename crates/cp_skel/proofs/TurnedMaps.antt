@@ -1,21 +1,13 @@
 -- The lists of a map, each turned, and in another order.
-use Rattle.std.proofs.Common.{ℕ, ◌*◌, List, [], ◌∷◌, ◌++◌, sym, subst}
+use Rattle.std.proofs.Common.{ℕ, List, [], ◌∷◌, ◌++◌, sym, subst}
 use Rattle.cp_lists.specs.CyclicLists.{Distinct, Has}
 use Rattle.cp_lists.proofs.DistinctLists.{Distinct-turn, Has-turn}
-use Rattle.cp_maps.specs.Genus.{SameGenus}
 use Rattle.cp_maps.specs.Maps.{IsMapOf}
-use Rattle.cp_maps.proofs.Genus.{SameGenus-agree}
-use Rattle.cp_maps.proofs.MapLists.{IsMapOf-Permutes, IsMapOf-among, IsMapOf-front, IsMapOf-other, IsMapOf-turn, IsMapOf-unique}
+use Rattle.cp_maps.proofs.MapLists.{IsMapOf-among, IsMapOf-front, IsMapOf-other, IsMapOf-turn}
 use Rattle.cp_maps.proofs.Rings.{Rings-append, Rings-append_left, Rings-append_right}
 use Rattle.cp_skel.specs.LoopLists.{AllTurned}
 use Rattle.cp_lists.specs.Rows.{flat}
 use Rattle.cp_lists.proofs.FlatLists.{flat-append}
-
--- two maps with the same lists have one genus
-pub same_lists-SameGenus : (e : ℕ) (f g : ℕ → ℕ) (rows : List (List ℕ)) → IsMapOf (2 * e) f rows
-    → IsMapOf (2 * e) g rows → SameGenus e f g
-same_lists-SameGenus e f g rows is_f is_g =
-    SameGenus-agree e f g (IsMapOf-Permutes (2 * e) f rows is_f) (IsMapOf-unique (2 * e) f rows is_f g is_g)
 
 -- each of the first lists turned
 pub IsMapOf-turned : (n : ℕ) (f : ℕ → ℕ) (rows turned others : List (List ℕ)) → AllTurned rows turned
