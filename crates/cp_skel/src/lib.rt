@@ -1,4 +1,8 @@
 //! Skeletons of a clustered graph (Bläsius, Rutter 2016): what each cluster sees when the borders round it and in it
-//! are opened. A layout is good exactly where the lists of its skeletons are plane. The crate has no code: its
-//! definitions stand in `specs/`, and its lemmas in `proofs/` are cited by the crates above.
+//! are opened. A clustered graph is c-planar exactly where its skeletons can be solved. The definitions stand in
+//! `specs/`, and the lemmas in `proofs/` are cited by the crates above.
 #![tactic(auto)]
+
+mod laws;
+
+pub use laws::{solutions_and_layouts, solvable_exactly_where_planar};

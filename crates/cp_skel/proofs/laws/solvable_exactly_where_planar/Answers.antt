@@ -1,0 +1,5 @@
+use Rattle.cp_skel.proofs.Skeletons.{planar_exactly}
+use Rattle.cp_skel.proofs.laws.solvable_exactly_where_planar.Goals as goal
+
+pub returns : goal.returns
+returns c = planar_exactly
