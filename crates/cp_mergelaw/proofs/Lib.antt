@@ -1,1 +1,2 @@
-mod UncrossedLists
+pub mod UncrossedLists
+pub mod SideMerges

@@ -1,1 +1,3 @@
 pub mod Sides
+-- what lemmas inside the crate promise each other
+pub mod Merges
