@@ -1,2 +1,5 @@
-pub mod UncrossedLists
-pub mod SideMerges
+mod UncrossedLists
+mod SideMerges
+mod NextMerges
+mod MirroredLists
+pub mod MergedSides

@@ -16,7 +16,7 @@ use Rattle.cp_maps.proofs.ListFacts.{has_no, has_true, has_yes}
 use Rattle.cp_mergelaw.specs.Sides.{AllUncrossed, EachList, RestrictsTo, Uncrossed, is_of}
 
 -- where no item passes, nothing is kept
-filter_none : (p : ℕ → Bool) (xs : List ℕ) → ((d : ℕ) → Has d xs → p d ≡ false) → filter p xs ≡ []
+pub filter_none : (p : ℕ → Bool) (xs : List ℕ) → ((d : ℕ) → Has d xs → p d ≡ false) → filter p xs ≡ []
 filter_none p [] none = refl
 filter_none p (x ∷ xs) none = filter_no p x xs (none x (inl refl)) ∙ filter_none p xs (λ d h. none d (inr h))
 
