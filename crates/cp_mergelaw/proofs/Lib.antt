@@ -1,5 +1,6 @@
 mod UncrossedLists
-mod SideMerges
-mod NextMerges
+pub mod MergedLists
+pub mod SideMerges
+pub mod NextMerges
 mod MirroredLists
 pub mod MergedSides

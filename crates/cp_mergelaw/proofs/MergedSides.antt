@@ -12,10 +12,10 @@ use Rattle.cp_maps.proofs.Genus.{SameGenus-IsFlat, SameGenus-trans}
 use Rattle.cp_maps.proofs.Growth.{middle_cases, middle_item}
 use Rattle.cp_maps.proofs.MapLists.{IsMapOf-front, IsMapOf-swap, IsMapOf-third}
 use Rattle.cp_mergelaw.specs.Merges.{NextMerge}
-use Rattle.cp_mergelaw.specs.Sides.{AllUncrossed, AreSides, EachList, IsMergedSide, IsMirrorIn, NoneBare, RestrictsTo, Uncrossed, is_of, leads_to}
+use Rattle.cp_mergelaw.specs.Sides.{AllUncrossed, AreSides, EachList, IsMergeOf, IsMergedSide, IsMirrorIn, NoneBare, Uncrossed, leads_to}
+use Rattle.cp_mergelaw.proofs.MergedLists.{IsMergeOf-before, IsMergeOf-one}
 use Rattle.cp_mergelaw.proofs.MirroredLists.{flat-IsMirrorIn, flat-Uncrossed}
 use Rattle.cp_mergelaw.proofs.NextMerges.{next-NextMerge}
-use Rattle.cp_mergelaw.proofs.UncrossedLists.{AllUncrossed-among, EachList-among, RestrictsTo-refl, RestrictsTo-trans, Uncrossed-part_each, Uncrossed-whole, appended-RestrictsTo_first, appended-RestrictsTo_second, appended-Uncrossed}
 
 -- lists of which none is empty, without one of them
 NoneBare-less : (xs : List ℕ) (before behind : List (List ℕ)) → NoneBare (before ++ xs ∷ behind)
@@ -70,8 +70,7 @@ module _ (first row us vs : List ℕ) (before behind : List (List ℕ)) (one : I
 record IsMerged (e : ℕ) (f : ℕ → ℕ) (side others : List (List ℕ)) (whole : List ℕ) : Type 0 where
   becomes : Becomes e f (whole ∷ others)
   items : (d : ℕ) → Has d (flat side) → Has d whole
-  restricted : EachList (RestrictsTo whole) side
-  uncrossed : AllUncrossed is_of whole side
+  merge : IsMergeOf whole side
 
 -- a side merged after a first merge is the side merged
 module _ (e : ℕ) (f : ℕ → ℕ) (first : List ℕ) (side others : List (List ℕ)) (m : NextMerge e f first side others) where
@@ -99,14 +98,6 @@ module _ (e : ℕ) (f : ℕ → ℕ) (first : List ℕ) (side others : List (Lis
   mid_once : Distinct mid
   mid_once = step.1.rings.0.distinct
 
-  -- the first list keeps its order
-  to_first : RestrictsTo mid first
-  to_first = appended-RestrictsTo_first first m.row us vs m.merge.2 m.merge.3 mid_once
-
-  -- so does the other
-  to_row : RestrictsTo mid m.row
-  to_row = appended-RestrictsTo_second first m.row us vs m.merge.2 m.merge.3 mid_once
-
   -- what is merged from there is merged from here
   IsMerged-before : (whole : List ℕ) → IsMerged e step.0 (mid ∷ rest) others whole
       → IsMerged e f (first ∷ side) others whole
@@ -114,20 +105,8 @@ module _ (e : ℕ) (f : ℕ → ℕ) (first : List ℕ) (side others : List (Lis
     becomes = (go.becomes.0, go.becomes.1, SameGenus-trans e f step.0 go.becomes.0 step.2 go.becomes.2);
     items = λ d h. go.items d (merged_item first m.row us vs m.before m.behind m.merge.2 m.merge.3 d
         (subst (λ rows. Has d (flat (first ∷ rows))) m.whole h));
-    restricted = (
-      RestrictsTo-trans whole mid first go.restricted.0 to_first,
-      subst (EachList (RestrictsTo whole)) (sym m.whole)
-          (EachList-among (RestrictsTo whole) m.row m.before m.behind
-          (RestrictsTo-trans whole mid m.row go.restricted.0 to_row) go.restricted.1),
-    );
-    uncrossed = subst (λ rows. AllUncrossed is_of whole (first ∷ rows)) (sym m.whole) (
-      EachList-among (Uncrossed is_of whole first) m.row m.before m.behind
-          (Uncrossed-whole whole mid first m.row go.restricted.0 to_first to_row
-          (appended-Uncrossed first m.row us vs m.merge.2 m.merge.3 mid_once))
-          (Uncrossed-part_each whole mid first rest to_first go.uncrossed.0),
-      AllUncrossed-among is_of whole m.row m.before m.behind
-          (Uncrossed-part_each whole mid m.row rest to_row go.uncrossed.0) go.uncrossed.1,
-    );
+    merge = subst (λ rows. IsMergeOf whole (first ∷ rows)) (sym m.whole)
+        (IsMergeOf-before whole first m.row us vs m.before m.behind m.merge.2 m.merge.3 mid_once go.merge);
   }
 
 -- the lists of a side, one after the other, become one
@@ -140,8 +119,7 @@ merged-IsMerged n e f (r ∷ rs) [] others size is none sides = (
   record {
     becomes = (f, is, refl);
     items = λ d h. subst (Has d) (append-nil (r ∷ rs)) h;
-    restricted = (RestrictsTo-refl (r ∷ rs), tt);
-    uncrossed = (tt, tt);
+    merge = IsMergeOf-one (r ∷ rs);
   },
 )
 merged-IsMerged n e f (r ∷ rs) ([] ∷ more) others size is none sides = absurd none
@@ -215,32 +193,35 @@ module _ (e : ℕ) (whole : List ℕ) where
         (subst (λ all. CanBeFlat e (whole ∷ all)) (sym (append_assoc done (xs ∷ []) rows)) can),
   )
 
--- the vertices of one side of a map can be made one vertex, without a change of the genus: its list keeps the order at
--- each of them, and no two of their lists cross in it
+-- a side of which the vertices were made one, by whatever merges: what the list of this vertex keeps of the others, and
+-- what the other side reads of it
+pub IsMergeOf-IsMergedSide : (e : ℕ) (side others : List (List ℕ)) (whole : List ℕ) → CanBeFlat e (whole ∷ others)
+    → IsMergeOf whole side → ((d : ℕ) → Has d (flat others) → Has (twin d) whole) → IsMergedSide e side others whole
+IsMergeOf-IsMergedSide e side others whole can merge back = record {
+  can_be_flat = can;
+  merge = merge;
+  mirrored = others-IsMirrorIn e whole [] others can back;
+  others_uncrossed = others-AllUncrossed e whole [] others can;
+}
+
+-- the vertices of one side of a map can be made one vertex, without a change of the genus, whose list is put together of
+-- theirs
 pub merged_side-Becomes : (e : ℕ) (f : ℕ → ℕ) (first : List ℕ) (side others : List (List ℕ))
     → IsMapOf (2 * e) f (first ∷ (side ++ others)) → NoneBare (first ∷ side) → AreSides (first ∷ side) others
-    → (whole : List ℕ) × Becomes e f (whole ∷ others) × EachList (RestrictsTo whole) (first ∷ side)
-    × AllUncrossed is_of whole (first ∷ side)
+    → (whole : List ℕ) × Becomes e f (whole ∷ others) × IsMergeOf whole (first ∷ side)
 merged_side-Becomes e f first side others is none sides =
     let m = merged-IsMerged (length side) e f first side others refl is none sides in
-    (m.0, m.1.becomes, m.1.restricted, m.1.uncrossed)
+    (m.0, m.1.becomes, m.1.merge)
 
--- the vertices of one side of a flat map can be made one vertex: its list keeps the order at each of them, is read in
--- reverse by each vertex of the other side, and neither the lists of the one side nor those of the other cross in it
+-- the vertices of one side of a flat map can be made one vertex: its list is put together of theirs and is read in
+-- reverse by each vertex of the other side, and no two of these cross in it
 pub merged_side-IsMergedSide : (e : ℕ) (f : ℕ → ℕ) (first : List ℕ) (side others : List (List ℕ))
     → IsMapOf (2 * e) f (first ∷ (side ++ others)) → NoneBare (first ∷ side) → AreSides (first ∷ side) others
     → IsFlat e f → (whole : List ℕ) × IsMergedSide e (first ∷ side) others whole
 merged_side-IsMergedSide e f first side others is none sides z =
     let m = merged-IsMerged (length side) e f first side others refl is none sides in
-    let b : Becomes e f (m.0 ∷ others) = m.1.becomes in
-    let can : CanBeFlat e (m.0 ∷ others) = (b.0, b.1, SameGenus-IsFlat e f b.0 b.2 z) in (
+    let b : Becomes e f (m.0 ∷ others) = m.1.becomes in (
       m.0,
-      record {
-        can_be_flat = can;
-        restricted = m.1.restricted;
-        side_uncrossed = m.1.uncrossed;
-        mirrored = others-IsMirrorIn e m.0 [] others can
-            (λ d h. m.1.items (twin d) (sides.back d h));
-        others_uncrossed = others-AllUncrossed e m.0 [] others can;
-      },
+      IsMergeOf-IsMergedSide e (first ∷ side) others m.0 (b.0, b.1, SameGenus-IsFlat e f b.0 b.2 z) m.1.merge
+          (λ d h. m.1.items (twin d) (sides.back d h)),
     )

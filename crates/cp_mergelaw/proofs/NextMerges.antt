@@ -206,7 +206,7 @@ module _ (e : ℕ) (f : ℕ → ℕ) (r b : ℕ) (rs bs : List ℕ) (more others
   in_side d h = subst (Has d) (sym (flat-append side others)) (Has-append_left d (flat side) (flat others) h)
 
   -- where each vertex of the other side leads to the first alone or not to it, the first two are of two components
-  even-two_parts : Evenly (leads_to first) others → OnePart e f r b → ⊥
+  pub even-two_parts : Evenly (leads_to first) others → OnePart e f r b → ⊥
   even-two_parts even =
       Evenly-two_parts e f (first ∷ (side ++ others)) p r b is
       (

@@ -51,11 +51,15 @@ abbrev pub AllUncrossed : (List ℕ → ℕ → Bool) → List ℕ → List (Lis
 AllUncrossed test whole [] = Unit {0}
 AllUncrossed test whole (xs ∷ rows) = EachList (Uncrossed test whole xs) rows × AllUncrossed test whole rows
 
--- the side made one vertex: the map is flat, the whole list keeps the order at each vertex of the side and is read in
--- reverse by each other vertex, and neither the lists of the side nor those of the others stand crosswise in it
+-- the whole list is put together of the lists: it keeps the order of each, and no two of them cross in it
+pub record IsMergeOf (whole : List ℕ) (rows : List (List ℕ)) : Type 0 where
+  pub restricted : EachList (RestrictsTo whole) rows
+  pub uncrossed : AllUncrossed is_of whole rows
+
+-- the side made one vertex: the map is flat, the list of the vertex is put together of those of the side and is read in
+-- reverse by each vertex of the other side, and no two of these cross in it
 pub record IsMergedSide (e : ℕ) (side others : List (List ℕ)) (whole : List ℕ) : Type 0 where
   pub can_be_flat : CanBeFlat e (whole ∷ others)
-  pub restricted : EachList (RestrictsTo whole) side
-  pub side_uncrossed : AllUncrossed is_of whole side
+  pub merge : IsMergeOf whole side
   pub mirrored : EachList (IsMirrorIn whole) others
   pub others_uncrossed : AllUncrossed leads_to whole others
