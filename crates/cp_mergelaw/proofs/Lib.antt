@@ -4,3 +4,5 @@ pub mod SideMerges
 pub mod NextMerges
 mod MirroredLists
 pub mod MergedSides
+mod ClosedBranches
+pub mod JoinedBranches
