@@ -40,7 +40,7 @@ or_first : (a b : Bool) → b ≡ false → (a || b) ≡ a
 or_first a b f = ⊎_elim (λ u. rw u refl) (λ u. rw u f) (cases_Bool a)
 
 -- lists can be flat with only some darts of the first
-filtered_list-CanBeFlat : (e : ℕ) (keep : ℕ → Bool) (xs : List ℕ) (rows : List (List ℕ)) → CanBeFlat e (xs ∷ rows)
+pub filtered_list-CanBeFlat : (e : ℕ) (keep : ℕ → Bool) (xs : List ℕ) (rows : List (List ℕ)) → CanBeFlat e (xs ∷ rows)
     → CanBeFlat e (filter keep xs ∷ rows)
 filtered_list-CanBeFlat e keep xs rows can =
     let p : ℕ → Bool = λ d. keep d || not (has d xs) in

@@ -5,4 +5,6 @@ pub mod NextMerges
 mod MirroredLists
 pub mod MergedSides
 mod ClosedBranches
+pub mod LinkedPoles
 pub mod JoinedBranches
+mod Examples

@@ -84,7 +84,7 @@ changes_or_Evenly p (xs ∷ rows) = ⊎_elim
     (changes_or_one_value p xs)
 
 -- the list of a dart
-list_of_dart : (d : ℕ) (rows : List (List ℕ)) → Has d (flat rows) → Among rows (Has d)
+pub list_of_dart : (d : ℕ) (rows : List (List ℕ)) → Has d (flat rows) → Among rows (Has d)
 list_of_dart d [] h = absurd h
 list_of_dart d (xs ∷ rows) h = ⊎_elim
     (λ k. record { before = []; row = xs; behind = rows; whole = refl; fine = k })
