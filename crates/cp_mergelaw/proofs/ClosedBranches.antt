@@ -1,5 +1,5 @@
 -- One branch between two poles of a flat map, with its poles made one vertex along the rest.
-use Rattle.std.proofs.Common.{◌≡◌, ◌≢◌, ℕ, ◌*◌, Bool, true, false, ◌||◌, not, List, [], ◌∷◌, ◌++◌, ◌⊎◌, map, append_assoc, sym, refl, ap, ap₂, ◌∙◌, subst, inl, inr, ⊎_elim}
+use Rattle.std.proofs.Common.{◌≡◌, ◌≢◌, ℕ, ◌*◌, Bool, true, false, ◌||◌, not, List, [], ◌∷◌, ◌++◌, map, append_assoc, sym, refl, ap, ap₂, ◌∙◌, subst, ⊎_elim}
 use Rattle.std.proofs.lemmas.Bool.{cases_Bool}
 use Rattle.std.specs.List.{filter}
 use Rattle.cp_lists.specs.CyclicLists.{Distinct, Has, Lacks}
@@ -8,7 +8,6 @@ use Rattle.cp_lists.specs.Turns.{IsTurn}
 use Rattle.cp_lists.proofs.DistinctLists.{Distinct-apart, Distinct-append_left, Distinct-append_right, Has-append_left, Has-append_right, Lacks-append_left, Lacks-append_right, Lacks-from, has_lacks}
 use Rattle.cp_lists.proofs.FilteredLists.{filter_agree, filter_all}
 use Rattle.cp_lists.proofs.FlatLists.{flat-append}
-use Rattle.cp_lists.proofs.TurnedLists.{turn_parts}
 use Rattle.cp_faces.specs.Twins.{twin}
 use Rattle.cp_faces.proofs.Twins.{twin-twin}
 use Rattle.cp_maps.specs.Genus.{Becomes, CanBeFlat, IsFlat}
@@ -21,7 +20,7 @@ use Rattle.cp_maps.proofs.Genus.{SameGenus-IsFlat}
 use Rattle.cp_maps.proofs.KeptDarts.{kept_darts-CanBeFlat}
 use Rattle.cp_maps.proofs.ListFacts.{has_no, has_yes}
 use Rattle.cp_maps.proofs.MapLists.{IsMapOf-exchanged, IsMapOf-third, IsMapOf-turn}
-use Rattle.cp_mergelaw.specs.Branches.{AreLinked, Branch, EachBranch, IsBranchOf, closed_lists}
+use Rattle.cp_mergelaw.specs.Branches.{AreLinked, Branch, IsBranchOf, closed_lists}
 
 -- lists whose items all pass a test stay
 filter_all-rows : (p : ℕ → Bool) (rows : List (List ℕ)) → ((d : ℕ) → Has d (flat rows) → p d ≡ true)

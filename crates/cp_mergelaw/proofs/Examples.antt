@@ -1,13 +1,9 @@
 -- Small maps on which the laws are tried.
 use Rattle.std.proofs.Common.{ℕ, List, [], ◌∷◌, ◌++◌, ap, inl, inr, ⊎_elim, arith, refl, ◌≡◌}
-use Rattle.cp_lists.specs.CyclicLists.{Has}
-use Rattle.cp_lists.specs.Rows.{flat}
-use Rattle.cp_lists.specs.Turns.{IsTurn}
 use Rattle.cp_faces.specs.Twins.{twin}
-use Rattle.cp_maps.specs.Genus.{CanBeFlat, IsFlat}
 use Rattle.cp_maps.specs.Maps.{IsMapOf, next_by}
 use Rattle.cp_maps.proofs.MapLists.{IsMapOf-by}
-use Rattle.cp_mergelaw.specs.Branches.{Branch, heads, inners, tails}
+use Rattle.cp_mergelaw.specs.Branches.{tails}
 use Rattle.cp_mergelaw.specs.Sides.{AreSides, IsMergedSide}
 use Rattle.cp_mergelaw.proofs.MergedSides.{merged_side-IsMergedSide}
 
@@ -17,9 +13,10 @@ two_leaves = (0 ∷ []) ∷ (2 ∷ []) ∷ (1 ∷ 3 ∷ []) ∷ []
 
 -- their map
 two_leaves-IsMapOf : IsMapOf 4 (next_by two_leaves) two_leaves
-two_leaves-IsMapOf = IsMapOf-by 4 two_leaves
-    (((λ h. omega arith), ((λ h. omega arith), ((λ h. omega arith), tt))),
-    (((λ h. omega arith), ((λ h. omega arith), tt)), (((λ h. omega arith), tt), (tt, tt))))
+two_leaves-IsMapOf = IsMapOf-by 4 two_leaves (
+  ((λ h. omega arith), ((λ h. omega arith), ((λ h. omega arith), tt))),
+  (((λ h. omega arith), ((λ h. omega arith), tt)), (((λ h. omega arith), tt), (tt, tt))),
+)
     (omega arith, (omega arith, (omega arith, (omega arith, tt))))
 
 -- the two sides

@@ -4,6 +4,7 @@ pub mod SideMerges
 pub mod NextMerges
 mod MirroredLists
 pub mod MergedSides
+pub mod ListClasses
 mod ClosedBranches
 pub mod LinkedPoles
 pub mod JoinedBranches

@@ -1,5 +1,5 @@
 -- Two poles that are linked beside a branch, by a component of what is beside it.
-use Rattle.std.proofs.Common.{ℕ, ◌*◌, Bool, List, [], ◌∷◌, ◌++◌, append_assoc, suc, length, lt-suc_self, sym, subst, inl, inr, ⊎_elim}
+use Rattle.std.proofs.Common.{ℕ, ◌*◌, Bool, List, [], ◌∷◌, ◌++◌, append_assoc, suc, length, lt-suc_self, sym, subst, ⊎_elim}
 use Rattle.std.specs.List.{filter}
 use Rattle.cp_lists.specs.CyclicLists.{Has}
 use Rattle.cp_lists.specs.Rows.{flat}

@@ -1,5 +1,5 @@
 -- Lists put together one behind the other, whose orders are kept and that do not cross.
-use Rattle.std.proofs.Common.{ℕ, Bool, List, [], ◌∷◌, ◌++◌}
+use Rattle.std.proofs.Common.{ℕ, List, [], ◌∷◌, ◌++◌}
 use Rattle.cp_lists.specs.CyclicLists.{Distinct}
 use Rattle.cp_lists.specs.Turns.{IsTurn}
 use Rattle.cp_mergelaw.specs.Sides.{AllUncrossed, EachList, IsMergeOf, RestrictsTo, Uncrossed, is_of}

@@ -1,16 +1,15 @@
 -- A vertex of a flat map reads the list of another one in reverse, and two such vertices do not cross in it.
-use Rattle.std.proofs.Common.{◌≡◌, ℕ, ◌*◌, ◌≢◌, Bool, true, ◌||◌, List, [], ◌∷◌, ◌++◌, map, append_assoc, append-nil, reverse, sym, refl, ap, ap₂, ◌∙◌, subst, inl, inr, ⊎_elim, arith}
+use Rattle.std.proofs.Common.{◌≡◌, ℕ, ◌*◌, Bool, ◌||◌, List, [], ◌∷◌, ◌++◌, map, sym, refl, ap, ap₂, ◌∙◌, subst, inl, inr, ⊎_elim, arith}
 use Rattle.std.specs.List.{filter}
-use Rattle.cp_lists.specs.Crossings.{Crosses}
 use Rattle.cp_lists.specs.CyclicLists.{Distinct, Has, Lacks}
 use Rattle.cp_lists.specs.Turns.{IsTurn}
 use Rattle.cp_lists.proofs.Crossings.{parts_of_Crosses}
-use Rattle.cp_lists.proofs.DistinctLists.{Distinct-append, Distinct-append_left, Distinct-append_right, Distinct-apart, Has-append_cases, Has-append_left, Has-append_right, Lacks-append_left, has_lacks}
-use Rattle.cp_lists.proofs.FilteredLists.{Has-filter, filter-Distinct, filter-Has, filter_agree, filter_all}
+use Rattle.cp_lists.proofs.DistinctLists.{Distinct-append_right, Distinct-apart, Has-append_right, Lacks-append_left, has_lacks}
+use Rattle.cp_lists.proofs.FilteredLists.{Has-filter, filter-Has, filter_agree, filter_all}
 use Rattle.cp_lists.proofs.TurnedLists.{Has-of_turn, turn-Has, turn-map, turn-reverse, turn-sym, turn-trans, turn_reverse_head, turn_to_item}
 use Rattle.cp_faces.specs.Twins.{twin}
 use Rattle.cp_faces.proofs.Twins.{twin-twin}
-use Rattle.cp_maps.specs.Genus.{CanBeFlat, IsFlat}
+use Rattle.cp_maps.specs.Genus.{CanBeFlat}
 use Rattle.cp_maps.specs.Maps.{IsMapOf, has}
 use Rattle.cp_maps.specs.Mirrors.{mirror}
 use Rattle.cp_maps.proofs.CrossedVertices.{flat-no_crossing}
@@ -20,7 +19,6 @@ use Rattle.cp_maps.proofs.KeptDarts.{kept_darts-CanBeFlat}
 use Rattle.cp_maps.proofs.ListFacts.{has_no, has_true, has_yes}
 use Rattle.cp_maps.proofs.MapLists.{IsMapOf-swap, IsMapOf-turn}
 use Rattle.cp_mergelaw.specs.Sides.{IsMirrorIn, Uncrossed, leads_to}
-use Rattle.cp_mergelaw.proofs.UncrossedLists.{filter_none}
 
 -- the mirror of a turn is a turn of the mirror
 turn-mirror : (xs ys : List ℕ) → IsTurn xs ys → IsTurn (mirror xs) (mirror ys)

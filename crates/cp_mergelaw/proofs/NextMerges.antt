@@ -208,8 +208,7 @@ module _ (e : ℕ) (f : ℕ → ℕ) (r b : ℕ) (rs bs : List ℕ) (more others
   -- where each vertex of the other side leads to the first alone or not to it, the first two are of two components
   pub even-two_parts : Evenly (leads_to first) others → OnePart e f r b → ⊥
   even-two_parts even =
-      Evenly-two_parts e f (first ∷ (side ++ others)) p r b is
-      (
+      Evenly-two_parts e f (first ∷ (side ++ others)) p r b is (
         (λ c d hc hd. on_first c hc ∙ sym (on_first d hd)),
         Evenly-append p side others (Evenly-same p false side on_side)
             (Evenly-agree (leads_to first) p others

@@ -1,5 +1,5 @@
 -- Lists that do not stand crosswise in a whole list, which keeps their orders.
-use Rattle.std.proofs.Common.{◌≡◌, ℕ, Bool, true, false, List, [], ◌∷◌, ◌++◌, ◌⊎◌, append-nil, sym, refl, ap, ap₂, ◌∙◌, subst, inl, inr, ⊎_elim, drop, cond, eqb, arith}
+use Rattle.std.proofs.Common.{◌≡◌, ℕ, Bool, true, false, List, [], ◌∷◌, ◌++◌, append-nil, sym, refl, ap, ap₂, ◌∙◌, subst, inl, inr, ⊎_elim, drop, cond, eqb, arith}
 use Rattle.std.proofs.lemmas.Bool.{cond-false, cond-true, false≢true, cases_Bool, eq-eqb}
 use Rattle.std.specs.List.{filter}
 use Rattle.std.proofs.lemmas.List.Elements.{filter-append}

@@ -5,7 +5,6 @@ use Rattle.cp_lists.specs.CyclicLists.{Has}
 use Rattle.cp_lists.specs.Rows.{flat}
 use Rattle.cp_lists.specs.Turns.{IsTurn}
 use Rattle.cp_faces.specs.Twins.{twin}
-use Rattle.cp_maps.specs.Genus.{CanBeFlat}
 use Rattle.cp_maps.specs.Gluings.{Grows}
 use Rattle.cp_maps.specs.Maps.{SameRings}
 

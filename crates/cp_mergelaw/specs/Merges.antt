@@ -1,5 +1,5 @@
 -- One merge of two vertices of a side.
-use Rattle.std.specs.Prelude.{◌≡◌, ℕ, ◌⊎◌, List, [], ◌∷◌, ◌++◌, ◌*◌, Bool, true, false}
+use Rattle.std.specs.Prelude.{◌≡◌, ℕ, ◌⊎◌, List, ◌∷◌, ◌++◌, Bool, true, false}
 use Rattle.cp_lists.specs.Turns.{IsTurn}
 use Rattle.cp_maps.specs.Genus.{Becomes}
 

@@ -1,5 +1,5 @@
 -- The vertices of one side of a bipartite map made one vertex: what its list keeps of theirs.
-use Rattle.std.specs.Prelude.{◌≡◌, ℕ, List, [], ◌∷◌, ◌++◌, Bool}
+use Rattle.std.specs.Prelude.{ℕ, List, [], ◌∷◌, Bool, cond, suc}
 use Rattle.std.specs.List.{filter}
 use Rattle.cp_lists.specs.Crossings.{Crosses}
 use Rattle.cp_lists.specs.CyclicLists.{Has}
@@ -50,6 +50,11 @@ Uncrossed test whole xs ys = Crosses (test xs) (test ys) whole → ⊥
 abbrev pub AllUncrossed : (List ℕ → ℕ → Bool) → List ℕ → List (List ℕ) → Type 0
 AllUncrossed test whole [] = Unit {0}
 AllUncrossed test whole (xs ∷ rows) = EachList (Uncrossed test whole xs) rows × AllUncrossed test whole rows
+
+-- the place of the first list whose test the item passes, and the number of lists where it passes none
+abbrev pub class_by : (List ℕ → ℕ → Bool) → List (List ℕ) → ℕ → ℕ
+class_by test [] d = 0
+class_by test (xs ∷ rows) d = cond (test xs d) 0 (suc (class_by test rows d))
 
 -- the whole list is put together of the lists: it keeps the order of each, and no two of them cross in it
 pub record IsMergeOf (whole : List ℕ) (rows : List (List ℕ)) : Type 0 where
