@@ -6,8 +6,9 @@ use Rattle.cp_lists.specs.CyclicLists.{Distinct, Has, Lacks}
 use Rattle.cp_lists.specs.Rows.{flat}
 use Rattle.cp_lists.specs.Turns.{IsTurn}
 use Rattle.cp_lists.proofs.DistinctLists.{Distinct-apart, Distinct-append_left, Distinct-append_right, Has-append_left, Has-append_right, Lacks-append_left, Lacks-append_right, Lacks-from, has_lacks}
-use Rattle.cp_lists.proofs.FilteredLists.{filter_agree, filter_all}
+use Rattle.cp_lists.proofs.FilteredLists.{filter-Has, filter_agree, filter_all}
 use Rattle.cp_lists.proofs.FlatLists.{flat-append}
+use Rattle.cp_lists.proofs.TurnedLists.{Has-of_turn}
 use Rattle.cp_faces.specs.Twins.{twin}
 use Rattle.cp_faces.proofs.Twins.{twin-twin}
 use Rattle.cp_maps.specs.Genus.{Becomes, CanBeFlat, IsFlat}
@@ -20,7 +21,7 @@ use Rattle.cp_maps.proofs.Genus.{SameGenus-IsFlat}
 use Rattle.cp_maps.proofs.KeptDarts.{kept_darts-CanBeFlat}
 use Rattle.cp_maps.proofs.ListFacts.{has_no, has_yes}
 use Rattle.cp_maps.proofs.MapLists.{IsMapOf-exchanged, IsMapOf-third, IsMapOf-turn}
-use Rattle.cp_mergelaw.specs.Branches.{AreLinked, Branch, IsBranchOf, closed_lists}
+use Rattle.cp_mergelaw.specs.Branches.{AreLinked, AreOfOneEdge, Branch, IsBranchOf, closed_lists}
 
 -- lists whose items all pass a test stay
 filter_all-rows : (p : ℕ → Bool) (rows : List (List ℕ)) → ((d : ℕ) → Has d (flat rows) → p d ≡ true)
@@ -167,6 +168,10 @@ closed_branch-CanBeFlat e f us vs rows b is z branch = ⊎_elim by_part by_edge 
     closed : List ℕ
     closed = b.tail ++ b.head ∷ []
 
+    at_other : Has branch.q vs
+    at_other = (filter-Has branch.keep branch.q vs
+        (Has-of_turn (filter branch.keep vs) (branch.q ∷ b.tail) branch.q branch.order (inl refl))).0
+
     by_part : AreLinked e us vs rows b.inner branch.y branch.q → CanBeFlat e (closed_lists b)
     by_part l =
         let y : ℕ = branch.y in
@@ -176,14 +181,13 @@ closed_branch-CanBeFlat e f us vs rows b is z branch = ⊎_elim by_part by_edge 
         (poles_left-CanBeFlat e branch.keep us vs b.tail b.head y q ((twin y ∷ twin q ∷ []) ∷ (b.inner ++ l.others))
         branch.at_one branch.other branch.two branch.order
         (linked-CanBeFlat e f us vs l.first l.link (b.inner ++ l.others) y q (l.beside f is) z l.grows branch.other
-        branch.at_other l.into l.out)))
+        at_other l.into l.out)))
 
-    by_edge : (branch.q ≡ twin branch.y)
-        × ((others : List (List ℕ)) × ((g : ℕ → ℕ) → IsMapOf (2 * e) g (us ∷ vs ∷ rows)
-        → IsMapOf (2 * e) g (us ∷ vs ∷ (b.inner ++ others)))) → CanBeFlat e (closed_lists b)
+    by_edge : AreOfOneEdge e us vs rows b.inner branch.y branch.q → CanBeFlat e (closed_lists b)
     by_edge w =
-        first_lists-CanBeFlat e (closed ∷ b.inner) w.1.0
-        (closed_edge-CanBeFlat e b.tail b.head branch.y (b.inner ++ w.1.0)
-        (subst (λ d. CanBeFlat e ((branch.y ∷ b.head ∷ []) ∷ (d ∷ b.tail) ∷ (b.inner ++ w.1.0))) w.0
-        (poles_left-CanBeFlat e branch.keep us vs b.tail b.head branch.y branch.q (b.inner ++ w.1.0) branch.at_one
-        branch.other branch.two branch.order (f, w.1.1 f is, z))))
+        let lists : List (List ℕ) = b.inner ++ w.others in
+        first_lists-CanBeFlat e (closed ∷ b.inner) w.others
+        (closed_edge-CanBeFlat e b.tail b.head branch.y lists
+        (subst (λ d. CanBeFlat e ((branch.y ∷ b.head ∷ []) ∷ (d ∷ b.tail) ∷ lists)) w.twins
+        (poles_left-CanBeFlat e branch.keep us vs b.tail b.head branch.y branch.q lists branch.at_one branch.other
+        branch.two branch.order (f, w.beside f is, z))))

@@ -156,7 +156,8 @@ joined_poles-CanBeFlat e zs rows (b ∷ bs) dis closed each rest =
     branch_added-CanBeFlat e (λ d. has d darts) b (heads bs) (tails zs bs) (inners rows bs)
     (branch_test-twins b closed.0) (λ d h. has_yes d darts h)
     (λ d h. has_no d darts (Lacks-from d darts (λ k.
-    has_lacks d (all_darts zs rows bs) (joined_dart d zs rows bs h) (Distinct-apart d darts (all_darts zs rows bs) dis k))))
+    has_lacks d (all_darts zs rows bs) (joined_dart d zs rows bs h)
+    (Distinct-apart d darts (all_darts zs rows bs) dis k))))
     each.0
     (joined_poles-CanBeFlat e zs rows bs (Distinct-append_right darts (all_darts zs rows bs) dis) closed.1 each.1 rest)
 
@@ -165,7 +166,8 @@ pub joined_branches-CanBeFlat : (e : ℕ) (zs : List ℕ) (rows : List (List ℕ
     → Distinct (all_darts zs rows bs) → EachBranch HasTwins bs → EachBranch (λ b. CanBeFlat e (closed_lists b)) bs
     → CanBeFlat e (zs ∷ rows) → CanBeFlat e (heads bs ∷ tails zs bs ∷ inners rows bs)
 joined_branches-CanBeFlat e zs rows bs dis closed each rest =
-    parted-CanBeFlat e (heads bs) (tails zs bs) (inners rows bs) (joined_poles-CanBeFlat e zs rows bs dis closed each rest)
+    parted-CanBeFlat e (heads bs) (tails zs bs) (inners rows bs)
+    (joined_poles-CanBeFlat e zs rows bs dis closed each rest)
 
 -- the branches of two poles of a flat map, each closed
 closed_branches-CanBeFlat : (e : ℕ) (f : ℕ → ℕ) (us vs : List ℕ) (rows : List (List ℕ)) (bs : List Branch)
@@ -177,8 +179,8 @@ closed_branches-CanBeFlat e f us vs rows (b ∷ bs) is z each = (
   closed_branches-CanBeFlat e f us vs rows bs is z each.1,
 )
 
--- the branches between two poles of a flat map can be put in any order: the one pole then has their darts in this order,
--- and the other the darts of each in a run, in the reverse order
+-- the branches between two poles of a flat map can be put in any order: the one pole then has their darts in this
+-- order, and the other the darts of each in a run, in the reverse order
 pub permuted_branches-CanBeFlat : (e : ℕ) (f : ℕ → ℕ) (us vs zs : List ℕ) (rows others : List (List ℕ))
     (bs : List Branch) → IsMapOf (2 * e) f (us ∷ vs ∷ rows) → IsFlat e f → EachBranch (IsBranchOf e us vs rows) bs
     → EachBranch HasTwins bs → Distinct (all_darts zs others bs) → CanBeFlat e (zs ∷ others)

@@ -5,6 +5,7 @@ pub mod NextMerges
 mod MirroredLists
 pub mod MergedSides
 pub mod ListClasses
+pub mod MergedCopies
 mod ClosedBranches
 pub mod LinkedPoles
 pub mod JoinedBranches

@@ -30,7 +30,7 @@ AllUncrossed-at test whole (xs ∷ rows) (suc i) (suc j) less lt apart =
     AllUncrossed-at test whole rows i j (omega arith) (omega arith) apart.1
 
 -- an item passes the test of the list at the place of its class
-class_by-passes : (test : List ℕ → ℕ → Bool) (rows : List (List ℕ)) (d : ℕ) → class_by test rows d < length rows
+pub class_by-passes : (test : List ℕ → ℕ → Bool) (rows : List (List ℕ)) (d : ℕ) → class_by test rows d < length rows
     → test (get_or rows (class_by test rows d) []) d ≡ true
 class_by-passes test [] d lt = absurd (omega arith)
 class_by-passes test (xs ∷ rows) d lt = ⊎_elim

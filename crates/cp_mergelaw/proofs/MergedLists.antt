@@ -34,7 +34,8 @@ EachList-whole whole mid (xs ∷ rows) r each =
 
 -- lists that a part keeps uncrossed are not crossed in the whole
 Uncrossed-whole_each : (whole mid xs : List ℕ) (rows : List (List ℕ)) → RestrictsTo whole mid → RestrictsTo mid xs
-    → EachList (RestrictsTo mid) rows → EachList (Uncrossed is_of mid xs) rows → EachList (Uncrossed is_of whole xs) rows
+    → EachList (RestrictsTo mid) rows → EachList (Uncrossed is_of mid xs) rows
+    → EachList (Uncrossed is_of whole xs) rows
 Uncrossed-whole_each whole mid xs [] r one each apart = tt
 Uncrossed-whole_each whole mid xs (ys ∷ rows) r one each apart = (
   Uncrossed-whole whole mid xs ys r one each.0 apart.0,
@@ -42,8 +43,8 @@ Uncrossed-whole_each whole mid xs (ys ∷ rows) r one each apart = (
 )
 
 -- no two of them
-AllUncrossed-whole : (whole mid : List ℕ) (rows : List (List ℕ)) → RestrictsTo whole mid → EachList (RestrictsTo mid) rows
-    → AllUncrossed is_of mid rows → AllUncrossed is_of whole rows
+AllUncrossed-whole : (whole mid : List ℕ) (rows : List (List ℕ)) → RestrictsTo whole mid
+    → EachList (RestrictsTo mid) rows → AllUncrossed is_of mid rows → AllUncrossed is_of whole rows
 AllUncrossed-whole whole mid [] r each apart = tt
 AllUncrossed-whole whole mid (xs ∷ rows) r each apart = (
   Uncrossed-whole_each whole mid xs rows r each.0 each.1 apart.0,

@@ -204,8 +204,8 @@ IsMergeOf-IsMergedSide e side others whole can merge back = record {
   others_uncrossed = others-AllUncrossed e whole [] others can;
 }
 
--- the vertices of one side of a map can be made one vertex, without a change of the genus, whose list is put together of
--- theirs
+-- the vertices of one side of a map can be made one vertex, without a change of the genus, whose list is put together
+-- of theirs
 pub merged_side-Becomes : (e : ℕ) (f : ℕ → ℕ) (first : List ℕ) (side others : List (List ℕ))
     → IsMapOf (2 * e) f (first ∷ (side ++ others)) → NoneBare (first ∷ side) → AreSides (first ∷ side) others
     → (whole : List ℕ) × Becomes e f (whole ∷ others) × IsMergeOf whole (first ∷ side)

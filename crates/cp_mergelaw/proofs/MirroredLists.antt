@@ -25,8 +25,8 @@ turn-mirror : (xs ys : List ℕ) → IsTurn xs ys → IsTurn (mirror xs) (mirror
 turn-mirror xs ys turn = turn-reverse (map twin xs) (map twin ys) (turn-map twin xs ys turn)
 
 -- two vertices alone with their edges in a flat map: the one is, up to a turn, the mirror of the other
-pub dipole-IsTurn_mirror : (e : ℕ) (xs ys : List ℕ) → CanBeFlat e (xs ∷ ys ∷ []) → ((d : ℕ) → Has d xs → Has (twin d) ys)
-    → ((d : ℕ) → Has d ys → Has (twin d) xs) → IsTurn ys (mirror xs)
+pub dipole-IsTurn_mirror : (e : ℕ) (xs ys : List ℕ) → CanBeFlat e (xs ∷ ys ∷ [])
+    → ((d : ℕ) → Has d xs → Has (twin d) ys) → ((d : ℕ) → Has d ys → Has (twin d) xs) → IsTurn ys (mirror xs)
 dipole-IsTurn_mirror e [] [] can there back = (0, omega arith, refl)
 dipole-IsTurn_mirror e [] (y ∷ ys) can there back = absurd (back y (inl refl))
 dipole-IsTurn_mirror e (x ∷ xs) ys can there back =

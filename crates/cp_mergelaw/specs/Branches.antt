@@ -47,8 +47,7 @@ EachBranch good (b ∷ bs) = good b × EachBranch good bs
 abbrev pub HasTwins : Branch → Type 0
 HasTwins b = (d : ℕ) → Has d (flat (closed_lists b)) → Has (twin d) (flat (closed_lists b))
 
--- the two darts y at the one pole and q at the other are those of one edge, or lead into one connected part of the rows
--- beside the branch
+-- the two darts y at the one pole and q at the other lead into one connected part of the rows beside the branch
 pub record AreLinked (e : ℕ) (us vs : List ℕ) (rows inner : List (List ℕ)) (y q : ℕ) : Type 0 where
   pub first : List ℕ
   pub link : List (List ℕ)
@@ -58,8 +57,14 @@ pub record AreLinked (e : ℕ) (us vs : List ℕ) (rows inner : List (List ℕ))
   pub into : Has (twin y) (first ++ flat link)
   pub out : Has (twin q) (first ++ flat link)
 
--- the branch is one of the lists us and vs of the poles and the rows: beside it another dart y leads from the one pole to
--- the dart q of the other, from which on this pole has the darts of the branch in the order of its tail
+-- the darts y and q at the poles are those of one edge, beside the branch
+pub record AreOfOneEdge (e : ℕ) (us vs : List ℕ) (rows inner : List (List ℕ)) (y q : ℕ) : Type 0 where
+  pub others : List (List ℕ)
+  pub beside : SameRings (2 * e) (us ∷ vs ∷ rows) (us ∷ vs ∷ (inner ++ others))
+  pub twins : q ≡ twin y
+
+-- the branch is one between the poles us and vs among the rows: beside it another dart y leads from the one pole to the
+-- dart q of the other, from which on this pole has the darts of the branch in the order of its tail
 pub record IsBranchOf (e : ℕ) (us vs : List ℕ) (rows : List (List ℕ)) (b : Branch) : Type 0 where
   pub y : ℕ
   pub q : ℕ
@@ -67,7 +72,5 @@ pub record IsBranchOf (e : ℕ) (us vs : List ℕ) (rows : List (List ℕ)) (b :
   pub at_one : Has b.head us
   pub other : Has y us
   pub two : y ≢ b.head
-  pub at_other : Has q vs
   pub order : IsTurn (filter keep vs) (q ∷ b.tail)
-  pub linked : AreLinked e us vs rows b.inner y q
-      ⊎ ((q ≡ twin y) × ((others : List (List ℕ)) × SameRings (2 * e) (us ∷ vs ∷ rows) (us ∷ vs ∷ (b.inner ++ others))))
+  pub linked : AreLinked e us vs rows b.inner y q ⊎ AreOfOneEdge e us vs rows b.inner y q
