@@ -1,5 +1,5 @@
 -- One branch between two poles of a flat map, with its poles made one vertex along the rest.
-use Rattle.std.proofs.Common.{◌≡◌, ◌≢◌, ℕ, ◌*◌, Bool, true, false, ◌||◌, not, List, [], ◌∷◌, ◌++◌, map, append_assoc, sym, refl, ap, ap₂, ◌∙◌, subst, ⊎_elim}
+use Rattle.std.proofs.Common.{◌≡◌, ◌≢◌, ℕ, ◌*◌, Bool, true, false, ◌||◌, not, List, [], ◌∷◌, ◌++◌, map, append_assoc, sym, refl, ap, ap₂, ◌∙◌, subst, inl, ⊎_elim}
 use Rattle.std.proofs.lemmas.Bool.{cases_Bool}
 use Rattle.std.specs.List.{filter}
 use Rattle.cp_lists.specs.CyclicLists.{Distinct, Has, Lacks}

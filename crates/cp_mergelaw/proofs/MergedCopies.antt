@@ -1,7 +1,7 @@
 -- Vertices of different components made one vertex, whose list keeps the order of each without a crossing.
-use Rattle.std.proofs.Common.{◌≡◌, ℕ, ◌<◌, ◌*◌, zero, suc, Bool, true, false, List, [], ◌∷◌, ◌++◌, length, get_or, refl, sym, ap, ◌∙◌, subst, inl, inr, ⊎_elim, arith}
+use Rattle.std.proofs.Common.{◌≡◌, ℕ, ◌<◌, ◌*◌, zero, suc, true, false, List, [], ◌∷◌, ◌++◌, length, get_or, refl, sym, ap, ◌∙◌, subst, inl, inr, ⊎_elim, arith}
 use Rattle.std.proofs.lemmas.Bool.{cases_Bool, cond-false, cond-true, false≢true}
-use Rattle.cp_lists.specs.Crossings.{InOrder, NoCross}
+use Rattle.cp_lists.specs.Crossings.{NoCross}
 use Rattle.cp_lists.specs.CyclicLists.{Distinct, Has}
 use Rattle.cp_lists.specs.Rows.{flat}
 use Rattle.cp_lists.proofs.DistinctLists.{Distinct-append, Distinct-append_right, Distinct-apart, Has-append_cases, Has-append_left, Has-append_right}
@@ -11,7 +11,7 @@ use Rattle.cp_lists.proofs.TurnedLists.{turn-sym}
 use Rattle.std.specs.List.{filter}
 use Rattle.cp_orbits.specs.Classes.{labels}
 use Rattle.cp_maps.specs.Genus.{AllApart, Becomes, OnePart, linked}
-use Rattle.cp_maps.specs.Gluings.{AreCopiesOf, EachTurnOf}
+use Rattle.cp_maps.specs.Gluings.{EachTurnOf}
 use Rattle.cp_maps.specs.Maps.{IsMapOf, Ring, Rings, has, next_by}
 use Rattle.cp_maps.proofs.AssembledVertices.{uncrossed_copies-SameGenus}
 use Rattle.cp_maps.proofs.ListFacts.{below_item, has_true, has_yes}
@@ -55,7 +55,8 @@ OnePart-class e g (xs ∷ rows) c d apart hc hd one = ⊎_elim
     behind y u = cond-false (has y xs) 0 (suc (class_by is_of rows y)) u
 
     later : (y : ℕ) → has y xs ≡ false → Has y (xs ++ flat rows) → Has y (flat rows)
-    later y u h = ⊎_elim (λ k. absurd (false≢true (sym u ∙ has_yes y xs k))) (λ k. k) (Has-append_cases y xs (flat rows) h)
+    later y u h =
+        ⊎_elim (λ k. absurd (false≢true (sym u ∙ has_yes y xs k))) (λ k. k) (Has-append_cases y xs (flat rows) h)
 
 -- vertices of different components, and a list that is put together of theirs
 module _ (e : ℕ) (g : ℕ → ℕ) (whole : List ℕ) (copies rows : List (List ℕ)) (is : IsMapOf (2 * e) g (copies ++ rows))
