@@ -6,7 +6,7 @@ use Rattle.cp_lists.specs.Turns.{IsTurn}
 use Rattle.cp_lists.proofs.Crossings.{parts_of_Crosses}
 use Rattle.cp_lists.proofs.DistinctLists.{Distinct-append_right, Distinct-apart, Has-append_right, Lacks-append_left, has_lacks}
 use Rattle.cp_lists.proofs.FilteredLists.{Has-filter, filter-Has, filter_agree, filter_all}
-use Rattle.cp_lists.proofs.TurnedLists.{Has-of_turn, turn-Has, turn-map, turn-reverse, turn-sym, turn-trans, turn_reverse_head, turn_to_item}
+use Rattle.cp_lists.proofs.TurnedLists.{Has-of_turn, turn-Has, turn-sym, turn-trans, turn_reverse_head, turn_to_item}
 use Rattle.cp_faces.specs.Twins.{twin}
 use Rattle.cp_faces.proofs.Twins.{twin-twin}
 use Rattle.cp_maps.specs.Genus.{CanBeFlat}
@@ -19,10 +19,6 @@ use Rattle.cp_maps.proofs.KeptDarts.{kept_darts-CanBeFlat}
 use Rattle.cp_maps.proofs.ListFacts.{has_no, has_true, has_yes}
 use Rattle.cp_maps.proofs.MapLists.{IsMapOf-swap, IsMapOf-turn}
 use Rattle.cp_mergelaw.specs.Sides.{IsMirrorIn, Uncrossed, leads_to}
-
--- the mirror of a turn is a turn of the mirror
-turn-mirror : (xs ys : List ℕ) → IsTurn xs ys → IsTurn (mirror xs) (mirror ys)
-turn-mirror xs ys turn = turn-reverse (map twin xs) (map twin ys) (turn-map twin xs ys turn)
 
 -- two vertices alone with their edges in a flat map: the one is, up to a turn, the mirror of the other
 pub dipole-IsTurn_mirror : (e : ℕ) (xs ys : List ℕ) → CanBeFlat e (xs ∷ ys ∷ [])

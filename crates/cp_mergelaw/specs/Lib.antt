@@ -1,4 +1,3 @@
 pub mod Sides
-pub mod Branches
--- what lemmas inside the crate promise each other
 pub mod Merges
+pub mod Branches
