@@ -50,7 +50,7 @@ module _ (e : ℕ) (f : ℕ → ℕ) (x y b : ℕ) (xs ys zs : List ℕ) (rows :
 
 -- two lists begun with the twins of x and y, where y follows x in a third: the one, and then the other from behind its
 -- first dart on
-twins_merged-Becomes : (e : ℕ) (f : ℕ → ℕ) (x y : ℕ) (xs ys zs : List ℕ) (rows : List (List ℕ))
+pub twins_merged-Becomes : (e : ℕ) (f : ℕ → ℕ) (x y : ℕ) (xs ys zs : List ℕ) (rows : List (List ℕ))
     → IsMapOf (2 * e) f ((twin x ∷ xs) ∷ (twin y ∷ ys) ∷ (x ∷ y ∷ zs) ∷ rows)
     → Becomes e f ((twin x ∷ (xs ++ (ys ++ twin y ∷ []))) ∷ (x ∷ y ∷ zs) ∷ rows)
 twins_merged-Becomes e f x y xs [] zs rows is =
