@@ -1,2 +1,9 @@
 mod Places
+mod VertexTables
+mod Greatest
 mod NamedRows
+mod Passes
+mod EqualOrders
+mod RuleTables
+mod PipeTables
+mod KeptRules

@@ -1,9 +1,10 @@
 -- Places of items in the order of their names.
-use Rattle.std.proofs.Common.{◌≡◌, ℕ, zero, suc, ◌+◌, ◌<◌, ◌≤◌, List, length, map, slice_index, slice_index_or, sym, ap, ◌∙◌, subst, ⊎_elim, arith}
+use Rattle.std.proofs.Common.{◌≡◌, ◌≢◌, ℕ, zero, suc, ◌+◌, ◌<◌, ◌≤◌, eqb, List, [], ◌∷◌, length, map, find, None, Some, slice_index, slice_index_or, sym, refl, ap, ◌∙◌, subst, ⊎_elim, arith}
 use Rattle.std.specs.List.{Contains}
 use Rattle.std.specs.List.Sorted.{IsStrictlyIncreasing}
-use Rattle.std.proofs.lemmas.Bool.{cases_lt}
-use Rattle.std.proofs.lemmas.List.{get_or_default, get_or-map}
+use Rattle.std.proofs.lemmas.Bool.{cases_lt, cond-false, ne_eqb}
+use Rattle.std.proofs.lemmas.List.{get_or_default, get_or-map, length-map}
+use Rattle.cp_board.proofs.NamedLists.{rises_from, found_at}
 use Rattle.cp_sync.specs.Places.{IsLowerPlace}
 
 -- rising numbers rise over any distance
@@ -53,3 +54,58 @@ live_place names n k up c low =
     absurd (omega (arith, less, more, at)))
     (λ (g : c.0 ≤ k). let same : k ≡ c.0 = omega arith in (omega (arith, c.1, same), rw same at))
     (cases_lt k c.0)
+
+-- two places of one name are one
+pub same_place : (names : List ℕ) → IsStrictlyIncreasing names → (j k : ℕ) → j < length names → k < length names
+    → slice_index names j ≡ slice_index names k
+    → j ≡ k
+same_place names up j k lj lk e =
+    ⊎_elim
+    (λ (l : j < k). absurd (omega (arith, rising_apart names up j k l lk, e)))
+    (λ (g : k ≤ j).
+    ⊎_elim
+    (λ (l : k < j). absurd (omega (arith, rising_apart names up k j l lj, e)))
+    (λ (h : j ≤ k). omega arith)
+    (cases_lt k j))
+    (cases_lt j k)
+
+-- the item at the place is found under its name
+pub found_place : {A : Type 0} (name : A → ℕ) (n : ℕ) (xs : List A) (k : ℕ) (x : A) → IsStrictlyIncreasing (map name xs)
+    → k < length xs → x ≡ slice_index_or xs k x → name x ≡ n
+    → find (λ y. eqb (name y) n) xs ≡ Some x
+found_place name n xs k x up lt is e =
+    subst (λ m. find (λ y. eqb (name y) m) xs ≡ Some x) (ap name (sym is) ∙ e)
+    (found_at name xs k x (rises_from (map name xs) up) lt ∙ ap Some (sym is))
+
+-- nothing is found under a name that no item has
+pub find-missing : {A : Type 0} (name : A → ℕ) (n : ℕ) (xs : List A)
+    → ((j : ℕ) → j < length xs → slice_index (map name xs) j ≢ n)
+    → find (λ x. eqb (name x) n) xs ≡ None
+find-missing name n [] none = refl
+find-missing name n (x ∷ xs) none =
+    cond-false (eqb (name x) n) (Some x) (find (λ y. eqb (name y) n) xs) (ne_eqb (name x) n (none 0 (omega arith)))
+    ∙ find-missing name n xs (λ j lt. none (suc j) (omega arith))
+
+-- where all names are less, nothing is found
+pub find-behind_all : {A : Type 0} (name : A → ℕ) (n : ℕ) (xs : List A) (k : ℕ) → IsLowerPlace (map name xs) n k
+    → k ≡ length xs
+    → find (λ x. eqb (name x) n) xs ≡ None
+find-behind_all name n xs k low end =
+    find-missing name n xs (λ j lt e. omega (arith, low.before j (omega arith), e))
+
+-- where the first name that is not less is greater, nothing is found
+pub find-passed : {A : Type 0} (name : A → ℕ) (n : ℕ) (xs : List A) (k : ℕ) (x : A) → IsStrictlyIncreasing (map name xs)
+    → IsLowerPlace (map name xs) n k → k < length xs → x ≡ slice_index_or xs k x → name x ≢ n
+    → find (λ y. eqb (name y) n) xs ≡ None
+find-passed name n xs k x up low lt is ne = find-missing name n xs (λ j lj e.
+    ⊎_elim
+    (λ (l : j < k). omega (arith, low.before j l, e))
+    (λ (g : k ≤ j).
+    ⊎_elim
+    (λ (l : k < j).
+    let less = rising_apart (map name xs) up k j l (omega (arith, length-map xs name)) in
+    let more = low.behind k (omega arith) (omega (arith, length-map xs name)) in
+    omega (arith, less, more, e))
+    (λ (h : j ≤ k). let same : j ≡ k = omega arith in ne (sym (name_at name xs k x lt is) ∙ ap (slice_index (map name xs)) (sym same) ∙ e))
+    (cases_lt k j))
+    (cases_lt j k))

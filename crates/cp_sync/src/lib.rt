@@ -1,11 +1,20 @@
-//! What reductions need of an instance of synchronized planarity (Bläsius, Fink, Rutter 2021) as the trait `Board`,
-//! and solutions.
+//! Instances of synchronized planarity (Bläsius, Fink, Rutter 2021) as stored values, the trait `Board` of what
+//! reductions need of an instance, and solutions.
 #![tactic(auto)]
 
 mod board;
+mod checked;
+mod ends;
+mod fault;
+mod instance;
+mod lists;
 mod named;
+mod names;
 mod outcome;
+mod pairs;
+mod piping;
 mod solution;
+mod tables;
 
 pub use board::Board;
 pub use cp_base::{Branch, Branches, Shape};
@@ -13,6 +22,8 @@ pub use cp_board::{
     EdgeMove, EdgeRow, EdgeRows, Kind, Moves, NameKind, Names, Pairs, Pipe, Pipes, Reason, Rewrite,
     Step, StepList, Vert, Verts,
 };
+pub use fault::PartsFault;
+pub use instance::Instance;
 pub use outcome::Outcome;
 pub use solution::Solution;
 

@@ -1,7 +1,9 @@
 // Items in the order of their names, found by binary search.
-ghost use Rattle.std.specs.Prelude.{◌≡◌, ℕ, map};
+ghost use Rattle.std.specs.Prelude.{◌≡◌, ℕ, eqb, map, find, Some, None, MatchOption};
 ghost use Rattle.std.specs.List.Sorted.{IsStrictlyIncreasing};
 ghost use Rattle.cp_sync.specs.Places.{IsLowerPlace};
+
+use cp_board::{EdgeRow, Pipe, Vert};
 
 // What has a name.
 pub(crate) trait Named {
@@ -21,6 +23,30 @@ impl Named for usize {
     }
 }
 
+impl Named for Vert {
+    ghost name = { λ v. v.name };
+
+    fn name(&self) -> usize {
+        self.name
+    }
+}
+
+impl Named for EdgeRow {
+    ghost name = { λ e. e.name };
+
+    fn name(&self) -> usize {
+        self.name
+    }
+}
+
+impl Named for Pipe {
+    ghost name = { λ p. p.name };
+
+    fn name(&self) -> usize {
+        self.name
+    }
+}
+
 // The place of the first item whose name is not less than `name`. Logarithmic.
 pub(crate) fn lower_place<T: Named>(items: &[T], name: usize) -> usize
     requires { IsStrictlyIncreasing (map T.name items.now) }
@@ -37,4 +63,21 @@ pub(crate) fn lower_place<T: Named>(items: &[T], name: usize) -> usize
         }
     }
     low
+}
+
+// The item of this name, if there is one. Logarithmic.
+pub(crate) fn item_named<T: Named>(items: &[T], name: usize) -> Option<&T>
+    requires { IsStrictlyIncreasing (map T.name items.now) }
+    ensures { MatchOption result (find (λ x. eqb (T.name x) name) items.now ≡ None) (λ found. find (λ x. eqb (T.name x) name) items.now ≡ Some found.now) }
+{
+    let place = lower_place(items, name);
+    if place == items.len() {
+        return None;
+    }
+    let item = &items[place];
+    if item.name() == name {
+        Some(item)
+    } else {
+        None
+    }
 }

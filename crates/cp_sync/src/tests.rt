@@ -1,7 +1,33 @@
-// Solutions by their calls, where memory suffices.
-use crate::{Outcome, Reason, Solution};
+// Instances and solutions by their calls, where memory suffices.
+use crate::{
+    EdgeRow, EdgeRows, Instance, Kind, Outcome, PartsFault, Pipes, Reason, Solution, Vert, Verts,
+};
 use cp_base::CycList;
+use std::alloc::Global;
 use std::test::Fail;
+
+// One vertex, and an edge named 5 from it to itself.
+fn looped(alloc: Global) -> Result<Instance, PartsFault> {
+    let mut verts = Verts::new(alloc);
+    verts.push(Vert {
+        name: 0,
+        kind: Kind::P,
+    })?;
+    let mut edges = EdgeRows::new(alloc);
+    edges.push(EdgeRow {
+        name: 5,
+        a: 0,
+        b: 0,
+    })?;
+    Instance::from_parts(alloc, verts, edges, Pipes::new(alloc))
+}
+
+#[test]
+fn an_edge_with_one_end_is_refused(rt: HostRuntime) -> Result<(), Fail> {
+    let made = looped(rt.alloc());
+    assert!(rt; matches!(made, Err(PartsFault::Broken { rule: 2, name: 5 })));
+    Ok(())
+}
 
 #[test]
 fn lists_are_found_and_exchanged_by_name(rt: HostRuntime) -> Result<(), Fail> {
