@@ -1,12 +1,15 @@
-mod NodeLayers
+-- facts about readings, stars and permutations of leaves, for callers
+pub mod NodeLayers
+pub mod ReadingLaws
+pub mod PermutedLists
+pub mod Stars
+-- the proofs of this crate
 mod Permutations
 mod WordLaws
-mod ReadingLaws
 mod Mirrors
 mod Rows
 mod Lines
 mod Tops
-mod PermutedLists
 mod NodesIn
 mod FittingSides
 mod NodeTests
@@ -30,8 +33,8 @@ mod GivenBits
 mod NodeReadings
 mod Reductions
 mod LeafSets
-mod Stars
 mod ReducedTrees
 mod SetInTrees
 mod SearchedSets
 mod SmallStars
+mod Exchanges

@@ -188,6 +188,7 @@ module _ (set : List ℕ) (root vars : ℕ) (body : Node) (eqs : List Equation) 
           old_pair order (take vars bits) bits h.word (all_bits bits h.bits_count) h.order_is h.bits_count g.0 h.met g.1;
       shape = shape_of false vars [] (done vars) vars eqs;
       possible = possible_of false vars [] (done vars);
+      vars_kept = omega arith;
       root = refl;
       leaves_kept = same_leaves any_bound k;
       owners = owners_kept any_bound k;
@@ -224,6 +225,7 @@ module _ (set : List ℕ) (root vars : ℕ) (body : Node) (eqs : List Equation) 
             old_pair order (take vars bits) bits h.word (all_bits bits h.bits_count) h.order_is h.bits_count g.0 m.0 g.1;
         shape = shape_of true y ts d vars (eqs ++ tie_equations y ts);
         possible = possible_of true y ts d;
+        vars_kept = omega arith;
         root = refl;
         leaves_kept = same_leaves any_bound k;
         owners = owners_kept any_bound k;
@@ -268,6 +270,7 @@ module _ (set : List ℕ) (root vars : ℕ) (body : Node) (eqs : List Equation) 
             (append_met s.0 (s.1 ∷ []) eqs over_eqs (subst (λ z. AllByRecursion (IsMet z) eqs) s.2 m.0)) g.1;
         shape = shape_of false vars ts d (vars + 1) (eqs ++ tie_equations vars ts);
         possible = possible_of false vars ts d;
+        vars_kept = omega arith;
         root = refl;
         leaves_kept = same_leaves (λ n. vars < n) k;
         owners = owners_kept (λ n. vars < n) k;

@@ -39,7 +39,7 @@ star_leaves owner [] = leaves_P owner [] ∙ all_leaves_nil
 star_leaves owner (x ∷ []) = leaves_Leaf x
 star_leaves owner (x ∷ y ∷ xs) = leaves_P owner (map Leaf (x ∷ y ∷ xs)) ∙ leaves_row (x ∷ y ∷ xs)
 
-star_reads : (may : ℕ → Bool → Bool) (owner : ℕ) (xs word : List ℕ) → IsPermutation xs word
+pub star_reads : (may : ℕ → Bool → Bool) (owner : ℕ) (xs word : List ℕ) → IsPermutation xs word
     → Reads may (star_body owner xs) word
 star_reads may owner [] word h = any_order owner [] (map Leaf word) word (IsPermutation-map Leaf [] word h) (row_reads may word)
 star_reads may owner (x ∷ []) word h = subst (Reads may (Leaf x)) (sym (short_permutation (x ∷ []) word h (omega arith))) (leaf x)

@@ -1,5 +1,5 @@
 -- What the calls on order trees promise.
-use Rattle.std.specs.Prelude.{◌≡◌, ◌≢◌, ℕ, ◌⊎◌, ◌↔◌, Bool, true, false, Option, Some, None, length, List, [], ◌∷◌, ◌++◌, map, take, reverse}
+use Rattle.std.specs.Prelude.{◌≡◌, ◌≢◌, ◌≤◌, ℕ, ◌⊎◌, ◌↔◌, Bool, true, false, Option, Some, None, length, List, [], ◌∷◌, ◌++◌, map, take, reverse}
 use Rattle.std.specs.List.Sorted.{IsPermutation, IsStrictlyIncreasing}
 use Rattle.cp_lists.specs.CyclicLists.{Has, Lacks, Distinct}
 use Rattle.cp_pq.specs.declared.node.Node.{Node}
@@ -38,6 +38,7 @@ pub record IsReduced (set : List ℕ) (old new : PQTree) : Type 0 where
       → IsPair old order (take old.vars bits) × IsConsecutive set order
   pub shape : (order : List ℕ) → Admits new order ↔ (Admits old order × IsConsecutive set order)
   pub possible : (order : List ℕ) × Admits old order × IsConsecutive set order
+  pub vars_kept : old.vars ≤ new.vars
   pub root : new.root ≡ old.root
   pub leaves_kept : IsPermutation (leaves old.body) (leaves new.body)
   pub owners : KeepsOwners old.body new.body
@@ -61,6 +62,7 @@ pub record IsForced (row : List ℕ) (var : ℕ) (old new : PQTree) : Type 0 whe
       → IsPair old order (take old.vars bits) × HasRow (in_direction (bit_of bits var) row) order
   pub shape : (order : List ℕ) → Admits new order ↔ (Admits old order × (HasRow row order ⊎ HasRow (reverse row) order))
   pub possible : (order : List ℕ) × Admits old order × (HasRow row order ⊎ HasRow (reverse row) order)
+  pub vars_kept : old.vars ≤ new.vars
   pub root : new.root ≡ old.root
   pub leaves_kept : IsPermutation (leaves old.body) (leaves new.body)
   pub owners : KeepsOwners old.body new.body
