@@ -49,7 +49,7 @@ IsDistinct-rising xs up = IsDistinct-from_apart eqb xs (λ i j d lt len.
     ne_eqb (slice_index_or xs i d) (slice_index_or xs j d) (λ e. omega (arith, less, at_i, at_j, e)))
 
 -- equality of numbers is tested alike from both sides
-eqb_comm : (x y : ℕ) → eqb x y ≡ eqb y x
+pub eqb_comm : (x y : ℕ) → eqb x y ≡ eqb y x
 eqb_comm x y = ⊎_elim (λ e. eq-eqb x y e ∙ sym (eq-eqb y x (sym e))) (λ ne. ne_eqb x y ne ∙ sym (ne_eqb y x (λ h. ne (sym h)))) (cases_eq x y)
 
 -- a list that arranges rising numbers is equal to them when it is sorted

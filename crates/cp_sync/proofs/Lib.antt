@@ -7,3 +7,9 @@ mod EqualOrders
 mod RuleTables
 mod PipeTables
 mod KeptRules
+mod FreeNames
+mod NamedOrder
+mod Kept
+mod Moves
+mod RightPipes
+mod NumberedGraphs

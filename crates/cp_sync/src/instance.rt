@@ -1,16 +1,20 @@
 // A stored instance.
-ghost use Rattle.std.specs.Prelude.{◌≡◌, ℕ, ◌<◌, [], length, IsTrue, IfOk, IfErr, IfSome, IfNone, option_map};
-ghost use Rattle.std.specs.List.{Contains};
-ghost use Rattle.cp_board.specs.Instances.{IsSynchronized, vert_names, edge_names, pipe_names, edges_of, is_q, cell_at, psi_at, ends_of, pipe_at, pipe_ends_of, pairs_of};
-ghost use Rattle.cp_board.specs.Runs.{IsGreatestName};
+ghost use Rattle.std.specs.Prelude.{◌≡◌, ℕ, ◌<◌, length, IfOk, IfErr};
+ghost use Rattle.cp_board.specs.Instances.{IsSynchronized};
+ghost use Rattle.cp_board.specs.Rewrites.{names_of as live_names_of, rewritten, IsRewriteOf};
 ghost use Rattle.cp_sync.specs.Faults.{IsFaultOf, with_parts};
 ghost use Rattle.cp_sync.specs.Tables.{IsGreatestPlace};
 
-use crate::PartsFault;
 use crate::checked::tables;
+use crate::copies::{append_copies, copied_list};
+use crate::free::{cells_of, least_free, names_of};
 use crate::named::{item_named, lower_place};
+use crate::piping::piping;
+use crate::rewriting::{edges_after, pipes_after, verts_after};
+use crate::tables::adjacency;
+use crate::{Board, PartsFault};
 use cp_base::{CycList, Memory};
-use cp_board::{EdgeRow, EdgeRows, Kind, Names, Pipe, Pipes, Vert, Verts};
+use cp_board::{EdgeRows, Kind, NameKind, Names, Pipe, Pipes, Rewrite, Verts};
 use std::alloc::Global;
 use std::marker::Model;
 
@@ -51,15 +55,23 @@ fn greatest(pipes: &[Pipe]) -> usize
     best
 }
 
-// The same names in a list of their own. Linear.
-fn copied(alloc: Global, names: &[usize]) -> Result<Vec<usize>, Memory>
-    ensures { IfOk result (λ copy. copy.items ≡ names.now) }
+/// An equal instance, in memory of its own. Linear in the parts of the instance.
+pub fn first_instance_copy(alloc: Global, i: &Instance) -> Result<Instance, Memory>
+    ensures { IfOk result (λ copy. copy ≡ i.now) }
 {
-    let mut copy = Vec::new(alloc);
-    for name in names {
-        copy.push(*name)?;
-    }
-    Ok(copy)
+    let verts = copied_list(alloc, i.verts.items())?;
+    let edges = copied_list(alloc, i.edges.items())?;
+    let pipes = copied_list(alloc, i.pipes.items())?;
+    let mut at = Vec::new(alloc);
+    append_copies(alloc, i.at.as_slice(), &mut at)?;
+    let piped = Vec::from_slice(alloc, i.piped.as_slice())?;
+    Ok(Instance {
+        verts,
+        edges,
+        pipes,
+        at,
+        piped,
+    })
 }
 
 impl Instance {
@@ -85,47 +97,74 @@ impl Instance {
         })
     }
 
-    /// The names of the vertices, rising.
-    pub fn verts(&self, alloc: Global) -> Result<Vec<usize>, Memory>
-        ensures names { IfOk result (λ names. names.items ≡ vert_names self.now) }
-        ensures rules { IsSynchronized self.now }
+    // The instance of parts that are known to keep the rules: nothing is tested. Linear, up to a logarithm.
+    fn from_right_parts(
+        alloc: Global,
+        verts: Verts,
+        edges: EdgeRows,
+        pipes: Pipes,
+    ) -> Result<Instance, Memory>
+        requires { IsSynchronized (with_parts verts edges pipes) }
+        ensures { IfOk result (λ i. i ≡ with_parts verts edges pipes) }
     {
+        let at = adjacency(alloc, verts.items(), edges.items())?;
+        let piped = piping(alloc, verts.items(), pipes.items())?;
+        Ok(Instance {
+            verts,
+            edges,
+            pipes,
+            at,
+            piped,
+        })
+    }
+
+    // The live names of a kind. Linear in them, and for cells in the vertices.
+    fn live_names(&self, alloc: Global, kind: NameKind) -> Result<Vec<usize>, Memory>
+        ensures { IfOk result (λ names. names.items ≡ live_names_of self.now kind) }
+    {
+        match kind {
+            NameKind::Vert => names_of(alloc, self.verts.items()),
+            NameKind::Edge => names_of(alloc, self.edges.items()),
+            NameKind::Pipe => names_of(alloc, self.pipes.items()),
+            NameKind::Cell => cells_of(alloc, self.verts.items()),
+        }
+    }
+
+    // The instance after a rewrite, in memory of its own. Linear in both, up to a logarithm.
+    fn after_rewrite(&self, alloc: Global, w: &Rewrite) -> Result<Instance, Memory>
+        requires { IsRewriteOf self.now w.now }
+        ensures { IfOk result (λ after. after ≡ rewritten w.now self.now) }
+    {
+        let verts = verts_after(alloc, self.verts.items(), w)?;
+        let edges = edges_after(alloc, self.edges.items(), w)?;
+        let pipes = pipes_after(alloc, self.pipes.items(), w)?;
+        Instance::from_right_parts(alloc, verts, edges, pipes)
+    }
+}
+
+/// The calls at one vertex, edge or pipe take logarithmic time, beside the length of a list that they give.
+/// `free_names` is linear in `n` and in the number of live names, and for cells in the number of vertices. `rewrite`
+/// stores all lists anew, so it is linear in the instance and in the rewrite, up to a logarithm, and takes all memory
+/// before the instance changes. All else is linear.
+impl Board for Instance {
+    ghost instance = { λ i. i };
+
+    fn verts(&self, alloc: Global) -> Result<Vec<usize>, Memory> {
         let _ = &self.edges;
-        let mut names = Vec::new(alloc);
-        for v in self.verts.items() {
-            names.push(v.name)?;
-        }
-        Ok(names)
+        names_of(alloc, self.verts.items())
     }
 
-    /// The names of the edges, rising.
-    pub fn edges(&self, alloc: Global) -> Result<Vec<usize>, Memory>
-        ensures names { IfOk result (λ names. names.items ≡ edge_names self.now) }
-        ensures rules { IsSynchronized self.now }
-    {
+    fn edges(&self, alloc: Global) -> Result<Vec<usize>, Memory> {
         let _ = &self.verts;
-        let mut names = Vec::new(alloc);
-        for e in self.edges.items() {
-            names.push(e.name)?;
-        }
-        Ok(names)
+        names_of(alloc, self.edges.items())
     }
 
-    /// The edges of `v`, rising.
-    pub fn edges_at(&self, alloc: Global, v: usize) -> Result<Vec<usize>, Memory>
-        requires { Contains (vert_names self.now) v }
-        ensures names { IfOk result (λ names. names.items ≡ edges_of self.now v) }
-        ensures rules { IsSynchronized self.now }
-    {
-        copied(alloc, self.at[lower_place(self.verts.items(), v)].items())
+    fn edges_at(&self, alloc: Global, v: usize) -> Result<Vec<usize>, Memory> {
+        let at = &self.at[lower_place(self.verts.items(), v)];
+        names_of(alloc, at.items())
     }
 
-    /// Whether `v` is a Q-vertex.
-    pub fn is_q(&self, v: usize) -> bool
-        requires { Contains (vert_names self.now) v }
-        ensures value { result ≡ is_q self.now v }
-        ensures rules { IsSynchronized self.now }
-    {
+    fn is_q(&self, v: usize) -> bool {
         let _ = &self.edges;
         match item_named(self.verts.items(), v) {
             None => false,
@@ -136,11 +175,7 @@ impl Instance {
         }
     }
 
-    /// The cell of a Q-vertex.
-    pub fn cell(&self, v: usize) -> usize
-        requires { IsTrue (is_q self.now v) }
-        ensures { result ≡ cell_at self.now v }
-    {
+    fn cell(&self, v: usize) -> usize {
         match item_named(self.verts.items(), v) {
             None => 0,
             Some(x) => match &x.kind {
@@ -150,11 +185,7 @@ impl Instance {
         }
     }
 
-    /// The list of a Q-vertex, from its least edge.
-    pub fn psi(&self, v: usize) -> &CycList
-        requires { IsTrue (is_q self.now v) }
-        ensures { result.now ≡ psi_at self.now v }
-    {
+    fn psi(&self, v: usize) -> &CycList {
         match item_named(self.verts.items(), v) {
             None => unreachable!(),
             Some(x) => match &x.kind {
@@ -164,32 +195,18 @@ impl Instance {
         }
     }
 
-    /// The two ends of an edge.
-    pub fn ends(&self, e: usize) -> (usize, usize)
-        requires { Contains (edge_names self.now) e }
-        ensures value { result ≡ ends_of self.now e }
-        ensures rules { IsSynchronized self.now }
-    {
+    fn ends(&self, e: usize) -> (usize, usize) {
         match item_named(self.edges.items(), e) {
             None => (0, 0),
             Some(x) => (x.a, x.b),
         }
     }
 
-    /// The pipe of which `v` is an end, or `None` where there is none.
-    pub fn pipe_at(&self, v: usize) -> Option<usize>
-        requires { Contains (vert_names self.now) v }
-        ensures { result ≡ option_map (λ p. p.name) (pipe_at self.now v) }
-    {
+    fn pipe_at(&self, v: usize) -> Option<usize> {
         self.piped[lower_place(self.verts.items(), v)]
     }
 
-    /// The two ends of a pipe.
-    pub fn pipe_ends(&self, p: usize) -> (usize, usize)
-        requires { Contains (pipe_names self.now) p }
-        ensures value { result ≡ pipe_ends_of self.now p }
-        ensures rules { IsSynchronized self.now }
-    {
+    fn pipe_ends(&self, p: usize) -> (usize, usize) {
         let _ = &self.verts;
         match item_named(self.pipes.items(), p) {
             None => (0, 0),
@@ -197,28 +214,29 @@ impl Instance {
         }
     }
 
-    /// The pairs of a pipe, rising by their first edges.
-    pub fn pairs(&self, p: usize) -> &[(usize, usize)]
-        requires { Contains (pipe_names self.now) p }
-        ensures { result.now ≡ pairs_of self.now p }
-    {
+    fn pairs(&self, p: usize) -> &[(usize, usize)] {
         match item_named(self.pipes.items(), p) {
             None => &[],
             Some(x) => x.pairs.items(),
         }
     }
 
-    /// The pipe of greatest degree, and of equal ones that of least name, or `None` where there is no pipe.
-    pub fn max_pipe(&self) -> Option<usize>
-        ensures some { IfSome result (IsGreatestName self.now) }
-        ensures none { IfNone result (self.now.pipes ≡ []) }
-        ensures rules { IsSynchronized self.now }
-    {
+    fn free_names(&self, alloc: Global, kind: NameKind, n: usize) -> Result<Vec<usize>, Memory> {
+        let live = self.live_names(alloc, kind)?;
+        least_free(alloc, live.as_slice(), n)
+    }
+
+    fn max_pipe(&self) -> Option<usize> {
         let _ = &self.verts;
         let pipes = self.pipes.items();
         if pipes.is_empty() {
             return None;
         }
         Some(pipes[greatest(pipes)].name)
+    }
+
+    fn rewrite(&mut self, alloc: Global, w: &Rewrite) -> Result<(), Memory> {
+        *self = self.after_rewrite(alloc, w)?;
+        Ok(())
     }
 }

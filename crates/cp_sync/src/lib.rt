@@ -4,15 +4,21 @@
 
 mod board;
 mod checked;
+mod copies;
 mod ends;
 mod fault;
+mod free;
 mod instance;
 mod lists;
 mod named;
 mod names;
+mod numbered;
+mod ordered;
 mod outcome;
 mod pairs;
 mod piping;
+mod rewriting;
+mod rotation;
 mod solution;
 mod tables;
 
@@ -23,8 +29,10 @@ pub use cp_board::{
     Step, StepList, Vert, Verts,
 };
 pub use fault::PartsFault;
-pub use instance::Instance;
+pub use instance::{Instance, first_instance_copy};
+pub use numbered::{BoardGraph, graph_of};
 pub use outcome::Outcome;
+pub use rotation::rot_of;
 pub use solution::Solution;
 
 #[cfg(test)]

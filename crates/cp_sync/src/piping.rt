@@ -92,3 +92,21 @@ pub(crate) fn mark_all(
     }
     None
 }
+
+// The pipe of each vertex, by its place, where the ends of pipes are right. Linear in the vertices and the pipes, up to
+// a logarithm.
+pub(crate) fn piping(
+    alloc: Global,
+    verts: &[Vert],
+    pipes: &[Pipe],
+) -> Result<Vec<Option<usize>>, Memory>
+    requires rising { IsStrictlyIncreasing (names_of_verts verts.now) }
+    requires right { AllBelow (λ k. Keeps record { verts = verts.now; edges = []; pipes = pipes.now } PipeEnds (PipeAt k)) (length pipes.now) }
+    ensures { IfOk result (λ piped. ArePiped verts.now pipes.now piped.items) }
+{
+    let mut piped = unpiped(alloc, verts.len())?;
+    for p in pipes {
+        mark(verts, p, &mut piped);
+    }
+    Ok(piped)
+}
