@@ -1,5 +1,5 @@
 -- No words and bytes are without an end and a text.
-use Rattle.std.proofs.Common.{◌≡◌, ℕ, ◌≤◌, List, length, drop, ⊎_elim, arith}
+use Rattle.std.proofs.Common.{ℕ, List, length, drop, ⊎_elim}
 use Rattle.std.proofs.lemmas.Bool.{cases_lt}
 use Rattle.cp_cgraph.specs.Clustered.{Clustered}
 use Rattle.cp_cgraph.specs.GraphTexts.{IsGraphText}
@@ -10,7 +10,7 @@ use Rattle.cp_io.specs.Streams.{most_bytes}
 use Rattle.cp_report.specs.declared.report.Report.{Report}
 use Rattle.cp_report.proofs.Outcomes.{some_reading}
 use Rattle.cp_check.proofs.Outcomes.{some_verdict}
-use Rattle.cp_app.specs.Answer.{Answer, Checked, Judged, IsCheck}
+use Rattle.cp_app.specs.Answer.{Answer, Checked, Judged}
 use Rattle.cp_app.specs.Answer.Checked.{bad_report, read}
 use Rattle.cp_app.specs.Answer.Judged.{grammar, graph, accepted, rejected}
 use Rattle.cp_app.specs.Texts.{usage_line, bad_report_line, grammar_name, graph_name, refused_line, accepted_line, rejected_line}

@@ -254,11 +254,6 @@ fn an_input_above_64_mebibytes_is_too_long(rt: HostRuntime) -> Result<(), Fail> 
     assert_eq!(rt; end, End::TooLong);
     assert_eq!(rt; end.code(), 6);
     assert_eq!(rt; sink.bytes(), b"input too long\n".as_slice());
-    Ok(())
-}
-
-#[test]
-fn the_law_of_answers_is_called(_rt: HostRuntime) -> Result<(), Fail> {
     one_answer();
     Ok(())
 }

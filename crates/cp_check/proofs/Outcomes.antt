@@ -1,5 +1,5 @@
 -- No report is without a verdict.
-use Rattle.std.proofs.Common.{◌≡◌, ℕ, zero, suc, ◌+◌, ◌*◌, ◌<◌, ◌≤◌, ⊎_elim, length, refl, arith}
+use Rattle.std.proofs.Common.{ℕ, zero, suc, ◌+◌, ◌*◌, ◌<◌, ◌≤◌, ⊎_elim, length, refl, arith}
 use Rattle.std.proofs.lemmas.Bool.{cases_eq, cases_lt}
 use Rattle.cp_lists.specs.Count.{IsCount}
 use Rattle.cp_lists.proofs.Counting.{below_next, IsCount-none, IsCount-next_no, IsCount-next_yes}
