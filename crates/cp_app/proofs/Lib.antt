@@ -1,3 +1,4 @@
 mod AnswerLemmas
 mod JudgeLemmas
+mod SomeAnswer
 mod WordLemmas

@@ -1,5 +1,5 @@
 // What no clause says: that runs end with an answer where memory suffices, and the exact texts.
-use crate::{End, run};
+use crate::{End, one_answer, run};
 use cp_base::Memory;
 use cp_io::{MemSink, MemSource, StdSource};
 use std::alloc::Global;
@@ -254,5 +254,6 @@ fn an_input_above_64_mebibytes_is_too_long(rt: HostRuntime) -> Result<(), Fail> 
     assert_eq!(rt; end, End::TooLong);
     assert_eq!(rt; end.code(), 6);
     assert_eq!(rt; sink.bytes(), b"input too long\n".as_slice());
+    one_answer();
     Ok(())
 }

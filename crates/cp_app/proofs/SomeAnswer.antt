@@ -1,0 +1,62 @@
+-- No words and bytes are without an end and a text.
+use Rattle.std.proofs.Common.{ℕ, List, length, drop, ⊎_elim}
+use Rattle.std.proofs.lemmas.Bool.{cases_lt}
+use Rattle.cp_cgraph.specs.Clustered.{Clustered}
+use Rattle.cp_cgraph.specs.GraphTexts.{IsGraphText}
+use Rattle.cp_cgraph.proofs.FaultLaw.{graph_or_fault}
+use Rattle.cp_gml.proofs.Outcomes.{some_entries}
+use Rattle.cp_io.specs.Commands.Answer.{usage, too_long, told}
+use Rattle.cp_io.specs.Streams.{most_bytes}
+use Rattle.cp_report.specs.declared.report.Report.{Report}
+use Rattle.cp_report.proofs.Outcomes.{some_reading}
+use Rattle.cp_check.proofs.Outcomes.{some_verdict}
+use Rattle.cp_app.specs.Answer.{Answer, Checked, Judged}
+use Rattle.cp_app.specs.Answer.Checked.{bad_report, read}
+use Rattle.cp_app.specs.Answer.Judged.{grammar, graph, accepted, rejected}
+use Rattle.cp_app.specs.Texts.{usage_line, bad_report_line, grammar_name, graph_name, refused_line, accepted_line, rejected_line}
+use Rattle.cp_app.specs.declared.command.Asked.TheVariants.{Check}
+use Rattle.cp_app.specs.declared.end.End.{End}
+use Rattle.cp_app.specs.declared.end.End.TheVariants as ends
+use Rattle.cp_app.proofs.AnswerLemmas.{asks_nothing}
+
+-- a report and the text of a graph are judged
+some_graph_judgement : (r : Report) (text : List ℕ) (g : Clustered) → IsGraphText text g
+    → ((end : End) (line : List ℕ) → Judged r text end line → ⊥) → ⊥
+some_graph_judgement r text g is none =
+    some_verdict g r
+    (λ good. none ends.Accepted accepted_line (accepted g is good))
+    (λ reason why. none (ends.Rejected reason) (rejected_line reason) (rejected g is reason why))
+
+-- a report and any text are judged
+some_judgement : (r : Report) (text : List ℕ) → ((end : End) (line : List ℕ) → Judged r text end line → ⊥) → ⊥
+some_judgement r text none =
+    ⊎_elim
+    (λ list.
+    ⊎_elim
+    (λ says. some_graph_judgement r text says.0 record { entries = list.0; list = list.1; graph = says.1 } none)
+    (λ fault.
+    none (ends.Refused fault.0 fault.1) (refused_line (graph_name fault.0) fault.0 fault.1)
+    (graph fault.0 fault.1 record { entries = list.0; list = list.1; fault = fault.2 }))
+    (graph_or_fault (length text) list.0))
+    (λ fault.
+    none (ends.Refused fault.0 fault.1) (refused_line (grammar_name fault.0) fault.0 fault.1) (grammar fault.0 fault.1 fault.2))
+    (some_entries text)
+
+-- `check` answers all bytes
+some_check : (bytes : List ℕ) → ((end : End) (text : List ℕ) → Checked bytes end text → ⊥) → ⊥
+some_check bytes none =
+    some_reading bytes
+    (λ reading.
+    ⊎_elim
+    (λ begins. some_judgement begins.0 (drop begins.1 bytes) (λ end text is. none end text (read begins.0 begins.1 begins.2 is)))
+    (λ fault. none (ends.BadReport fault.0 fault.1) (bad_report_line fault.0 fault.1) (bad_report fault.0 fault.1 fault.2))
+    reading)
+
+-- no words and bytes are without an end and a text
+pub some_answer : (words : List (List ℕ)) (bytes : List ℕ) → ((end : End) (text : List ℕ) → Answer words bytes end text → ⊥) → ⊥
+some_answer words bytes none =
+    none ends.Usage usage_line (usage (asks_nothing words (λ check.
+    ⊎_elim
+    (λ long. none ends.TooLong _ (too_long Check check long))
+    (λ short. some_check bytes (λ end text is. none end text (told Check check short is)))
+    (cases_lt most_bytes (length bytes)))))
