@@ -1,14 +1,14 @@
--- Nodes layer by layer: folds, the variants told apart, and induction.
-use Rattle.std.proofs.Common.{◌≡◌, ℕ, Bool, ◌&&◌, List, [], ◌∷◌, ◌++◌, map, flat_map, reverse, refl, sym, ap, ◌∙◌, subst}
+-- Nodes layer by layer: folds and induction.
+use Rattle.std.proofs.Common.{◌≡◌, ℕ, Bool, true, ◌&&◌, List, [], ◌∷◌, ◌++◌, length, map, reverse, refl, sym, ap, ap₂, ◌∙◌, subst}
 use Rattle.std.specs.Prelude.{nat_lt}
 use Rattle.std.specs.List.{list_all, AllByRecursion}
-use Rattle.std.proofs.lemmas.List.{reverse-append}
+use Rattle.std.proofs.lemmas.List.{reverse-append, map-append, length-map}
 use Rattle.cp_pq.specs.declared.node.Node.{Node}
 use Rattle.cp_pq.specs.declared.node.Node.TheOpen.{Node-F}
-use Rattle.cp_pq.specs.declared.node.Node.TheViews.{roll-Node, out-Node, out-roll-Node}
+use Rattle.cp_pq.specs.declared.node.Node.TheViews.{roll-Node}
 use Rattle.cp_pq.specs.declared.node.Node.TheFolds.{fold-roll-Node, map-Node, ind-Node}
 use Rattle.cp_pq.specs.declared.node.Node.TheVariants.{Leaf, P, Q, rolls-Leaf, rolls-P, rolls-Q}
-use Rattle.cp_pq.specs.Nodes.{has_vars_below, below_step}
+use Rattle.cp_pq.specs.Nodes.{is_branching, branching_step, has_vars_below, below_step}
 
 -- a property of each node of a pair list holds of the nodes
 all_of : (M : Node → Type 0) → (es : List ((n : Node) × M n)) → AllByRecursion M (map (λ e. e.0) es)
@@ -55,16 +55,32 @@ has_vars_below-Q vars var kids =
     ∙ fold-roll-Node Bool (below_step vars) (Node-F.Q var kids)
     ∙ ap (λ b. nat_lt var vars && b) (list_all-map (has_vars_below vars) kids)
 
--- lists one behind the other
-pub flat_map-map : {A B : Type 0} (f : A → List B) (xs : List A)
-    → flat_map (λ (ys : List B). ys) (map f xs) ≡ flat_map f xs
-flat_map-map f [] = refl
-flat_map-map f (x ∷ xs) = ap (λ ys. f x ++ ys) (flat_map-map f xs)
+-- a P-node branches where it has two kids and these branch
+pub is_branching-P : (owner : ℕ) (kids : List Node)
+    → is_branching (P owner kids) ≡ (nat_lt 1 (length kids) && list_all is_branching kids)
+unfolding is_branching
+is_branching-P owner kids =
+    ap is_branching (sym (rolls-P owner kids)) ∙ fold-roll-Node Bool branching_step (Node-F.P owner kids)
+    ∙ ap₂ (λ n b. nat_lt 1 n && b) (length-map kids is_branching) (list_all-map is_branching kids)
 
--- the images in order
-map-append : {A B : Type 0} (f : A → B) (xs ys : List A) → map f (xs ++ ys) ≡ map f xs ++ map f ys
-map-append f [] ys = refl
-map-append f (x ∷ xs) ys = ap (λ zs. f x ∷ zs) (map-append f xs ys)
+-- and a Q-node too
+pub is_branching-Q : (var : ℕ) (kids : List Node)
+    → is_branching (Q var kids) ≡ (nat_lt 1 (length kids) && list_all is_branching kids)
+unfolding is_branching
+is_branching-Q var kids =
+    ap is_branching (sym (rolls-Q var kids)) ∙ fold-roll-Node Bool branching_step (Node-F.Q var kids)
+    ∙ ap₂ (λ n b. nat_lt 1 n && b) (length-map kids is_branching) (list_all-map is_branching kids)
+
+-- a leaf branches
+pub is_branching-Leaf : (x : ℕ) → is_branching (Leaf x) ≡ true
+unfolding is_branching
+is_branching-Leaf x = ap is_branching (sym (rolls-Leaf x)) ∙ fold-roll-Node Bool branching_step (Node-F.Leaf x)
+
+-- a leaf has no vars
+pub has_vars_below-Leaf : (vars x : ℕ) → has_vars_below vars (Leaf x) ≡ true
+unfolding has_vars_below
+has_vars_below-Leaf vars x = ap (has_vars_below vars) (sym (rolls-Leaf x))
+    ∙ fold-roll-Node Bool (below_step vars) (Node-F.Leaf x)
 
 -- the images of a list in reverse are its images in reverse
 pub map-reverse : {A B : Type 0} (f : A → B) (xs : List A) → map f (reverse xs) ≡ reverse (map f xs)
@@ -85,12 +101,3 @@ all-reverse P [] all = all
 all-reverse P (x ∷ xs) all =
     subst (AllByRecursion P) (sym (reverse-append (x ∷ []) xs))
     (all-append P (reverse xs) (x ∷ []) (all-reverse P xs all.1) (all.0, tt))
-
--- the layer of a P-node
-out-P : (owner : ℕ) (kids : List Node) → out-Node (P owner kids) ≡ Node-F.P owner kids
-out-P owner kids = ap out-Node (sym (rolls-P owner kids)) ∙ out-roll-Node (Node-F.P owner kids)
-
--- equal P-nodes have one owner and the same kids
-pub same_P : (a b : ℕ) (ks js : List Node) → P a ks ≡ P b js → (a ≡ b) × (ks ≡ js)
-same_P a b ks js e =
-    let h : Node-F.P a ks ≡ Node-F.P b js = sym (out-P a ks) ∙ ap out-Node e ∙ out-P b js in (cc, cc)

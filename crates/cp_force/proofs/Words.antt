@@ -15,7 +15,8 @@ use Rattle.cp_pq.specs.Bits.{bit_of}
 use Rattle.cp_pq.specs.Nodes.{has_vars_below}
 use Rattle.cp_pq.specs.Readings.{Reads, ReadsAll, leaf, any_order, forward, backward, none, more, given}
 use Rattle.cp_force.specs.Words.{turned_row, word_by, words_by, word_step}
-use Rattle.cp_force.proofs.NodeLayers.{node_induction, has_vars_below-P, has_vars_below-Q, flat_map-map, map-reverse, all-reverse}
+use Rattle.cp_pq.proofs.NodeLayers.{flat_map_map}
+use Rattle.cp_force.proofs.NodeLayers.{node_induction, has_vars_below-P, has_vars_below-Q, map-reverse, all-reverse}
 
 -- the images of a turned row
 map-turned : (f : Node → List ℕ) (turned : Bool) (row : List Node)
@@ -33,7 +34,7 @@ pub word_by-P : (bits : List Bool) (owner : ℕ) (kids : List Node) → word_by 
 unfolding word_by words_by
 word_by-P bits owner kids =
     ap (word_by bits) (sym (rolls-P owner kids)) ∙ fold-roll-Node (List ℕ) (word_step bits) (Node-F.P owner kids)
-    ∙ flat_map-map (word_by bits) kids
+    ∙ flat_map_map (word_by bits) kids
 
 -- the word of a Q-node
 pub word_by-Q : (bits : List Bool) (var : ℕ) (kids : List Node)
@@ -42,7 +43,7 @@ unfolding word_by words_by
 word_by-Q bits var kids =
     ap (word_by bits) (sym (rolls-Q var kids)) ∙ fold-roll-Node (List ℕ) (word_step bits) (Node-F.Q var kids)
     ∙ ap (λ rows. flat_map (λ (row : List ℕ). row) rows) (map-turned (word_by bits) (bit_of bits var) kids)
-    ∙ flat_map-map (word_by bits) (turned_row (bit_of bits var) kids)
+    ∙ flat_map_map (word_by bits) (turned_row (bit_of bits var) kids)
 
 -- the word of a row with one node more
 pub words_by-more : (bits : List Bool) (row : List Node) (i : ℕ) (d : Node) → i < length row
@@ -80,12 +81,12 @@ beq-same true = refl
 beq-same false = refl
 
 -- the bits license the bit of a var in range
-given_bit : (bits : List Bool) (v : ℕ) → nat_lt v (length bits) ≡ true → given bits v (bit_of bits v) ≡ true
+pub given_bit : (bits : List Bool) (v : ℕ) → nat_lt v (length bits) ≡ true → given bits v (bit_of bits v) ≡ true
 given_bit bits v lt = and_from (nat_lt v (length bits)) (beq (bit_of bits v) (bit_of bits v)) lt
     (beq-same (bit_of bits v))
 
 -- a Q-node is read in the direction of its bit
-Reads-turned : (may : ℕ → Bool → Bool) (var : ℕ) (kids : List Node) (b : Bool) (xs : List ℕ)
+pub Reads-turned : (may : ℕ → Bool → Bool) (var : ℕ) (kids : List Node) (b : Bool) (xs : List ℕ)
     → may var b ≡ true → ReadsAll may (turned_row b kids) xs → Reads may (Q var kids) xs
 Reads-turned may var kids true xs may_be all = backward var kids xs may_be all
 Reads-turned may var kids false xs may_be all = forward var kids xs may_be all

@@ -3,6 +3,7 @@
 
 mod copying;
 mod fault;
+mod fitting;
 mod order_tree;
 mod ownership;
 mod reading;

@@ -5,7 +5,7 @@ use Rattle.std.proofs.lemmas.Bool.{false≢true}
 use Rattle.cp_pq.specs.declared.node.Node.TheVariants.{Leaf, P}
 use Rattle.cp_force.specs.Owners.{is_leaf}
 use Rattle.cp_force.proofs.Owners.{leaves_of, are_leaves}
-use Rattle.cp_force.proofs.NodeLayers.{same_P}
+use Rattle.cp_pq.proofs.NodeLayers.{P_P}
 use Rattle.cp_force.proofs.ownership.owner_of.Goals as goal
 
 pub returns-then-are_leaves : goal.returns-then-are_leaves
@@ -16,7 +16,7 @@ returns-then-are_leaves c =
 
 pub returns-else-are_leaves : goal.returns-else-are_leaves
 returns-else-are_leaves c owner sole =
-    let same = same_P c.in-P.owner owner c.in-P.kids (map Leaf sole.0) (sym c.in-P.is ∙ c.body.ensures.value
+    let same = P_P c.in-P.owner owner c.in-P.kids (map Leaf sole.0) (sym c.in-P.is ∙ c.body.ensures.value
     ∙ sole.1) in
     let passed : list_all is_leaf c.in-P.kids ≡ true = ap (list_all is_leaf) same.1 ∙ are_leaves sole.0 in
     false≢true (sym c.if-are_leaves.false ∙ c.are_leaves.ensures ∙ ap (list_all is_leaf) c.items.ensures ∙ passed)

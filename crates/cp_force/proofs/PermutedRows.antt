@@ -1,0 +1,114 @@
+-- Permutations of rows, and of pairs of rows.
+use Rattle.std.proofs.Common.{ℕ, zero, suc, ◌<◌, Bool, true, false, cond, List, [], ◌∷◌, filter, length, get_or, set, swap, arith, IsPermutation}
+use Rattle.std.specs.List.{AllZip, AllByRecursion}
+use Rattle.std.proofs.lemmas.List.Sorted.{IsPermutation-refl, IsPermutation-keeps, IsPermutation-trans, IsPermutation-append_left, IsPermutation-append_comm, IsPermutation-cons}
+
+-- A relation holds along each permutation if it is reflexive and transitive, and goes under a head and over an exchange
+-- of two heads.
+module _ {X : Type 0} (R : List X → List X → Type 0) (same : (xs : List X) → R xs xs)
+    (skip : (x : X) (xs ys : List X) → R xs ys → R (x ∷ xs) (x ∷ ys))
+    (turn : (x y : X) (xs : List X) → R (x ∷ y ∷ xs) (y ∷ x ∷ xs))
+    (chain : (xs ys zs : List X) → R xs ys → R ys zs → R xs zs) where
+  -- an exchange with the head
+  to_head : (l : List X) (j : ℕ) (x d : X) → j < length l → R (x ∷ l) (get_or l j d ∷ set l j x)
+  to_head [] j x d h = absurd (omega arith)
+  to_head (y ∷ l) zero x d h = turn x y l
+  to_head (y ∷ l) (suc j) x d h =
+      chain _ _ _ (turn x y l)
+      (chain _ _ _ (skip y _ _ (to_head l j x d (omega arith))) (turn y (get_or l j d) (set l j x)))
+
+  -- an exchange of two items, written as two writes
+  exchanged : (l : List X) (i j : ℕ) (d : X) → i < length l → j < length l
+      → R l (set (set l i (get_or l j d)) j (get_or l i d))
+  exchanged [] i j d p q = absurd (omega arith)
+  exchanged (x ∷ l) zero zero d p q = same (x ∷ l)
+  exchanged (x ∷ l) zero (suc j) d p q = to_head l j x d (omega arith)
+  exchanged (x ∷ l) (suc i) zero d p q = to_head l i x d (omega arith)
+  exchanged (x ∷ l) (suc i) (suc j) d p q = skip x _ _ (exchanged l i j d (omega arith) (omega arith))
+
+  -- an exchange of two items
+  swapped : (l : List X) (i j : ℕ) → i < length l → j < length l → R l (swap l i j)
+  swapped [] i j p q = same []
+  swapped (x ∷ l) i j p q = exchanged (x ∷ l) i j x p q
+
+  pub along_permutation : (xs ys : List X) → IsPermutation xs ys → R xs ys
+  along_permutation xs = IsPermutation-keeps xs (R xs) (same xs) (λ l i j p q h. chain xs l _ h (swapped l i j p q))
+
+-- the first two items exchanged
+two_heads : {X : Type 0} (x y : X) (xs : List X) → IsPermutation (x ∷ y ∷ xs) (y ∷ x ∷ xs)
+two_heads x y xs = IsPermutation-append_left xs (x ∷ y ∷ []) (y ∷ x ∷ []) (IsPermutation-append_comm (x ∷ []) (y ∷ []))
+
+-- the rows that stand place by place with a permuted row are permuted too
+abbrev Follows : {A B : Type 0} → (A → B → Type 0) → List B → List B → Type 0
+Follows {A} R fs gs = (ks : List A) → AllZip R ks fs → (js : List A) × IsPermutation ks js × AllZip R js gs
+
+-- under a head
+follows_skip : {A B : Type 0} (R : A → B → Type 0) (f : B) (fs gs : List B) → Follows R fs gs
+    → Follows R (f ∷ fs) (f ∷ gs)
+follows_skip R f fs gs h [] z = absurd z
+follows_skip R f fs gs h (k ∷ ks) z =
+    let r = h ks z.1 in (k ∷ r.0, IsPermutation-cons k ks r.0 r.1, (z.0, r.2))
+
+-- over an exchange of two heads
+follows_turn : {A B : Type 0} (R : A → B → Type 0) (f g : B) (fs : List B) → Follows R (f ∷ g ∷ fs) (g ∷ f ∷ fs)
+follows_turn R f g fs [] z = absurd z
+follows_turn R f g fs (k ∷ []) z = absurd z.1
+follows_turn R f g fs (k ∷ j ∷ ks) z = (j ∷ k ∷ ks, two_heads k j ks, (z.1.0, (z.0, z.1.1)))
+
+-- where one row is permuted, so is the row that stands with it place by place
+pub zip_permuted : {A B : Type 0} (R : A → B → Type 0) (fs gs : List B) → IsPermutation fs gs → (ks : List A)
+    → AllZip R ks fs → (js : List A) × IsPermutation ks js × AllZip R js gs
+zip_permuted R = along_permutation (Follows R)
+    (λ fs ks z. (ks, IsPermutation-refl ks, z))
+    (follows_skip R)
+    (follows_turn R)
+    (λ fs gs hs one two ks z.
+    let r = one ks z in let s = two r.0 r.2 in (s.0, IsPermutation-trans ks r.0 s.0 r.1 s.1, s.2))
+
+-- the rows the other way round
+pub zip_flipped : {A B : Type 0} (R : A → B → Type 0) (ks : List A) (fs : List B) → AllZip R ks fs
+    → AllZip (λ f k. R k f) fs ks
+zip_flipped R [] [] z = tt
+zip_flipped R [] (f ∷ fs) z = absurd z
+zip_flipped R (k ∷ ks) [] z = absurd z
+zip_flipped R (k ∷ ks) (f ∷ fs) z = (z.0, zip_flipped R ks fs z.1)
+
+-- what holds of each item holds of each item of a permutation
+pub all_permuted : {X : Type 0} (P : X → Type 0) (xs ys : List X) → IsPermutation xs ys → AllByRecursion P xs
+    → AllByRecursion P ys
+all_permuted P = along_permutation (λ xs ys. AllByRecursion P xs → AllByRecursion P ys)
+    (λ xs h. h)
+    (λ x xs ys f h. (h.0, f h.1))
+    (λ x y xs h. (h.1.0, (h.0, h.1.1)))
+    (λ xs ys zs f g h. g (f h))
+
+-- the first item passes, or not
+filtered_skip : {X : Type 0} (p : X → Bool) (x : X) (xs ys : List X) → IsPermutation (filter p xs) (filter p ys)
+    → IsPermutation (filter p (x ∷ xs)) (filter p (x ∷ ys))
+filtered_skip p x xs ys h =
+    elim (p x) as (λ b. IsPermutation (cond b (x ∷ filter p xs) (filter p xs)) (cond b (x ∷ filter p ys) (filter p ys)))
+    [ true ↦ IsPermutation-cons x (filter p xs) (filter p ys) h | false ↦ h ]
+
+-- the first two items pass, or not
+filtered_turn : {X : Type 0} (p : X → Bool) (x y : X) (xs : List X)
+    → IsPermutation (filter p (x ∷ y ∷ xs)) (filter p (y ∷ x ∷ xs))
+filtered_turn p x y xs =
+    elim (p x) as (λ a. IsPermutation
+    (cond a (x ∷ cond (p y) (y ∷ filter p xs) (filter p xs)) (cond (p y) (y ∷ filter p xs) (filter p xs)))
+    (cond (p y) (y ∷ cond a (x ∷ filter p xs) (filter p xs)) (cond a (x ∷ filter p xs) (filter p xs)))) [
+      | true ↦ elim (p y) as (λ b. IsPermutation (x ∷ cond b (y ∷ filter p xs) (filter p xs))
+          (cond b (y ∷ x ∷ filter p xs) (x ∷ filter p xs)))
+          [ true ↦ two_heads x y (filter p xs) | false ↦ IsPermutation-refl (x ∷ filter p xs) ]
+      | false ↦ elim (p y) as (λ b. IsPermutation (cond b (y ∷ filter p xs) (filter p xs))
+          (cond b (y ∷ filter p xs) (filter p xs)))
+          [ true ↦ IsPermutation-refl (y ∷ filter p xs) | false ↦ IsPermutation-refl (filter p xs) ]
+    ]
+
+-- the items that pass are permuted with the others
+pub filtered_permuted : {X : Type 0} (p : X → Bool) (xs ys : List X) → IsPermutation xs ys
+    → IsPermutation (filter p xs) (filter p ys)
+filtered_permuted p = along_permutation (λ xs ys. IsPermutation (filter p xs) (filter p ys))
+    (λ xs. IsPermutation-refl (filter p xs))
+    (filtered_skip p)
+    (filtered_turn p)
+    (λ xs ys zs f g. IsPermutation-trans (filter p xs) (filter p ys) (filter p zs) f g)
