@@ -20,3 +20,10 @@ pub mod SplitVertices
 pub mod SplitParts
 pub mod RestrictionLaws
 pub mod SplitRuns
+pub mod NamedMaps
+pub mod PoleLists
+pub mod PoleMaps
+pub mod PermutedPoles
+pub mod PoleParts
+pub mod PermutedSystems
+pub mod PoleRows
