@@ -12,7 +12,7 @@ use cp_cgraph::TextFault;
 use std::alloc::Global;
 
 /// The end and its text. Linear on average in the number of bytes.
-pub fn decide(alloc: Global, asked: Asked, bytes: &[u8]) -> Result<(End, Vec<u8>), Memory>
+pub fn answer_to(alloc: Global, asked: Asked, bytes: &[u8]) -> Result<(End, Vec<u8>), Memory>
     ensures { IfOk result (λ a. Told asked bytes.now a.0 a.1.items) }
 {
     match graph_of(alloc, bytes) {
@@ -21,12 +21,14 @@ pub fn decide(alloc: Global, asked: Asked, bytes: &[u8]) -> Result<(End, Vec<u8>
             None => Ok((End::Unfit, Vec::from_slice(alloc, texts::UNFIT)?)),
         },
         Err(TextFault::Grammar { kind, at }) => {
-            let line = texts::refused(alloc, kind, at)?;
-            Ok((End::Refused { kind, at }, line))
+            let number = kind.number();
+            let line = texts::refused(alloc, number, at)?;
+            Ok((End::Refused { kind: number, at }, line))
         }
         Err(TextFault::Graph { kind, at }) => {
-            let line = texts::refused(alloc, kind, at)?;
-            Ok((End::Refused { kind, at }, line))
+            let number = kind.number();
+            let line = texts::refused(alloc, number, at)?;
+            Ok((End::Refused { kind: number, at }, line))
         }
         Err(TextFault::Memory) => Err(Memory),
     }

@@ -29,11 +29,13 @@ fn judged(alloc: Global, report: &Report, text: &[u8]) -> Result<(End, Vec<u8>),
         Ok(graph) => told(alloc, verdict(alloc, &graph, report)?),
         Err(TextFault::Grammar { kind, at }) => {
             let line = texts::grammar_fault(alloc, kind, at)?;
-            Ok((End::Refused { kind, at }, line))
+            let number = kind.number();
+            Ok((End::Refused { kind: number, at }, line))
         }
         Err(TextFault::Graph { kind, at }) => {
             let line = texts::graph_fault(alloc, kind, at)?;
-            Ok((End::Refused { kind, at }, line))
+            let number = kind.number();
+            Ok((End::Refused { kind: number, at }, line))
         }
         Err(TextFault::Memory) => Err(Memory),
     }
@@ -41,7 +43,7 @@ fn judged(alloc: Global, report: &Report, text: &[u8]) -> Result<(End, Vec<u8>),
 
 /// The end and its text. Linear in the number of bytes and of the places where edges cross borders, on
 /// average, since ids are looked up by a hash.
-pub(crate) fn decide(alloc: Global, bytes: &[u8]) -> Result<(End, Vec<u8>), Memory>
+pub(crate) fn answer_to(alloc: Global, bytes: &[u8]) -> Result<(End, Vec<u8>), Memory>
     ensures { IfOk result (λ a. Checked bytes.now a.0 a.1.items) }
 {
     match read_report(alloc, bytes) {
