@@ -3,6 +3,17 @@
 //! `specs/`, and the lemmas in `proofs/` are cited by the crates above.
 #![tactic(auto)]
 
+mod border_pairs;
+mod borders;
 mod laws;
+mod names;
+mod order;
+mod rows;
+mod skeletons;
+mod tables;
+mod vertex;
 
+pub use borders::borders_of;
 pub use laws::{solutions_and_layouts, solvable_exactly_where_planar};
+pub use skeletons::{Skeletons, skeletons_of};
+pub use vertex::Vertex;

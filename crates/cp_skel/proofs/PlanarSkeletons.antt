@@ -10,7 +10,8 @@ use Rattle.cp_cgraph.specs.Clustered.{Clustered, IsClustered, nodes}
 use Rattle.cp_cgraph.specs.declared.layout.Layout.{Layout}
 use Rattle.cp_border.specs.Borders.{end_dart}
 use Rattle.cp_border.specs.Good.{IsCPlanar}
-use Rattle.cp_skel.specs.Skeletons.{Node, segment_name, skeletons, vertex_name}
+use Rattle.cp_skel.specs.declared.vertex.Vertex.TheVariants.{Node}
+use Rattle.cp_skel.specs.Skeletons.{segment_name, skeletons, vertex_name}
 use Rattle.cp_skel.specs.SolutionLayouts.{solution_layout}
 use Rattle.cp_skel.specs.VertexLists.{keeps, kept_list, layout_list}
 use Rattle.cp_skel.proofs.LayoutSolutions.{good-Solves, layout_list-at}
