@@ -20,7 +20,7 @@ use Rattle.cp_force.specs.declared.fitting.Fitted.{Fitted}
 use Rattle.cp_force.specs.Words.{turned_row}
 use Rattle.cp_force.specs.Fits.{Rises, AreBelow, IsFitted, IsFittedRow, IsTiedReading, IsTiedRow, words_of, ties_of, first_key, is_turned}
 use Rattle.cp_force.proofs.NodeLayers.{is_branching-P, is_branching-Q, has_vars_below-P, has_vars_below-Q, all-append, all-reverse}
-use Rattle.cp_force.proofs.PermutedRows.{zip_permuted, zip_flipped, all_permuted}
+use Rattle.cp_force.proofs.PermutedRows.{zip_permuted, zip_flipped, all_permuted, zip_join, zip_reversed}
 use Rattle.cp_force.proofs.RisingRows.{KeysRise, sorted_is_rising}
 use Rattle.cp_force.proofs.Words.{Reads-turned}
 
@@ -141,7 +141,8 @@ module _ (place : ℕ → ℕ) where
       let up : Rises place (cut.0 ++ cut.1) = subst (Rises place) cut.2 rise in
       let near = key_in may k f cut.0 z.0 cut.3 in (
         subst (λ m. AllByRecursion (λ g. m < key_of g) fs) (sym near.2)
-            (keys_behind may (place near.0) ks fs cut.1 z.1 cut.4 (λ y h. rises_across cut.0 cut.1 up near.0 y near.1 h)),
+            (keys_behind may (place near.0) ks fs cut.1 z.1 cut.4
+            (λ y h. rises_across cut.0 cut.1 up near.0 y near.1 h)),
         row_keys may ks fs cut.1 z.1 cut.4 (rises_right cut.0 cut.1 up),
       )
 
@@ -152,7 +153,8 @@ module _ (place : ℕ → ℕ) where
   row_near (k ∷ ks) [] z two = absurd z
   row_near (k ∷ ks) (f ∷ fs) z two = (
     z.0.near.0,
-    subst (Has z.0.near.0) (sym (all_leaves_cons k ks)) (Has-append_left z.0.near.0 (leaves k) (all_leaves ks) z.0.near.1),
+    subst (Has z.0.near.0) (sym (all_leaves_cons k ks)) (Has-append_left z.0.near.0 (leaves k)
+        (all_leaves ks) z.0.near.1),
     z.0.near.2,
   )
 
@@ -185,7 +187,8 @@ module _ (place : ℕ → ℕ) where
           → (xs ≡ f.word) × Licensed false may f.ties
       only may xs r rise =
           let turn = Reads_P may owner ks xs r in
-          let zipped = zip_permuted (λ g k. IsFitted place k g) ks turn.0 turn.1 row (zip_flipped (IsFitted place) ks row z) in
+          let zipped = zip_permuted (λ g k. IsFitted place k g) ks turn.0 turn.1 row (zip_flipped
+          (IsFitted place) ks row z) in
           let zip : AllZip (IsFitted place) turn.0 zipped.0 =
           zip_flipped (λ g k. IsFitted place k g) zipped.0 turn.0 zipped.2 in
           let same : sorted ≡ zipped.0 =
@@ -200,40 +203,23 @@ module _ (place : ℕ → ℕ) where
       reads may l =
           let zipped = zip_permuted (IsFitted place) row sorted perm ks z in
           any_order owner ks zipped.0 f.word zipped.1
-          (subst (ReadsAll may zipped.0) (sym word) (row_reads may zipped.0 sorted zipped.2 (subst (Licensed false may) ties l)))
-
-  -- rows joined at an item more
-  zip_join : (ks js : List Node) (fs gs : List Fitted) → AllZip (IsFitted place) ks fs → AllZip (IsFitted place) js gs
-      → AllZip (IsFitted place) (ks ++ js) (fs ++ gs)
-  zip_join [] js [] gs a b = b
-  zip_join [] js (f ∷ fs) gs a b = absurd a
-  zip_join (k ∷ ks) js [] gs a b = absurd a
-  zip_join (k ∷ ks) js (f ∷ fs) gs a b = (a.0, zip_join ks js fs gs a.1 b)
+          (subst (ReadsAll may zipped.0) (sym word) (row_reads may zipped.0 sorted zipped.2 (subst
+          (Licensed false may) ties l)))
 
   -- a node more
   pub zip_more : (ks : List Node) (fs : List Fitted) (k : Node) (f : Fitted) → AllZip (IsFitted place) ks fs
       → IsFitted place k f → AllZip (IsFitted place) (ks ++ k ∷ []) (fs ++ f ∷ [])
-  zip_more ks fs k f z fit = zip_join ks (k ∷ []) fs (f ∷ []) z (fit, tt)
-
-  -- the rows from their ends
-  zip_reverse : (ks : List Node) (fs : List Fitted) → AllZip (IsFitted place) ks fs
-      → AllZip (IsFitted place) (reverse ks) (reverse fs)
-  zip_reverse [] [] z = tt
-  zip_reverse [] (f ∷ fs) z = absurd z
-  zip_reverse (k ∷ ks) [] z = absurd z
-  zip_reverse (k ∷ ks) (f ∷ fs) z =
-      subst (λ w. AllZip (IsFitted place) w (reverse (f ∷ fs))) (sym (reverse-append (k ∷ []) ks))
-      (subst (AllZip (IsFitted place) (reverse ks ++ k ∷ [])) (sym (reverse-append (f ∷ []) fs))
-      (zip_join (reverse ks) (k ∷ []) (reverse fs) (f ∷ []) (zip_reverse ks fs z.1) (z.0, tt)))
+  zip_more ks fs k f z fit = zip_join (IsFitted place) ks (k ∷ []) fs (f ∷ []) z (fit, tt)
 
   -- the rows turned or not
   zip_turned : (b : Bool) (ks : List Node) (fs : List Fitted) → AllZip (IsFitted place) ks fs
       → AllZip (IsFitted place) (turned_row b ks) (turned_row b fs)
-  zip_turned true ks fs z = zip_reverse ks fs z
+  zip_turned true ks fs z = zip_reversed (IsFitted place) ks fs z
   zip_turned false ks fs z = z
 
   -- a row that reads forward by rising places is not turned
-  forward_turn : (may : ℕ → Bool → Bool) (ks : List Node) (fs : List Fitted) (xs : List ℕ) → AllZip (IsFitted place) ks fs
+  forward_turn : (may : ℕ → Bool → Bool) (ks : List Node) (fs : List Fitted) (xs : List ℕ)
+      → AllZip (IsFitted place) ks fs
       → 2 ≤ length ks → ReadsAll may ks xs → Rises place xs → is_turned fs ≡ false
   unfolding key_of
   forward_turn may [] fs xs z two r rise = absurd (omega arith)
@@ -277,7 +263,8 @@ module _ (place : ℕ → ℕ) where
     near = let near = row_near ks row z two in (near.0, near.1, key ∙ near.2);
     only = λ may way xs r rise. in_direction may xs way r rise (sym (way_is may xs way r rise) ∙ sym turn);
     reads = λ may l. subst (ReadsAll may (turned_row b ks)) (sym word)
-        (row_reads may (turned_row b ks) (turned_row b row) (zip_turned b ks row z) (subst (Licensed false may) ties l));
+        (row_reads may (turned_row b ks) (turned_row b row) (zip_turned b ks row z) (subst
+        (Licensed false may) ties l));
     below = λ vars h. subst (AreBelow vars) (sym ties) (flat_below vars (turned_row b row)
         (both_ways vars b row (rows_below vars ks row z h)));
   }
@@ -307,7 +294,8 @@ module _ (place : ℕ → ℕ) where
         (Reads_Q may var ks xs r);
     reads = reads;
     below = λ vars h.
-        let parts = and_parts (nat_lt var vars) (list_all (has_vars_below vars) ks) (sym (has_vars_below-Q vars var ks) ∙ h) in
+        let parts = and_parts (nat_lt var vars) (list_all (has_vars_below vars) ks) (sym
+        (has_vars_below-Q vars var ks) ∙ h) in
         subst (AreBelow vars) (sym ties) (all-append (λ (t : ℕ × Bool). t.0 < vars) g.ties ((var, b) ∷ [])
         (fit.below vars parts.1) (ltb-true var vars parts.0, tt));
   }

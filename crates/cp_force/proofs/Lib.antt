@@ -1,5 +1,6 @@
 pub mod Shapes
 pub mod Owners
+pub mod ShapeReadings
 mod NodeLayers
 mod Words
 mod PermutedRows
@@ -9,5 +10,8 @@ mod Mirrors
 mod RowsInOrders
 mod TiedParts
 mod BitLicences
+mod LeafRows
+mod ForcedTrees
+mod OpenedTrees
 mod PlacedOrders
 mod FittedNodes

@@ -63,7 +63,8 @@ reverse_read_row may way ks xs = (
 )
 
 -- ties by the turned licence are ties turned
-pub licence_turned : (may : ℕ → Bool → Bool) (ts : List (ℕ × Bool)) → Licensed false (turned may) ts ↔ Licensed true may ts
+pub licence_turned : (may : ℕ → Bool → Bool) (ts : List (ℕ × Bool))
+    → Licensed false (turned may) ts ↔ Licensed true may ts
 licence_turned may [] = (λ h. tt, λ h. tt)
 licence_turned may (t ∷ ts) =
     let rest = licence_turned may ts in (λ h. (h.0, rest.0 h.1), λ h. (h.0, rest.1 h.1))

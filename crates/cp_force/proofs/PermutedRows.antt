@@ -1,5 +1,6 @@
 -- Permutations of rows, and of pairs of rows.
-use Rattle.std.proofs.Common.{ℕ, zero, suc, ◌<◌, Bool, true, false, cond, List, [], ◌∷◌, filter, length, get_or, set, swap, arith, IsPermutation}
+use Rattle.std.proofs.Common.{ℕ, zero, suc, ◌<◌, Bool, true, false, cond, List, [], ◌∷◌, ◌++◌, filter, length, reverse, get_or, set, swap, sym, subst, arith, IsPermutation}
+use Rattle.std.proofs.lemmas.List.{reverse-append}
 use Rattle.std.specs.List.{AllZip, AllByRecursion}
 use Rattle.std.proofs.lemmas.List.Sorted.{IsPermutation-refl, IsPermutation-keeps, IsPermutation-trans, IsPermutation-append_left, IsPermutation-append_comm, IsPermutation-cons}
 
@@ -72,6 +73,25 @@ zip_flipped R [] [] z = tt
 zip_flipped R [] (f ∷ fs) z = absurd z
 zip_flipped R (k ∷ ks) [] z = absurd z
 zip_flipped R (k ∷ ks) (f ∷ fs) z = (z.0, zip_flipped R ks fs z.1)
+
+-- rows one behind the other
+pub zip_join : {A B : Type 0} (R : A → B → Type 0) (ks js : List A) (fs gs : List B) → AllZip R ks fs → AllZip R js gs
+    → AllZip R (ks ++ js) (fs ++ gs)
+zip_join R [] js [] gs a b = b
+zip_join R [] js (f ∷ fs) gs a b = absurd a
+zip_join R (k ∷ ks) js [] gs a b = absurd a
+zip_join R (k ∷ ks) js (f ∷ fs) gs a b = (a.0, zip_join R ks js fs gs a.1 b)
+
+-- rows from their ends
+pub zip_reversed : {A B : Type 0} (R : A → B → Type 0) (ks : List A) (fs : List B) → AllZip R ks fs
+    → AllZip R (reverse ks) (reverse fs)
+zip_reversed R [] [] z = tt
+zip_reversed R [] (f ∷ fs) z = absurd z
+zip_reversed R (k ∷ ks) [] z = absurd z
+zip_reversed R (k ∷ ks) (f ∷ fs) z =
+    subst (λ w. AllZip R w (reverse (f ∷ fs))) (sym (reverse-append (k ∷ []) ks))
+    (subst (AllZip R (reverse ks ++ k ∷ [])) (sym (reverse-append (f ∷ []) fs))
+    (zip_join R (reverse ks) (k ∷ []) (reverse fs) (f ∷ []) (zip_reversed R ks fs z.1) (z.0, tt)))
 
 -- what holds of each item holds of each item of a permutation
 pub all_permuted : {X : Type 0} (P : X → Type 0) (xs ys : List X) → IsPermutation xs ys → AllByRecursion P xs

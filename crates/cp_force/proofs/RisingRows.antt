@@ -94,7 +94,8 @@ module _ {X : Type 0} (key : X → ℕ) where
           let right : filter (behind (key h)) (h ∷ gs) ≡ gs =
           not_itself h gs ∙ all_behind (key h) gs (subst (λ z. AllByRecursion (λ g. key z < key g) gs) e b.0) in
           let inner : IsPermutation hs gs =
-          subst (λ z. IsPermutation hs z) right (subst (λ z. IsPermutation z (filter (behind (key h)) (h ∷ gs))) left behind_both) in
+          subst (λ z. IsPermutation hs z) right (subst (λ z. IsPermutation z (filter (behind (key h))
+          (h ∷ gs))) left behind_both) in
           ap (λ z. z ∷ gs) e ∙ ap (λ zs. h ∷ zs) (again inner)
 
   -- a row sorted by its keys is the row in which they rise

@@ -63,7 +63,8 @@ row_consecutive set row order p d has =
   where
     left : (before after : List ℕ) → Distinct (before ++ (row ++ after)) → (x : ℕ) → Has x before → Lacks x row
     left before after whole x h = Lacks-from x row
-        (λ r. has_lacks x (row ++ after) (Has-append_left x row after r) (Distinct-apart x before (row ++ after) whole h))
+        (λ r. has_lacks x (row ++ after) (Has-append_left x row after r) (Distinct-apart x before
+        (row ++ after) whole h))
 
 -- two cuts of a list at one length are one
 same_cut : (r s a b : List ℕ) → length r ≡ length s → r ++ a ≡ s ++ b → (r ≡ s) × (a ≡ b)
@@ -103,7 +104,8 @@ same_run (x ∷ b1) r1 a1 (y ∷ b2) r2 a2 p some d e =
     (ap₂ (λ z zs. z ∷ zs) head rest.0, rest.1, rest.2)
 
 -- a row without the root stands behind it
-pub behind_root : (root : ℕ) (word row : List ℕ) → Lacks root row → row ≢ [] → HasRow row (root ∷ word) → HasRow row word
+pub behind_root : (root : ℕ) (word row : List ℕ) → Lacks root row → row ≢ [] → HasRow row (root ∷ word)
+    → HasRow row word
 behind_root root word [] l some has = absurd (some refl)
 behind_root root word (x ∷ row) l some (before, after, e) = from before e
   where

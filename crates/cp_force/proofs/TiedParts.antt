@@ -79,7 +79,8 @@ q_word may var xs u r =
 abbrev pub HasOneBit : (ℕ → Bool → Bool) → Type 0
 HasOneBit may = (v : ℕ) (a b : Bool) → may v a ≡ true → may v b ≡ true → a ≡ b
 
--- a part with the readings K, in whose place the readings J are put: K reads the row in a direction exactly by the ties,
+-- a part with the readings K, in whose place the readings J are put: K reads the row in a direction exactly by the
+-- ties,
 -- and J reads the row in the direction of var alone. G tells the ways in which the place may be read
 pub record IsTiedPart (may : ℕ → Bool → Bool) (var : ℕ) (row : List ℕ) (ties : List (ℕ × Bool)) (G : Bool → Type 0)
     (K J : Bool → List ℕ → Type 0) : Type 0 where
@@ -92,14 +93,15 @@ pub record IsTiedPart (may : ℕ → Bool → Bool) (var : ℕ) (row : List ℕ)
       → Licensed c may ties → (u ≡ in_direction c row) × K way u
   pub able : ((b : Bool) → Licensed b may ties) → (way : Bool) → G way → (b : Bool) × K way (in_direction b row)
 
-module _ (may : ℕ → Bool → Bool) (var : ℕ) (n : Node) (row : List ℕ) (ties : List (ℕ × Bool)) (fit : IsTiedReading n row ties)
+module _ (may : ℕ → Bool → Bool) (var : ℕ) (n : Node) (row : List ℕ) (ties : List (ℕ × Bool))
+    (fit : IsTiedReading n row ties)
     (perm : IsPermutation row (leaves n)) where
   -- the readings of the node that is put in
-  abbrev Put : Bool → List ℕ → Type 0
+  abbrev pub Put : Bool → List ℕ → Type 0
   Put way u = Reads may (forced_node var row) u
 
   -- of the node that is taken out
-  abbrev Taken : Bool → List ℕ → Type 0
+  abbrev pub Taken : Bool → List ℕ → Type 0
   Taken way u = Reads may n u
 
   -- one leaf is read in each direction
@@ -108,7 +110,8 @@ module _ (may : ℕ → Bool → Bool) (var : ℕ) (n : Node) (row : List ℕ) (
   one_leaf x false = refl
 
   -- the row is put in
-  node_put : (xs : List ℕ) → xs ≢ [] → (b : Bool) → may var b ≡ true → Reads may (forced_node var xs) (in_direction b xs)
+  node_put : (xs : List ℕ) → xs ≢ [] → (b : Bool) → may var b ≡ true
+      → Reads may (forced_node var xs) (in_direction b xs)
   node_put [] some b m = absurd (some refl)
   node_put (x ∷ []) some b m = subst (Reads may (Leaf x)) (one_leaf x b) (leaf x)
   node_put (x ∷ y ∷ xs) some b m = q_reads may var (x ∷ y ∷ xs) b m
@@ -158,7 +161,8 @@ flip_twice false true = refl
 flip_twice false false = refl
 
 -- a row turned has the same leaves
-turned_leaves : (may : ℕ → Bool → Bool) (way : Bool) (ks : List Node) (u : List ℕ) → ReadsAll may (turned_row way ks) u
+pub turned_leaves : (may : ℕ → Bool → Bool) (way : Bool) (ks : List Node) (u : List ℕ)
+    → ReadsAll may (turned_row way ks) u
     → IsPermutation (all_leaves ks) u
 turned_leaves may true ks u r =
     IsPermutation-trans (all_leaves ks) (all_leaves (reverse ks)) u
@@ -168,20 +172,20 @@ turned_leaves may false ks u r = read_all_leaves may ks u r
 module _ (may : ℕ → Bool → Bool) (var v : ℕ) (ks : List Node) (row : List ℕ) (d : Bool) (ts : List (ℕ × Bool))
     (fit : IsTiedRow ks row d ts) (perm : IsPermutation row (all_leaves ks)) where
   -- the readings of the row of leaves that is put in
-  abbrev PutRow : Bool → List ℕ → Type 0
-  PutRow way u = ReadsAll may (turned_row way (turned_row d (map Leaf row))) u
+  abbrev pub PutRow : Bool → List ℕ → Type 0
+  PutRow way u = ReadsAll may (turned_row way (map Leaf (turned_row d row))) u
 
   -- of the row of nodes that is taken out
-  abbrev TakenRow : Bool → List ℕ → Type 0
+  abbrev pub TakenRow : Bool → List ℕ → Type 0
   TakenRow way u = ReadsAll may (turned_row way ks) u
 
   -- all ties, that of the var of the Q-node among them
-  abbrev all_ties : List (ℕ × Bool)
+  abbrev pub all_ties : List (ℕ × Bool)
   all_ties = ts ++ (v, d) ∷ []
 
   -- what is put in as leaves of a row
-  put_row : (way : Bool) → turned_row way (turned_row d (map Leaf row)) ≡ map Leaf (turned_row (flip way d) row)
-  put_row way = turned_both way d (map Leaf row) ∙ map_turned (flip way d) row
+  put_row : (way : Bool) → turned_row way (map Leaf (turned_row d row)) ≡ map Leaf (turned_row (flip way d) row)
+  put_row way = map_turned way (turned_row d row) ∙ ap (map Leaf) (turned_both way d row)
 
   -- what is put in is read in one direction
   row_word : (way : Bool) (u : List ℕ) → PutRow way u → u ≡ in_direction (flip way d) row
@@ -201,7 +205,8 @@ module _ (may : ℕ → Bool → Bool) (var v : ℕ) (ks : List Node) (row : Lis
         subst (λ z. ReadsAll may z (in_direction b row)) (sym (put_row way))
         (subst (λ z. ReadsAll may (map Leaf (turned_row z row)) (in_direction b row))
         (sym (ap (λ z. flip z d) h.0 ∙ flip_twice b d))
-        (subst (ReadsAll may (map Leaf (turned_row b row))) (sym (in_direction-turned b row)) (leaves_read may (turned_row b row))));
+        (subst (ReadsAll may (map Leaf (turned_row b row))) (sym (in_direction-turned b row)) (leaves_read may
+        (turned_row b row))));
     read = λ way u g r.
         let e = row_word way u r in (
           flip way d,

@@ -38,7 +38,8 @@ pub record IsFitted (place : ℕ → ℕ) (n : Node) (f : Fitted) : Type 0 where
   pub reads : (may : ℕ → Bool → Bool) → Licensed false may f.ties → Reads may n f.word
   pub below : (vars : ℕ) → has_vars_below vars n ≡ true → AreBelow vars f.ties
 
--- the same of a row of nodes that is read in its order or turned: by rising places it is read in one of these directions
+-- the same of a row of nodes that is read in its order or turned: by rising places it is read in one of these
+-- directions
 pub record IsFittedRow (place : ℕ → ℕ) (ks : List Node) (turned : Bool) (f : Fitted) : Type 0 where
   pub near : (x : ℕ) × Has x (all_leaves ks) × (f.key ≡ place x)
   pub only : (may : ℕ → Bool → Bool) (way : Bool) (xs : List ℕ) → ReadsAll may (turned_row way ks) xs → Rises place xs

@@ -114,6 +114,15 @@ fn fit_directed(alloc: Global, row: Vec<Fitted>) -> Result<(bool, Fitted), Memor
     Ok((turned, fitted))
 }
 
+/// The ties, and behind them one more.
+pub(crate) fn with_tie(ties: Ties, var: usize, turned: bool) -> Result<Ties, Memory>
+    ensures { IfOk result (λ all. all ≡ ties ++ (var, turned) ∷ []) }
+{
+    let mut all = ties;
+    all.push_back((var, turned))?;
+    Ok(all)
+}
+
 // A Q-node is tied to the direction of its kids.
 fn fit_q(alloc: Global, var: usize, row: Vec<Fitted>) -> Result<Fitted, Memory>
     ensures { IfOk result (λ f. (place : ℕ → ℕ) (kids : List Node) → AllZip (IsFitted place) kids row.items
@@ -121,8 +130,7 @@ fn fit_q(alloc: Global, var: usize, row: Vec<Fitted>) -> Result<Fitted, Memory>
 {
     let (turned, row_fitted) = fit_directed(alloc, row)?;
     let Fitted { key, word, ties } = row_fitted;
-    let mut all = ties;
-    all.push_back((var, turned))?;
+    let all = with_tie(ties, var, turned)?;
     Ok(Fitted {
         key,
         word,
@@ -203,8 +211,8 @@ pub(crate) fn fit(alloc: Global, node: &Node, order: &[usize]) -> Result<Option<
     Ok(None)
 }
 
-/// The direction and the ties in which the order is a reading of the row, or `None` where it is none in either direction.
-/// The cost is n log n in the size of the row.
+/// The direction and the ties in which the order is a reading of the row, or `None` where it is none in either
+/// direction. The cost is n log n in the size of the row.
 pub(crate) fn fit_run(
     alloc: Global,
     nodes: &[Node],

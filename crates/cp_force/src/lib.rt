@@ -4,6 +4,8 @@
 mod copying;
 mod fault;
 mod fitting;
+mod for_trees;
+mod forcing;
 mod order_tree;
 mod ownership;
 mod reading;
@@ -11,6 +13,7 @@ mod shaping;
 
 pub use copying::copy_of;
 pub use fault::ForceFault;
+pub use forcing::force;
 pub use order_tree::OrderTree;
 pub use ownership::owner_of;
 pub use reading::order_of;

@@ -47,7 +47,7 @@ pub trait OrderTree: Sized {
     fn replace(self, alloc: Global, set: &[usize], new: Node) -> Result<(Self, Part), Memory>
         requires leaf_set { IsLeafSet set.now (tree self) }
         requires consecutive { (order : List ℕ) → Admits (tree self) order → IsConsecutive set.now order }
-        requires fresh { IsFreshNode new (tree self) }
+        requires fresh { IsFreshNode set.now new (tree self) }
         ensures replaced { IfOk result (λ r. IsReplaced set.now new (tree self) (tree r.0) r.1) }
         ensures well_formed { IfOk result (λ r. IsWellFormed (tree r.0)) };
 

@@ -14,7 +14,8 @@ fit_row-loop-node-preserved t c = λ branching.
     let more : take (i + 1) ks ≡ take i ks ++ k ∷ [] =
     take_more ks i k c.loop-node-test.true ∙ ap (λ z. take i ks ++ z ∷ []) (sym c.node-item.is) in
     let two : is_branching k ≡ true =
-    subst (λ z. is_branching z ≡ true) (sym c.node-item.is) (all_at is_branching ks i k c.loop-node-test.true branching) in
+    subst (λ z. is_branching z ≡ true) (sym c.node-item.is)
+    (all_at is_branching ks i k c.loop-node-test.true branching) in
     subst (λ z. AllZip fit z c.push.new.self.items) (sym more)
     (subst (AllZip fit (take i ks ++ k ∷ [])) (sym c.in_ok-push.ensures.items)
     (zip_more (place_in c.args.places.now) (take i ks) c.loop-node.row.items k c.in_ok-fit_node.field-0
@@ -41,5 +42,6 @@ fit_node-returns-in_ok-kids_row-in-Q t c =
     subst (λ n. fit n f) (sym c.in-Q.is)
     (g (place_in c.args.places.now) c.in-Q.kids
     (subst (λ z. AllZip fit z c.in_ok-kids_row-in-Q.kids_row.items) c.items-in-Q.ensures
-    (c.in_ok-kids_row-in-Q.ensures (subst (λ z. list_all is_branching z ≡ true) (sym c.items-in-Q.ensures) two.1))) two.0))
+    (c.in_ok-kids_row-in-Q.ensures (subst (λ z. list_all is_branching z ≡ true)
+    (sym c.items-in-Q.ensures) two.1))) two.0))
     c.fit_q.result c.fit_q.ensures

@@ -11,10 +11,12 @@ loop-i-preserved c = λ distinct k lt.
     let i = c.loop-i.i in let xs = c.args.order.now in
     let updates = c.in_ok-insert.ensures.updates in
     ⊎_elim
-    (λ (e : k ≡ i). subst (λ z. place_in c.insert.new.self (get_or xs z 0) ≡ z) (sym e) (ap (λ o. unwrap_or o 0) updates.1))
+    (λ (e : k ≡ i). subst (λ z. place_in c.insert.new.self (get_or xs z 0) ≡ z) (sym e) (ap
+    (λ o. unwrap_or o 0) updates.1))
     (λ (ne : k ≡ i → ⊥).
     ap (λ o. unwrap_or o 0)
-    (updates.2 (get_or xs k 0) (ne_eqb (get_or xs i 0) (get_or xs k 0) (apart xs distinct i k c.loop-i-test.true (omega arith))))
+    (updates.2 (get_or xs k 0) (ne_eqb (get_or xs i 0) (get_or xs k 0) (apart xs distinct i k c.loop-i-test.true
+    (omega arith))))
     ∙ c.loop-i.invariant distinct k (omega arith))
     (cases_eq k i)
 
