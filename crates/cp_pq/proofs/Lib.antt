@@ -42,6 +42,7 @@ mod FilledRows
 mod SwappedOwners
 mod AlwaysTogether
 mod Cuts
+mod RisingLists
 mod TakenParts
 mod SomeReadings
 mod Replacements
