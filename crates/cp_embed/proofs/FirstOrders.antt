@@ -40,11 +40,11 @@ module _ (block : ListedGraph) (well : IsListedBlock block) (order later : List 
   n = block.graph.vertices
 
   -- the first vertex alone is taken
-  first_taken : taken_at order 1 ≡ s ∷ []
+  pub first_taken : taken_at order 1 ≡ s ∷ []
   first_taken = taken_more block well order later root ord 0 (omega (arith, order-long block well order later root ord))
 
   -- it makes a sweep
-  first_sweep : IsSweep (start ends) (length ends) r (s ∷ [])
+  pub first_sweep : IsSweep (start ends) (length ends) r (s ∷ [])
   first_sweep = subst (IsSweep (start ends) (length ends) r) first_taken
       (sweep_to block well order later root ord 0 (omega (arith, order-long block well order later root ord)))
 

@@ -13,6 +13,7 @@ mod FirstOrders
 mod BuiltTrees
 mod MetEquations
 mod UnwoundSteps
+mod UnwoundStages
 mod Cuts
 mod DartLists
 mod MovedVertices

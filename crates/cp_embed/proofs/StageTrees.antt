@@ -131,11 +131,11 @@ module _ (block : ListedGraph) (well : IsListedBlock block) (order later : List 
     others = taken_at order j
 
     -- all of these
-    taken_is : taken_at order (suc j) ≡ y ∷ others
+    pub taken_is : taken_at order (suc j) ≡ y ∷ others
     taken_is = taken_more j (omega (arith, lt))
 
     -- they make a sweep
-    sweep : IsSweep at e r (x ∷ y ∷ others)
+    pub sweep : IsSweep at e r (x ∷ y ∷ others)
     sweep = subst (IsSweep at e r) (taken_more (suc j) (omega (arith, lt)) ∙ ap (λ us. x ∷ us) taken_is)
         (sweep_to (suc j) (omega (arith, lt)))
 
@@ -144,13 +144,13 @@ module _ (block : ListedGraph) (well : IsListedBlock block) (order later : List 
     place-within = (order-within x).0 (Has_at order (suc j) (omega (arith, lt)))
 
     -- the edges of which it is the later end are its edges to what is taken
-    ins_are : (k : ℕ) → Has k (edges_in ends later x) ↔ Has k (map edge_of (ins_of at e (y ∷ others) x))
+    pub ins_are : (k : ℕ) → Has k (edges_in ends later x) ↔ Has k (map edge_of (ins_of at e (y ∷ others) x))
     ins_are = subst (λ us. (k : ℕ) → Has k (edges_in ends later x) ↔ Has k (map edge_of (ins_of at e us x))) taken_is
         (edges_in-ins ends well.no_loop order later ord.bipolar.each_once.each_once ord.later_ends (suc j)
         (omega (arith, lt)))
 
     -- its other edges are those to what is not taken
-    outs_are : (k : ℕ) → Has k (edges_out ends later x) ↔ Has k (map edge_of (outs_of at e (y ∷ others) x))
+    pub outs_are : (k : ℕ) → Has k (edges_out ends later x) ↔ Has k (map edge_of (outs_of at e (y ∷ others) x))
     outs_are = subst (λ us. (k : ℕ) → Has k (edges_out ends later x) ↔ Has k (map edge_of (outs_of at e us x))) taken_is
         (edges_out-outs ends well.no_loop order later ord.bipolar.each_once.each_once ord.later_ends (suc j)
         (omega (arith, lt)))
