@@ -1,5 +1,5 @@
 -- The pairs of segments that meet at the borders, edge by edge, and which clusters some edge leaves.
-use Rattle.std.proofs.Common.{◌≡◌, ℕ, ◌+◌, ◌*◌, ◌/◌, ◌<◌, Bool, true, false, List, [], ◌∷◌, ◌++◌, length, map, append_assoc, sym, refl, ap, ap₂, ◌∙◌, subst, inl, inr, ⊎_elim, arith}
+use Rattle.std.proofs.Common.{◌≡◌, ℕ, ◌+◌, ◌*◌, ◌/◌, ◌<◌, Bool, true, false, List, [], ◌∷◌, ◌++◌, length, map, append_assoc, sym, refl, ap, ap₂, ◌∙◌, subst, inl, ⊎_elim, arith}
 use Rattle.std.specs.Prelude.{cond, eqb, ltb, slice_index, slice_index_or, slice_set}
 use Rattle.std.specs.List.{filter}
 use Rattle.std.proofs.lemmas.Bool.{cases_Bool, cases_eq, cond-false, cond-true, eq-eqb, false≢true, lt-ltb, ne_eqb}
@@ -19,7 +19,6 @@ use Rattle.cp_skel.specs.Skeletons.{below, is_left, kept_segments, segment_name}
 use Rattle.cp_skel.specs.SkeletonTables.{AreEmpty, ArePaired, border_pair_of, first_name, first_pairs, kept_count}
 use Rattle.cp_skel.proofs.DartVertices.{leaves-no_loop}
 use Rattle.cp_skel.proofs.GatheredLists.{kept_more}
-use Rattle.cp_skel.proofs.KeptSegments.{IsSegmentOf}
 use Rattle.cp_skel.proofs.Ranges.{Has-range, range-Has}
 use Rattle.cp_skel.proofs.SegmentNames.{length-kept_segments, segment_name-is}
 use Rattle.cp_skel.proofs.SkeletonPipes.{left-edge}
@@ -118,7 +117,8 @@ module _ (g : Clustered) (is : IsClustered g) (c e : ℕ) (lt : e < edges g) (cl
       omega (arith, at.within, next, all, length-kept_segments g)
 
 -- no edge has been looked at
-pub ArePaired-none : (g : Clustered) (pairs : List (List (ℕ × ℕ))) → AreEmpty (clusters g) pairs → ArePaired g 0 [] pairs
+pub ArePaired-none : (g : Clustered) (pairs : List (List (ℕ × ℕ))) → AreEmpty (clusters g) pairs
+    → ArePaired g 0 [] pairs
 ArePaired-none g pairs empty = record { size = empty.size; each = empty.each }
 
 -- one border more of edge n
@@ -209,11 +209,17 @@ length-Has (x ∷ xs) lt = (x, inl refl)
 pub pairs-left : (g : Clustered) (pairs : List (List (ℕ × ℕ))) → ArePaired g (edges g) [] pairs → (c : ℕ)
     → c < clusters g → 0 < length (slice_index_or pairs c []) → is_left g c ≡ true
 pairs-left g pairs are c cluster some =
-    let e = length-Has (filter (leaves g c) (below (edges g))) (omega (arith, some, length-pairs g pairs are c cluster)) in
+    let e = length-Has (filter (leaves g c) (below (edges g))) (omega (
+      arith,
+      some,
+      length-pairs g pairs are c
+          cluster,
+    )) in
     let w = filter-Has (leaves g c) e.0 (below (edges g)) e.1 in
     let r = range-Has e.0 0 (edges g) w.0 in
     let above : 0 < c =
-    ⊎_elim (λ z. absurd (false≢true (ap (λ (b : ℕ). leaves g b e.0) (sym z) ∙ w.1))) (λ nz. omega arith) (cases_eq c 0) in
+    ⊎_elim (λ z. absurd (false≢true (ap (λ (b : ℕ). leaves g b e.0) (sym z)
+    ∙ w.1))) (λ nz. omega arith) (cases_eq c 0) in
     is_left-from g c e.0 above (omega (arith, r.1)) w.1
 
 -- and none leaves one that has none
@@ -223,7 +229,8 @@ pairs-not_left g pairs are c cluster nothing = ⊎_elim
     (λ t.
     let e = left-edge g c t in
     let h = Has-length e.0 (filter (leaves g c) (below (edges g)))
-    (Has-filter (leaves g c) e.0 (below (edges g)) (Has-range e.0 0 (edges g) (omega arith) (omega (arith, e.1))) e.2) in
+    (Has-filter (leaves g c) e.0 (below (edges g)) (Has-range e.0 0 (edges g) (omega arith) (omega (arith, e.1)))
+    e.2) in
     absurd (omega (arith, h, nothing, length-pairs g pairs are c cluster)))
     (λ f. f)
     (cases_Bool (is_left g c))

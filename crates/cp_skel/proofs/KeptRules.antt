@@ -1,14 +1,14 @@
 -- Each part of an instance that keeps the rules keeps each rule, so none of them is broken.
-use Rattle.std.proofs.Common.{◌≡◌, ℕ, zero, suc, ◌+◌, ◌^◌, ◌<◌, ◌≤◌, List, [], ◌∷◌, ◌++◌, length, map, take, drop, add-one, sym, ap, ◌∙◌, subst, inl, inr, refl, ⊎_elim, arith}
+use Rattle.std.proofs.Common.{◌≡◌, ℕ, zero, suc, ◌+◌, ◌^◌, ◌<◌, List, [], ◌∷◌, ◌++◌, length, map, take, drop, add-one, sym, ap, ◌∙◌, subst, inl, inr, refl, ⊎_elim, arith}
 use Rattle.std.specs.Prelude.{slice_index, slice_index_or}
-use Rattle.std.specs.List.{All, Contains, flat_map, range_with_len}
+use Rattle.std.specs.List.{All, flat_map, range_with_len}
 use Rattle.std.specs.List.Sorted.{IsStrictlyIncreasing}
 use Rattle.std.proofs.lemmas.Bool.{cases_eq}
 use Rattle.std.proofs.lemmas.List.{get_or_default, get_or-append-add, get_or-take, length-append, length-map, length-take-le, take-append-drop}
 use Rattle.std.proofs.Math.ListN.{get_or-append}
 use Rattle.std.proofs.Math.Seq.{drop-cons}
 use Rattle.std.proofs.lemmas.List.Concat.{flat_map-append}
-use Rattle.std.proofs.lemmas.List.Elements.{All-append, All-nil}
+use Rattle.std.proofs.lemmas.List.Elements.{All-append}
 use Rattle.cp_lists.specs.CyclicLists.{Distinct, Has, Lacks}
 use Rattle.cp_lists.proofs.DistinctLists.{Distinct-apart_right, Has-append_left}
 use Rattle.cp_board.specs.declared.parts.Kind.TheVariants.{P}
@@ -31,7 +31,8 @@ All-second holds xs ys all k d lt =
     subst holds (get_or-append-add xs ys k d) (all (length xs + k) d (omega (arith, lt, length-append xs ys)))
 
 -- what holds of all items of some pieces holds of those of each
-All-piece : {A B : Type 0} (holds : B → Type 0) (f : A → List B) (xs : List A) → All holds (flat_map f xs) → (k : ℕ) (d : A)
+All-piece : {A B : Type 0} (holds : B → Type 0) (f : A → List B) (xs : List A) → All holds (flat_map f xs)
+    → (k : ℕ) (d : A)
     → k < length xs → All holds (f (slice_index_or xs k d))
 All-piece holds f [] all k d lt = absurd (omega arith)
 All-piece holds f (x ∷ xs) all zero d lt = All-first holds (f x) (flat_map f xs) all
@@ -46,7 +47,8 @@ rising_before names up j (suc k) less lt =
     let step : slice_index names k < slice_index names (k + 1) = up k (omega arith) in
     let last : slice_index names (k + 1) ≡ slice_index names (suc k) = ap (slice_index names) (add-one k) in
     ⊎_elim
-    (λ same. let e : slice_index names j ≡ slice_index names k = ap (slice_index names) same in omega (arith, step, last, e))
+    (λ same. let e : slice_index names j ≡ slice_index names k =
+    ap (slice_index names) same in omega (arith, step, last, e))
     (λ ne. let first = rising_before names up j k (omega arith) (omega arith) in omega (arith, step, last, first))
     (cases_eq j k)
 
@@ -57,7 +59,8 @@ IsNextName-from names are k lt = (
   λ j d within.
       let less : j < k = let h = length-take-le k names (omega (arith, lt)) in omega (arith, within, h) in
       let at : slice_index_or (take k names) j d ≡ slice_index_or names j d = get_or-take k names j d less in
-      let same : slice_index_or names j d ≡ slice_index names j = sym (get_or_default names j 0 d (omega (arith, less, lt))) in
+      let same : slice_index_or names j d ≡ slice_index names j =
+      sym (get_or_default names j 0 d (omega (arith, less, lt))) in
       let up = rising_before names are.rise j k less lt in
       omega (arith, at, same, up),
 )
@@ -81,7 +84,8 @@ module _ (i : Synchronized) (is : IsSynchronized i) where
       let whole : take k i.pipes ++ (p ∷ rest) ≡ i.pipes =
       ap (λ ps. take k i.pipes ++ ps) (sym (drop-cons i.pipes k none lt)) ∙ take-append-drop k i.pipes in
       let apart : Distinct (flat_map ends (take k i.pipes) ++ flat_map ends (p ∷ rest)) =
-      subst Distinct (ap (flat_map ends) (sym whole) ∙ flat_map-append ends (take k i.pipes) (p ∷ rest)) is.ends_apart in
+      subst Distinct (ap (flat_map ends) (sym whole) ∙ flat_map-append ends (take k i.pipes) (p ∷ rest))
+      is.ends_apart in
       Distinct-apart_right x (flat_map ends (take k i.pipes)) (flat_map ends (p ∷ rest)) apart
       (Has-append_left x (ends p) (flat_map ends rest) h)
 

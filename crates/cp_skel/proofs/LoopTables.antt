@@ -34,7 +34,8 @@ loops-yes g e v s t =
     ∙ ap (λ (xs : List ℕ). first_loops g e v ++ xs) (cond-true test (e ∷ []) [] passes))
     ∙ ap loop_darts (map-append double (first_loops g e v) (e ∷ []))
     ∙ loop_darts-more old (2 * e)
-    ∙ ap (λ (d : ℕ). (loop_darts old ++ (2 * e) ∷ []) ++ d ∷ []) (twin_even (2 * e) (let h : 2 * e % 2 ≡ 0 = omega arith in h))
+    ∙ ap (λ (d : ℕ). (loop_darts old ++ (2 * e) ∷ []) ++ d ∷ []) (twin_even (2 * e) (let h : 2 * e % 2 ≡ 0 =
+    omega arith in h))
 
 -- and the same where it is not at the node
 loops-no : (g : Clustered) (e v : ℕ) → (source g e ≡ v → target g e ≡ v → ⊥)

@@ -1,12 +1,11 @@
 -- The tables of the names of vertices, written vertex by vertex.
-use Rattle.std.proofs.Common.{◌≡◌, ◌≢◌, ℕ, zero, suc, ◌+◌, ◌<◌, ◌≤◌, List, [], ◌∷◌, ◌++◌, length, map, sym, refl, ap, ◌∙◌, subst, ⊎_elim, arith}
-use Rattle.std.specs.Prelude.{Bool, cond, eqb, false, true, slice_index_or, slice_set, Option, Some, None}
+use Rattle.std.proofs.Common.{◌≡◌, ℕ, zero, suc, ◌+◌, ◌<◌, ◌≤◌, List, [], ◌∷◌, ◌++◌, length, map, sym, ap, ◌∙◌, subst, ⊎_elim, arith}
+use Rattle.std.specs.Prelude.{cond, eqb, true, slice_index_or, slice_set, Option, Some, None}
 use Rattle.std.specs.List.{All, filter, flat_map, range_with_len}
 use Rattle.std.proofs.lemmas.Bool.{cases_Bool, cases_eq, cond-false, cond-true, false≢true}
 use Rattle.std.proofs.lemmas.List.{get_or-set_other, get_or-set_same, length-set}
 use Rattle.std.proofs.lemmas.List.Elements.{All-append, All-cons, All-nil}
 use Rattle.std.proofs.lemmas.List.FromFn.{fill_by_all}
-use Rattle.cp_lists.specs.CyclicLists.{Has}
 use Rattle.cp_lists.proofs.FilteredLists.{filter-Has}
 use Rattle.cp_cgraph.specs.Clustered.{Clustered, IsClustered, clusters, home, nodes, parent}
 use Rattle.cp_skel.specs.declared.vertex.Vertex.{Vertex}
@@ -102,7 +101,8 @@ AreNodesTold-more g k v names new are lt at is =
           get_or-set_other names v w k 0 (λ e. ne (sym e))
           ∙ are.told j w
           (⊎_elim
-          (λ last. absurd (ne (ap number (sym at ∙ ap (λ (i : ℕ). slice_index_or (all_vertices g) i (Node 0)) (sym last) ∙ at_j))))
+          (λ last. absurd (ne (ap number (sym at ∙ ap (λ (i : ℕ). slice_index_or (all_vertices g) i (Node 0)) (sym
+          last) ∙ at_j))))
           (λ before. omega arith)
           (cases_eq j k))
           at_j)

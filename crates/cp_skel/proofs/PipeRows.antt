@@ -54,14 +54,21 @@ pipes-left g c pipes pipe left is is_pipe =
     ∙ ap (pipes_of g) (sym (kept_more (is_left g) c))
 
 -- the same by the parts of the pipe
-pub pipes-left_row : (g : Clustered) (c : ℕ) (pipes : List Pipe) (name a b : ℕ) (pairs : List (ℕ × ℕ)) → is_left g c ≡ true
+pub pipes-left_row : (g : Clustered) (c : ℕ) (pipes : List Pipe) (name a b : ℕ) (pairs : List (ℕ × ℕ))
+    → is_left g c ≡ true
     → pipes ≡ pipes_of g (filter (is_left g) (below c)) → name ≡ length pipes → a ≡ vertex_name g (Child c)
     → b ≡ vertex_name g (Outside c) → pairs ≡ border_pairs g c
     → (let pipe : Pipe = record { name = name; a = a; b = b; pairs = pairs } in
     pipes ++ pipe ∷ [] ≡ pipes_of g (filter (is_left g) (below (c + 1))))
 pipes-left_row g c pipes name a b pairs left is is_name is_a is_b is_pairs =
     let pipe : Pipe = record { name = name; a = a; b = b; pairs = pairs } in
-    let ends : pipe ≡ (let p : Pipe = record { name = length pipes; a = vertex_name g (Child c); b = b; pairs = pairs } in p) =
+    let ends : pipe ≡ (let p : Pipe = record {
+      name = length pipes;
+      a = vertex_name g (Child c);
+      b = b;
+      pairs =
+          pairs;
+    } in p) =
     ap₂ (λ (m n : ℕ). let p : Pipe = record { name = m; a = n; b = b; pairs = pairs } in p) is_name is_a in
     let rest : (let p : Pipe = record { name = length pipes; a = vertex_name g (Child c); b = b; pairs = pairs } in p)
     ≡ skeleton_pipe g (length pipes) c =

@@ -1,7 +1,7 @@
 -- The name of a segment by counting: the segments of the edges before that are no loops, and those before it along its
 -- edge.
 use Rattle.std.proofs.Common.{◌≡◌, ℕ, ◌+◌, ◌<◌, length, sym, ap, ◌∙◌, ⊎_elim, arith}
-use Rattle.std.specs.Prelude.{cond, eqb, slice_index_or}
+use Rattle.std.specs.Prelude.{eqb, slice_index_or}
 use Rattle.std.proofs.lemmas.Bool.{cases_eq, cond-false, cond-true, eq-eqb, ne_eqb}
 use Rattle.std.proofs.lemmas.List.FromFn.{get_or-range_with_len, length-range_with_len}
 use Rattle.cp_conn.specs.NamedGraphs.{rank}

@@ -56,7 +56,8 @@ AreNames-below n small = record {
 }
 
 -- what holds of what is made of each item
-pub All-map : {X : Type 0} (Q : X → Type 0) (f : ℕ → X) (xs : List ℕ) → ((x : ℕ) → Has x xs → Q (f x)) → All Q (map f xs)
+pub All-map : {X : Type 0} (Q : X → Type 0) (f : ℕ → X) (xs : List ℕ) → ((x : ℕ) → Has x xs → Q (f x))
+    → All Q (map f xs)
 All-map Q f [] of = All-nil Q
 All-map Q f (x ∷ xs) of = All-cons Q (f x) (map f xs) (of x (inl refl)) (All-map Q f xs (λ y h. of y (inr h)))
 

@@ -1,6 +1,6 @@
 -- The lists of a solution of the skeletons, and the layout made of them with each list from its least item on.
 use Rattle.std.proofs.Common.{◌≡◌, ℕ, zero, suc, ◌-◌, ◌*◌, ◌/◌, ◌<◌, Bool, true, false, List, [], ◌∷◌, length, map, sym, refl, ap, ◌∙◌, subst, ⊎_elim, arith}
-use Rattle.std.specs.Prelude.{slice_index, slice_index_or, Option, Some, None}
+use Rattle.std.specs.Prelude.{slice_index, slice_index_or, Some, None}
 use Rattle.std.specs.List.{All}
 use Rattle.std.proofs.lemmas.Bool.{cases_Bool, cond-false, cond-true}
 use Rattle.std.proofs.lemmas.List.{get_or_default, length-map}
@@ -89,7 +89,8 @@ from_least-IsTurnedLayout l =
     }
 
 -- a solution of the skeletons
-module _ (g : Clustered) (is : IsClustered g) (lists : List (ℕ × List ℕ)) (solution : IsSolution (skeletons g) lists) where
+module _ (g : Clustered) (is : IsClustered g) (lists : List (ℕ × List ℕ)) (solution : IsSolution (skeletons g)
+    lists) where
   -- its names are those of the vertices
   pub solution-names : map (λ x. x.0) lists ≡ below (length (all_vertices g))
   solution-names = solution.names ∙ vert_names-skeletons g
@@ -109,7 +110,8 @@ module _ (g : Clustered) (is : IsClustered g) (lists : List (ℕ × List ℕ)) (
   pub from_least-IsGood : IsGood g (from_least (solution_layout g (list_in lists)))
   from_least-IsGood =
       let l : Layout = solution_layout g (list_in lists) in
-      turned-IsGood g l (from_least l) is (from_least-IsTurnedLayout l) (Solves-good g (list_in lists) is solution.solves)
+      turned-IsGood g l (from_least l) is (from_least-IsTurnedLayout l) (Solves-good g (list_in lists) is
+      solution.solves)
 
   -- and it has at each node, up to a turn, the list of the solution
   pub from_least-node : (v : ℕ) → v < nodes g

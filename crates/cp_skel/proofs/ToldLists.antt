@@ -19,7 +19,8 @@ node_names-at g v d lt = get_or-map-range_with_len (λ v. vertex_name g (Node v)
 pub length-child_names : (g : Clustered) → length (child_names g) ≡ clusters g
 length-child_names g = length-map-range_with_len (name_if_left g Child) 0 (clusters g)
 
-pub child_names-at : (g : Clustered) (c : ℕ) → c < clusters g → slice_index_or (child_names g) c None ≡ name_if_left g Child c
+pub child_names-at : (g : Clustered) (c : ℕ) → c < clusters g
+    → slice_index_or (child_names g) c None ≡ name_if_left g Child c
 child_names-at g c lt = get_or-map-range_with_len (name_if_left g Child) 0 (clusters g) c c None lt (omega arith)
 
 -- and for its outside

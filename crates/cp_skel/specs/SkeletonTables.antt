@@ -11,7 +11,7 @@ use Rattle.cp_skel.specs.LoopLists.{loop_darts}
 use Rattle.cp_skel.specs.SkeletonLists.{in_dart, out_dart}
 use Rattle.cp_skel.specs.declared.vertex.Vertex.{Vertex}
 use Rattle.cp_skel.specs.declared.vertex.Vertex.TheVariants.{Child, Node, Outside}
-use Rattle.cp_skel.specs.Skeletons.{all_vertices, below, is_left, kept_segments, segment_name, segments_of, skeleton_edge, skeleton_pipe, skeletons, vertex_name, vertices_in}
+use Rattle.cp_skel.specs.Skeletons.{all_vertices, below, is_left, kept_segments, segment_name, segments_of, skeleton_edge, skeleton_pipe, skeletons, vertex_name}
 use Rattle.cp_skel.specs.SolutionLayouts.{name_edge}
 
 -- the name of the vertex of each node

@@ -17,3 +17,6 @@ pub use borders::borders_of;
 pub use laws::{solutions_and_layouts, solvable_exactly_where_planar};
 pub use skeletons::{Skeletons, skeletons_of};
 pub use vertex::Vertex;
+
+#[cfg(test)]
+mod tests;

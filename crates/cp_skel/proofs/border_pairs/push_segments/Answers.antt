@@ -1,5 +1,5 @@
-use Rattle.std.proofs.Common.{◌≡◌, ℕ, ap, sym, ◌∙◌, arith}
-use Rattle.cp_skel.proofs.SegmentRows.{owners-more, first_name-loop, first_name-kept}
+use Rattle.std.proofs.Common.{ap, sym, ◌∙◌, arith}
+use Rattle.cp_skel.proofs.SegmentRows.{owners-more}
 use Rattle.cp_skel.proofs.border_pairs.push_segments.Goals as goal
 
 pub loop-k-preserved : goal.loop-k-preserved

@@ -13,7 +13,8 @@ pub index_mut-requires : goal.index_mut-requires
 index_mut-requires c =
     let k : c.loop-k.k < length (all_vertices c.args.g.now) = omega (arith, ap length c.requires.vertices) in
     let node = outside_at c.args.g.now c.loop-k.k c.in-Outside.c k
-    (vertex_found c.args.g.now c.args.vertices.now c.loop-k.k (Outside c.in-Outside.c) c.requires.vertices c.in-Outside.is) in
+    (vertex_found c.args.g.now c.args.vertices.now c.loop-k.k (Outside c.in-Outside.c) c.requires.vertices
+    c.in-Outside.is) in
     omega (arith, node.0, c.loop-k.invariant.size, c.loop-k.names.ok)
 
 pub loop-k-preserved : goal.loop-k-preserved
@@ -24,7 +25,8 @@ loop-k-preserved c =
           let at = vertex_found c.args.g.now c.args.vertices.now c.loop-k.k (Outside w.in-Outside.c) c.requires.vertices
           w.in-Outside.is in
           subst (AreClustersTold c.args.g.now Outside (c.loop-k.k + 1)) (sym (ap (λ v. v.items) w.names-is))
-          (AreClustersTold-more c.args.g.now Outside (λ b d e. ap number e) c.loop-k.k w.in-Outside.c c.loop-k.names.items
+          (AreClustersTold-more c.args.g.now Outside (λ b d e. ap number e) c.loop-k.k w.in-Outside.c
+          c.loop-k.names.items
           (slice_set c.loop-k.names.items w.in-Outside.c (Some c.loop-k.k)) c.loop-k.invariant lt at
           (outside_at c.args.g.now c.loop-k.k w.in-Outside.c lt at) refl)
       | in_default w ↦

@@ -10,7 +10,12 @@ use Rattle.cp_skel.proofs.order.ordered.Goals.{then-left-c+in_ok-push, else-left
 use Rattle.cp_skel.proofs.order.ordered.Goals as goal
 
 pub bounds-left-c : goal.bounds-left-c
-bounds-left-c c = omega (arith, ap length c.requires.left, length-left_clusters c.args.g.now, c.clusters-c-end.ensures.value)
+bounds-left-c c = omega (
+  arith,
+  ap length c.requires.left,
+  length-left_clusters c.args.g.now,
+  c.clusters-c-end.ensures.value,
+)
 
 pub loop-c-preserved : goal.loop-c-preserved
 loop-c-preserved c =
@@ -19,7 +24,11 @@ loop-c-preserved c =
     left_clusters-at c.args.g.now c.args.left.now c.loop-c.c false c.requires.left cluster in
     let own : c.items.result.now ≡ filter (λ v. eqb (home c.args.g.now v) c.loop-c.c) (below (nodes c.args.g.now)) =
     c.items.ensures ∙ c.index-homes-c.is
-    ∙ get_or_default c.args.homes.now c.loop-c.c c.index-homes-c.result [] (omega (arith, c.requires.homes.size, cluster))
+    ∙ get_or_default c.args.homes.now c.loop-c.c c.index-homes-c.result [] (omega (
+      arith,
+      c.requires.homes.size,
+      cluster,
+    ))
     ∙ c.requires.homes.each c.loop-c.c cluster in
     let children : c.items-in-loop-c.result.now
     ≡ filter (λ d. eqb (parent c.args.g.now d) c.loop-c.c) (left c.args.g.now) =

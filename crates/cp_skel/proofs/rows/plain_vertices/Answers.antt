@@ -1,4 +1,4 @@
-use Rattle.std.proofs.Common.{◌≡◌, ℕ, ◌++◌, ◌∷◌, [], List, ap, sym, ◌∙◌}
+use Rattle.std.proofs.Common.{ℕ, ◌++◌, ◌∷◌, [], List, ap, sym, ◌∙◌}
 use Rattle.cp_board.specs.declared.parts.Kind.TheVariants.{P}
 use Rattle.cp_board.specs.declared.parts.Vert.{Vert}
 use Rattle.cp_skel.proofs.GatheredLists.{map_more}

@@ -1,4 +1,4 @@
-use Rattle.std.proofs.Common.{◌≡◌, ℕ, ◌^◌, ◌≤◌, length, map, ap, ◌∙◌, arith}
+use Rattle.std.proofs.Common.{◌≡◌, ℕ, length, map, ap, ◌∙◌, arith}
 use Rattle.cp_board.specs.declared.parts.Kind.TheVariants.{P}
 use Rattle.cp_board.specs.declared.parts.Vert.{Vert}
 use Rattle.cp_cgraph.specs.Clustered.{clusters}

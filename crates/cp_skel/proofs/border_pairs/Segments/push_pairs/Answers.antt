@@ -11,14 +11,16 @@ use Rattle.cp_skel.proofs.border_pairs.Segments.push_pairs.Goals as goal
 pub push_at-requires : goal.push_at-requires
 push_at-requires c =
     let at = crossed-at (clusters c.args.self.now.graph.now) (λ b. leaves c.args.self.now.graph.now b c.args.e)
-    (crossings c.args.self.now.graph.now c.args.e) c.deref-c-items.result.now c.loop-c.c-index c.crossings_are_left.ensures
+    (crossings c.args.self.now.graph.now c.args.e) c.deref-c-items.result.now c.loop-c.c-index
+    c.crossings_are_left.ensures
     (c.deref-c-items.ensures.value ∙ c.in_ok-crossings.ensures) c.loop-c-test.true in
     omega (arith, at.0, c.loop-c.invariant.size)
 
 pub loop-c-preserved : goal.loop-c-preserved
 loop-c-preserved c =
     let at = crossed-at (clusters c.args.self.now.graph.now) (λ b. leaves c.args.self.now.graph.now b c.args.e)
-    (crossings c.args.self.now.graph.now c.args.e) c.deref-c-items.result.now c.loop-c.c-index c.crossings_are_left.ensures
+    (crossings c.args.self.now.graph.now c.args.e) c.deref-c-items.result.now c.loop-c.c-index
+    c.crossings_are_left.ensures
     (c.deref-c-items.ensures.value ∙ c.in_ok-crossings.ensures) c.loop-c-test.true in
     let b : ℕ = slice_index c.deref-c-items.result.now c.loop-c.c-index in
     subst (λ (cs : List ℕ). ArePaired c.args.self.now.graph.now c.args.e cs c.push_at.new.lists.items)

@@ -1,4 +1,4 @@
-use Rattle.std.proofs.Common.{◌≡◌, ℕ, List, length, ap, ◌∙◌, arith}
+use Rattle.std.proofs.Common.{ℕ, List, length, ap, ◌∙◌, arith}
 use Rattle.std.specs.Prelude.{None, Option, slice_index_or}
 use Rattle.cp_skel.proofs.ToldLists.{child_names-at, length-child_names}
 use Rattle.cp_skel.proofs.borders.Solved.child.Goals as goal

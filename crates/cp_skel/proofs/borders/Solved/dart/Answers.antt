@@ -1,4 +1,4 @@
-use Rattle.std.proofs.Common.{◌≡◌, sym, ap, ◌∙◌, arith}
+use Rattle.std.proofs.Common.{sym, ap, ◌∙◌, arith}
 use Rattle.cp_skel.proofs.SolvedSteps.{dart-source, dart-target}
 use Rattle.cp_skel.proofs.borders.Solved.dart.Goals as goal
 

@@ -1,4 +1,4 @@
-use Rattle.std.proofs.Common.{◌≡◌, ℕ, List, length, ap, ◌∙◌, arith}
+use Rattle.std.proofs.Common.{ℕ, List, length, ap, ◌∙◌, arith}
 use Rattle.std.specs.Prelude.{slice_index}
 use Rattle.cp_skel.proofs.SolvedLists.{name_edge-lt}
 use Rattle.cp_skel.proofs.ToldLists.{graph_edges-at, length-graph_edges}

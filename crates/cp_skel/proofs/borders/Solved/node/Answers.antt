@@ -1,4 +1,4 @@
-use Rattle.std.proofs.Common.{◌≡◌, ℕ, List, length, ap, ◌∙◌, arith}
+use Rattle.std.proofs.Common.{ℕ, List, length, ap, ◌∙◌, arith}
 use Rattle.std.specs.Prelude.{slice_index}
 use Rattle.cp_skel.specs.Skeletons.{IsVertex}
 use Rattle.cp_skel.specs.declared.vertex.Vertex.TheVariants.{Node}

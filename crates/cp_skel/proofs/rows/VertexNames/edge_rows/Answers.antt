@@ -1,4 +1,4 @@
-use Rattle.std.proofs.Common.{◌≡◌, ap, sym, ◌∙◌}
+use Rattle.std.proofs.Common.{ap, sym, ◌∙◌}
 use Rattle.cp_skel.proofs.SegmentRows.{rows-loop}
 use Rattle.cp_skel.proofs.rows.VertexNames.edge_rows.Goals.{then-source-target+in_ok-push_segments, else-source-target}
 use Rattle.cp_skel.proofs.rows.VertexNames.edge_rows.Goals as goal

@@ -1,4 +1,4 @@
-use Rattle.std.proofs.Common.{◌≡◌, ℕ, List, ap, ◌∙◌}
+use Rattle.std.proofs.Common.{ℕ, List, ap, ◌∙◌}
 use Rattle.std.specs.Prelude.{slice_index_or}
 use Rattle.cp_skel.proofs.ToldLists.{node_names-at}
 use Rattle.cp_skel.proofs.rows.VertexNames.node.Goals as goal

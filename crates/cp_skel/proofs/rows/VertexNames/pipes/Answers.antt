@@ -1,4 +1,4 @@
-use Rattle.std.proofs.Common.{◌≡◌, ℕ, ◌<◌, ◌≤◌, [], false, length, ap, sym, ◌∙◌, arith}
+use Rattle.std.proofs.Common.{◌≡◌, ℕ, ◌<◌, [], false, length, ap, sym, ◌∙◌, arith}
 use Rattle.std.specs.Prelude.{slice_index_or}
 use Rattle.std.specs.List.{filter}
 use Rattle.std.proofs.lemmas.List.{get_or_default, length-set}
@@ -20,7 +20,12 @@ loop-c-init c = record {
 
 pub bounds-left-c : goal.bounds-left-c
 bounds-left-c c =
-    omega (arith, ap length c.requires.left, length-left_clusters c.args.self.now.graph.now, c.clusters-c-end.ensures.value)
+    omega (
+      arith,
+      ap length c.requires.left,
+      length-left_clusters c.args.self.now.graph.now,
+      c.clusters-c-end.ensures.value,
+    )
 
 pub child-requires-clause-left : goal.child-requires-clause-left
 child-requires-clause-left c =
@@ -47,7 +52,8 @@ loop-c-preserved c =
             ∙ get_or_default c.loop-c.pairs c.loop-c.c w.index-pairs-c.result []
             (omega (arith, cluster, c.loop-c.invariant.size))
             ∙ c.loop-c.invariant.rest c.loop-c.c (omega arith) cluster);
-        size = ap length w.pairs-is ∙ length-set c.loop-c.pairs c.loop-c.c w.replace-own.new.dest ∙ c.loop-c.invariant.size;
+        size = ap length w.pairs-is ∙ length-set c.loop-c.pairs c.loop-c.c w.replace-own.new.dest
+            ∙ c.loop-c.invariant.size;
         rest = λ d le lt.
             ap (λ ps. slice_index_or ps d []) w.pairs-is
             ∙ pairs-rest c.args.self.now.graph.now c.loop-c.c (clusters c.args.self.now.graph.now) c.loop-c.pairs
@@ -58,7 +64,8 @@ loop-c-preserved c =
             ∙ pipes-not_left c.args.self.now.graph.now c.loop-c.c c.loop-c.pipes (sym told ∙ w.if-left-c.false)
             c.loop-c.invariant.pipes;
         size = ap length w.pairs-is ∙ c.loop-c.invariant.size;
-        rest = λ d le lt. ap (λ ps. slice_index_or ps d []) w.pairs-is ∙ c.loop-c.invariant.rest d (omega (arith, le)) lt;
+        rest = λ d le lt. ap (λ ps. slice_index_or ps d []) w.pairs-is
+            ∙ c.loop-c.invariant.rest d (omega (arith, le)) lt;
       }
     ]
 

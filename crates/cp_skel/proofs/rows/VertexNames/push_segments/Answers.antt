@@ -1,4 +1,4 @@
-use Rattle.std.proofs.Common.{◌≡◌, ℕ, ◌+◌, ◌*◌, ◌<◌, ◌++◌, List, length, map, ap, sym, ◌∙◌, arith}
+use Rattle.std.proofs.Common.{◌≡◌, ℕ, ◌+◌, ◌*◌, ◌++◌, length, map, ap, sym, ◌∙◌, arith}
 use Rattle.std.specs.Prelude.{slice_index}
 use Rattle.std.specs.List.{range_with_len}
 use Rattle.std.proofs.lemmas.List.{append-nil}
@@ -43,7 +43,8 @@ loop-c-preserved c =
     c.loop-c-test.true in
     record {
       rows = c.in_ok-push.ensures.ok
-          ∙ rows-more c.args.self.now.graph.now c.args.e c.requires.edge c.requires.no_loop c.loop-c.c-index c.len.result
+          ∙ rows-more c.args.self.now.graph.now c.args.e c.requires.edge c.requires.no_loop c.loop-c.c-index
+          c.len.result
           c.loop-c.at c.at_border-ends.result.0 c.loop-c.rows (omega (arith, at.within)) c.loop-c.invariant.rows
           c.len.ensures c.loop-c.invariant.at
           (ap (λ p. p.0) c.at_border-ends.ensures
@@ -65,7 +66,8 @@ returns c =
     ∙ ap (λ (v : ℕ). vertex_name c.args.self.now.graph.now (Node v)) (ap (λ p. p.1) c.ends-source.ensures.ends)
     ∙ ends-target c.args.self.now.graph.now c.args.e c.requires.edge
     ∙ ap (λ (k : ℕ). vertex_name c.args.self.now.graph.now
-    (dart_vertex c.args.self.now.graph.now (2 * (first_segment c.args.self.now.graph.now c.args.e + k) + 1))) (sym last))
+    (dart_vertex c.args.self.now.graph.now (2 * (first_segment c.args.self.now.graph.now c.args.e + k) + 1))) (sym
+    last))
     ∙ ap (λ (k : ℕ). first_rows c.args.self.now.graph.now c.args.e
     ++ map (skeleton_edge c.args.self.now.graph.now)
     (range_with_len (first_segment c.args.self.now.graph.now c.args.e) (k + 1))) last
