@@ -6,12 +6,14 @@ pub mod Trees
 pub mod Orders
 pub mod Owners
 pub mod Promises
+pub mod Frames
+pub mod Holes
 -- what functions inside promise each other
 pub mod Words
 pub mod Keeping
 pub mod Changes
 pub mod Founds
-pub mod Frames
+pub mod Cuts
 pub mod Steps
 pub mod Grants
 pub mod Roots

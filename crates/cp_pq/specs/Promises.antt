@@ -1,13 +1,13 @@
 -- What the calls on order trees promise.
 use Rattle.std.specs.Prelude.{◌≡◌, ◌≢◌, ◌≤◌, ℕ, ◌⊎◌, ◌↔◌, Bool, true, false, Option, Some, None, length, List, [], ◌∷◌, ◌++◌, map, take, reverse}
 use Rattle.std.specs.List.Sorted.{IsPermutation, IsStrictlyIncreasing}
-use Rattle.cp_lists.specs.CyclicLists.{Has, Lacks, Distinct}
+use Rattle.cp_lists.specs.CyclicLists.{Has, Distinct}
 use Rattle.cp_pq.specs.declared.node.Node.{Node}
 use Rattle.cp_pq.specs.declared.node.Node.TheVariants.{Leaf, P, Q}
 use Rattle.cp_pq.specs.declared.part.Part.{Part}
 use Rattle.cp_pq.specs.Nodes.{leaves, is_branching, has_vars_below}
 use Rattle.cp_pq.specs.Bits.{bit_of}
-use Rattle.cp_pq.specs.Readings.{Reads, given}
+use Rattle.cp_pq.specs.Readings.{Reads, given, any_bit}
 use Rattle.cp_pq.specs.Trees.{PQTree, make_tree, IsPair, Admits}
 use Rattle.cp_pq.specs.Orders.{IsConsecutive, HasRow}
 use Rattle.cp_pq.specs.Owners.{KeepsOwners, ExchangesOwners}
@@ -100,19 +100,50 @@ pub record IsPutIn (old : PQTree) (part : Part) (node : Node) (order : List ℕ)
   pub reads : Reads (given bits) node run
   pub taken : (word : List ℕ) × ReadsPart (given bits) part word × IsPair old (before ++ (word ++ after)) bits
 
+-- an order of the old shape reads the set as a run that is a reading of the part, where each Q-node is read in either
+-- direction. Each reading of the node in its place gives an order of the new shape. Where the part is one node, each
+-- reading of this gives an order of the old shape; a run of kids of a Q-node is bound to the direction of its Q-node
+pub record HasPartInShape (set : List ℕ) (old new : PQTree) (part : Part) (node : Node) (order : List ℕ) : Type 0 where
+  pub before : List ℕ
+  pub run : List ℕ
+  pub after : List ℕ
+  pub order_is : order ≡ before ++ (run ++ after)
+  pub run_is : IsPermutation set run
+  pub reads : ReadsPart any_bit part run
+  pub again : part.var ≡ None → (word : List ℕ) → ReadsPart any_bit part word → Admits old (before ++ (word ++ after))
+  pub exchanged : (word : List ℕ) → Reads any_bit node word → Admits new (before ++ (word ++ after))
+
+-- an order of the new shape is one of the old, in which a reading of the part is exchanged for a reading of the node
+pub record IsPutInShape (old : PQTree) (part : Part) (node : Node) (order : List ℕ) : Type 0 where
+  pub before : List ℕ
+  pub run : List ℕ
+  pub after : List ℕ
+  pub order_is : order ≡ before ++ (run ++ after)
+  pub reads : Reads any_bit node run
+  pub taken : (word : List ℕ) × ReadsPart any_bit part word × Admits old (before ++ (word ++ after))
+
+-- the new leaves are the old ones, with those of the set exchanged for those of the node
+pub record ExchangesLeaves (set node old new : List ℕ) : Type 0 where
+  pub rest : List ℕ
+  pub old_are : IsPermutation old (set ++ rest)
+  pub new_are : IsPermutation new (node ++ rest)
+
 -- the part of the old tree that the set fills is replaced by the node
 pub record IsReplaced (set : List ℕ) (node : Node) (old new : PQTree) (part : Part) : Type 0 where
   pub keeps : (order : List ℕ) (bits : List Bool) → IsPair old order bits → HasPart set old new part node order bits
   pub only : (order : List ℕ) (bits : List Bool) → IsPair new order bits → IsPutIn old part node order bits
+  pub shape_keeps : (order : List ℕ) → Admits old order → HasPartInShape set old new part node order
+  pub shape_only : (order : List ℕ) → Admits new order → IsPutInShape old part node order
   pub root : new.root ≡ old.root
   pub vars : new.vars ≡ old.vars
   pub equations : new.equations ≡ old.equations
+  pub leaves_exchanged : ExchangesLeaves set (leaves node) (leaves old.body) (leaves new.body)
   pub owners : ExchangesOwners set node old.body new.body
 
--- a node that may be put into the tree: its leaves are distinct and none of them is in the tree, its vars are vars of
--- the tree, and its inner nodes have at least two kids
-pub record IsFreshNode (node : Node) (tree : PQTree) : Type 0 where
+-- a node that may be put into the tree in place of the set: its leaves are distinct and, but for those of the set, none of
+-- them is in the tree; its vars are vars of the tree, and its inner nodes have at least two kids
+pub record IsFreshNode (set : List ℕ) (node : Node) (tree : PQTree) : Type 0 where
   pub branching : is_branching node ≡ true
   pub distinct : Distinct (leaves node)
-  pub fresh : (x : ℕ) → Has x (leaves node) → Lacks x (tree.root ∷ leaves tree.body)
+  pub fresh : (x : ℕ) → Has x (leaves node) → Has x (tree.root ∷ leaves tree.body) → Has x set
   pub vars_below : has_vars_below tree.vars node ≡ true

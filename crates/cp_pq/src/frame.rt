@@ -55,15 +55,27 @@ impl Frame {
     }
 }
 
+/// The tree with this row in the place. Linear in the nodes beside the place and in the row.
+pub fn row_filled(alloc: Global, frames: Frames, row: Nodes) -> Result<Nodes, Memory>
+    ensures { IfOk result (λ r. r ≡ fill frames row) }
+{
+    let mut left = reversed(alloc, frames)?;
+    let mut inner = row;
+    while let Some(frame) = left.pop() {
+        let node = frame.node(alloc, inner)?;
+        inner = one(alloc, node)?;
+    }
+    Ok(inner)
+}
+
 /// The tree with this node in the place. Linear in the nodes beside the place.
 pub fn filled(alloc: Global, frames: Frames, node: Node) -> Result<Node, Memory>
     ensures { IfOk result (λ r. r ∷ [] ≡ fill frames (node ∷ [])) }
 {
-    let mut left = reversed(alloc, frames)?;
-    let mut inner = node;
-    while let Some(frame) = left.pop() {
-        let row = one(alloc, inner)?;
-        inner = frame.node(alloc, row)?;
-    }
-    Ok(inner)
+    let row = one(alloc, node)?;
+    let mut whole = row_filled(alloc, frames, row)?;
+    let Some(body) = whole.pop() else {
+        unreachable!()
+    };
+    Ok(body)
 }
