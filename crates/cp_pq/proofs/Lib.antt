@@ -1,8 +1,9 @@
--- facts about readings, stars and permutations of leaves, for callers
+-- facts about readings, stars, permutations of leaves and trees with a hole, for callers
 pub mod NodeLayers
 pub mod ReadingLaws
 pub mod PermutedLists
 pub mod Stars
+pub mod Holes
 -- the proofs of this crate
 mod Permutations
 mod WordLaws
@@ -37,4 +38,10 @@ mod ReducedTrees
 mod SetInTrees
 mod SearchedSets
 mod SmallStars
-mod Exchanges
+mod FilledRows
+mod SwappedOwners
+mod AlwaysTogether
+mod Cuts
+mod TakenParts
+mod SomeReadings
+mod Replacements

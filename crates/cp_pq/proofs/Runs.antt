@@ -63,7 +63,7 @@ module _ (q p : ℕ → Bool) (opp : Opposite q p) where
   opp_turn : Opposite p q
   opp_turn x = elim (p x) as (λ b. q x ≡ not b → b ≡ not (q x)) [ true ↦ λ e. sym (ap (λ z. not z) e) | false ↦ λ e. sym (ap (λ z. not z) e) ] (opp x)
 
-  met_rest : (k : Node) (ks : List Node) → has_all q k ≡ false → 2 ≤ length (filter (is_met q) (k ∷ ks))
+  pub met_rest : (k : Node) (ks : List Node) → has_all q k ≡ false → 2 ≤ length (filter (is_met q) (k ∷ ks))
       → list_all (has_all q) ks ≡ false
   met_rest k ks out two = go ks (subst (λ x. 2 ≤ length (cond (not x) (k ∷ filter (is_met q) ks) (filter (is_met q) ks))) out two)
     where
@@ -73,7 +73,7 @@ module _ (q p : ℕ → Bool) (opp : Opposite q p) where
           let l = ap length none in absurd (omega (arith, l, le)))
           (λ e. e) (cases_Bool (list_all (has_all q) js))
 
-  met_later : (k : Node) (ks : List Node) → has_all q k ≡ true → 2 ≤ length (filter (is_met q) (k ∷ ks))
+  pub met_later : (k : Node) (ks : List Node) → has_all q k ≡ true → 2 ≤ length (filter (is_met q) (k ∷ ks))
       → 2 ≤ length (filter (is_met q) ks)
   met_later k ks out two = subst (λ x. 2 ≤ length (cond (not x) (k ∷ filter (is_met q) ks) (filter (is_met q) ks))) out two
 

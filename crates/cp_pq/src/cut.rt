@@ -42,18 +42,18 @@ impl Cut {
 
 /// Cuts a row whose nodes inside, one at least, stand in one run, with no node that is neither inside nor outside. Linear
 /// in the row.
-pub fn cut(alloc: Global, founds: Founds) -> Result<Cut, Memory>
+pub fn cut_row(alloc: Global, founds: Founds) -> Result<Cut, Memory>
     ensures { IfOk result (λ c. (before run after : List Node) → run ≢ [] → IsCut founds before run after
         → (c.before ≡ before) × (c.run ≡ run) × (c.after ≡ after)) }
 {
-    let mut cut = Cut {
+    let mut parts = Cut {
         before: Items::new(alloc),
         run: Items::new(alloc),
         after: Items::new(alloc),
     };
     let mut left = reversed(alloc, founds)?;
     while let Some(found) = left.pop() {
-        cut.add(found)?;
+        parts.add(found)?;
     }
-    Ok(cut)
+    Ok(parts)
 }

@@ -9,7 +9,7 @@ ghost use Rattle.cp_pq.specs.Steps.{IsTop, IsPlace};
 ghost use Rattle.cp_pq.specs.Holes.{IsTakenOut};
 ghost use Rattle.cp_pq.specs.Cuts.{IsAlwaysTogether, IsTaken};
 
-use crate::cut::{Cut, cut};
+use crate::cut::{Cut, cut_row};
 use crate::frame::{Frame, Frames, Label};
 use crate::hole::Hole;
 use crate::lists::{joined, one};
@@ -34,7 +34,7 @@ fn top_part(alloc: Global, top: Top) -> Result<(Frames, Part), Memory>
         Top::Met { label, founds } => match label {
             Label::P(_) => unreachable!(),
             Label::Q(var) => {
-                let Cut { before, run, after } = cut(alloc, founds)?;
+                let Cut { before, run, after } = cut_row(alloc, founds)?;
                 let inner = one(
                     alloc,
                     Frame {
