@@ -249,14 +249,28 @@ module _ (set : List ℕ) (old : PQTree) (wf : IsWellFormed old) (ls : IsLeafSet
         (λ x h. Has-IsPermutation x _ _ (IsPermutation-sym _ _ t.set_is) h) t.body_is e2;
   }
 
--- the same for a tree that has these parts
-pub replaced_tree : (set : List ℕ) (old : PQTree) → IsWellFormed old → IsLeafSet set old → (hole : Hole) (part : Part)
-    → IsTakenOut set old hole part → (node : Node) → IsFreshNode set node old → (new : PQTree)
-    → new.body ∷ [] ≡ fill hole.frames (node ∷ []) → new.root ≡ hole.root → new.vars ≡ hole.vars → new.equations ≡ hole.equations → IsReplaced set node old new part
-replaced_tree set old wf ls hole part t node fresh new eb er ev ee =
-    subst (λ z. IsReplaced set node old z part) (sym parts) (replaced set old wf ls hole part t node fresh new.body eb)
-  where
-    parts : new ≡ make_tree old.root new.body old.vars old.equations
-    parts = ap (λ z. make_tree z new.body new.vars new.equations) (er ∙ t.root_is)
-        ∙ ap (λ z. make_tree old.root new.body z new.equations) (ev ∙ t.vars_are)
-        ∙ ap (λ (z : List Equation). make_tree old.root new.body old.vars z) (ee ∙ t.equations_are)
+  -- the same, by the parts of the hole
+  pub hole_formed : IsWellFormed (make_tree hole.root m hole.vars hole.equations)
+  hole_formed = subst IsWellFormed parts replaced_formed
+    where
+      parts : new ≡ make_tree hole.root m hole.vars hole.equations
+      parts = ap (λ z. make_tree z m old.vars old.equations) (sym t.root_is)
+          ∙ ap (λ z. make_tree hole.root m z old.equations) (sym t.vars_are)
+          ∙ ap (λ (z : List Equation). make_tree hole.root m hole.vars z) (sym t.equations_are)
+
+-- a tree that has these parts
+module _ (set : List ℕ) (old : PQTree) (wf : IsWellFormed old) (ls : IsLeafSet set old) (hole : Hole) (part : Part)
+    (t : IsTakenOut set old hole part) (node : Node) (fresh : IsFreshNode set node old) (new : PQTree)
+    (eb : new.body ∷ [] ≡ fill hole.frames (node ∷ [])) (er : new.root ≡ hole.root) (ev : new.vars ≡ hole.vars)
+    (ee : new.equations ≡ hole.equations) where
+  parts_are : new ≡ make_tree old.root new.body old.vars old.equations
+  parts_are = ap (λ z. make_tree z new.body new.vars new.equations) (er ∙ t.root_is)
+      ∙ ap (λ z. make_tree old.root new.body z new.equations) (ev ∙ t.vars_are)
+      ∙ ap (λ (z : List Equation). make_tree old.root new.body old.vars z) (ee ∙ t.equations_are)
+
+  pub replaced_tree : IsReplaced set node old new part
+  replaced_tree =
+      subst (λ z. IsReplaced set node old z part) (sym parts_are) (replaced set old wf ls hole part t node fresh new.body eb)
+
+  pub tree_formed : IsWellFormed new
+  tree_formed = subst IsWellFormed (sym parts_are) (replaced_formed set old wf ls hole part t node fresh new.body eb)

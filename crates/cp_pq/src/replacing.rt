@@ -1,7 +1,7 @@
 // Trees in which the part that a set of leaves fills is replaced.
 ghost use Rattle.std.specs.Prelude.{ℕ, List, IfOk};
 ghost use Rattle.cp_pq.specs.Orders.{IsConsecutive};
-ghost use Rattle.cp_pq.specs.Trees.{Admits};
+ghost use Rattle.cp_pq.specs.Trees.{Admits, IsWellFormed};
 ghost use Rattle.cp_pq.specs.Promises.{IsLeafSet, IsFreshNode, IsReplaced};
 
 use crate::lists::one;
@@ -18,7 +18,8 @@ pub fn replace(alloc: Global, tree: Tree, set: &[usize], new: Node) -> Result<(T
     requires leaf_set { IsLeafSet set.now tree }
     requires consecutive { (order : List ℕ) → Admits tree order → IsConsecutive set.now order }
     requires fresh { IsFreshNode set.now new tree }
-    ensures { IfOk result (λ r. IsReplaced set.now new tree r.0 r.1) }
+    ensures replaced { IfOk result (λ r. IsReplaced set.now new tree r.0 r.1) }
+    ensures well_formed { IfOk result (λ r. IsWellFormed r.0) }
 {
     let (hole, part) = taken_out(alloc, tree, set)?;
     let row = one(alloc, new)?;

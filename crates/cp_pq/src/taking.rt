@@ -2,7 +2,7 @@
 ghost use Rattle.std.specs.Prelude.{◌≡◌, ℕ, Bool, true, List, [], ◌∷◌, IfOk};
 ghost use Rattle.cp_pq.specs.declared.node.Node.{Node};
 ghost use Rattle.cp_pq.specs.Orders.{IsConsecutive};
-ghost use Rattle.cp_pq.specs.Trees.{Admits};
+ghost use Rattle.cp_pq.specs.Trees.{Admits, IsWellFormed};
 ghost use Rattle.cp_pq.specs.Promises.{IsLeafSet};
 ghost use Rattle.cp_pq.specs.Words.{Opposite};
 ghost use Rattle.cp_pq.specs.Steps.{IsTop, IsPlace};
@@ -72,7 +72,8 @@ fn part_at(alloc: Global, place: Place) -> Result<(Frames, Part), Memory>
 pub fn taken_out(alloc: Global, tree: Tree, set: &[usize]) -> Result<(Hole, Part), Memory>
     requires leaf_set { IsLeafSet set.now tree }
     requires consecutive { (order : List ℕ) → Admits tree order → IsConsecutive set.now order }
-    ensures { IfOk result (λ r. IsTakenOut set.now tree r.0 r.1) }
+    ensures taken { IfOk result (λ r. IsTakenOut set.now tree r.0 r.1) }
+    ensures well_formed { IfOk result (λ _. IsWellFormed tree) }
 {
     let (root, body, vars, equations) = tree.into_parts();
     let step = step_of(alloc, &body, set, set.len())?;

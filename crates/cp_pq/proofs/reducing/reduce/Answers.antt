@@ -1,25 +1,11 @@
-use Rattle.std.proofs.Common.{◌≡◌, ℕ, ◌<◌, ◌≤◌, true, List, length, Result, Ok, Err, IfOk, IfErr, refl, sym, ◌∙◌, subst, arith}
-use Rattle.cp_pq.specs.declared.step.Step.{Step}
+use Rattle.std.proofs.Common.{◌≡◌, length, Result, Ok, Err, IfOk, IfErr, refl, sym, subst}
 use Rattle.cp_pq.specs.declared.fault.ReduceFault.{ReduceFault}
 use Rattle.cp_pq.specs.declared.fault.ReduceFault.TheVariants.{NotConsecutive}
-use Rattle.std.specs.List.Sorted.{IsStrictlyIncreasing}
-use Rattle.cp_pq.specs.Nodes.{is_branching}
 use Rattle.cp_pq.specs.Trees.{PQTree, make_tree, IsWellFormed}
 use Rattle.cp_pq.specs.Orders.{inside, outside}
 use Rattle.cp_pq.specs.Promises.{IsLeafSet, IsReduced, IsNeverConsecutive}
-use Rattle.cp_pq.specs.Steps.{count_in, IsStep}
-use Rattle.cp_pq.proofs.SetInTrees.{root_apart, whole_count, some_items, not_open, placed}
+use Rattle.cp_pq.proofs.SetInTrees.{root_apart, step_is, not_open, placed}
 use Rattle.cp_pq.proofs.reducing.reduce.Goals as goal
-
--- what the step on the body says
-step_is : (set : List ℕ) (tree : PQTree) (total : ℕ) (step : Step) → IsWellFormed tree → IsLeafSet set tree
-    → total ≡ length set
-    → (IsStrictlyIncreasing set → is_branching tree.body ≡ true → 0 < total → count_in (inside set) tree.body ≤ total → IsStep (outside set) (inside set) total tree.body step)
-    → IsStep (outside set) (inside set) total tree.body step × (count_in (inside set) tree.body ≡ total)
-step_is set tree total step wf s e f =
-    let a = whole_count set tree wf s in
-    let b = some_items set s.not_empty in
-    (f s.rising wf.branching (omega (arith, b, e)) (omega (arith, a, e)), a ∙ sym e)
 
 pub unreachable-requires : goal.unreachable-requires
 unreachable-requires c =
