@@ -4,7 +4,6 @@ use Rattle.std.specs.List.{list_all, AllZip}
 use Rattle.std.specs.List.Sorted.{IsStrictlyIncreasing}
 use Rattle.std.proofs.lemmas.Bool.{and_parts, eq-eqb, both_ways}
 use Rattle.std.proofs.lemmas.List.Sorted.{IsPermutation-sym, IsPermutation-trans, IsPermutation-cons, IsPermutation-middle}
-
 use Rattle.cp_lists.specs.CyclicLists.{Has, Lacks, Distinct}
 use Rattle.cp_lists.proofs.DistinctLists.{Lacks-from, Has-append_cases, Distinct-append_left, Distinct-middle, Distinct-less, Has-split, Has-append_left, Has-append_right, has_lacks, has_other}
 use Rattle.cp_pq.specs.declared.node.Node.{Node}
@@ -40,16 +39,6 @@ use Rattle.cp_pq.proofs.Holes.{filled_node}
 use Rattle.cp_pq.proofs.FilledRows.{fill_append, outside_append, beside_leaves, filled_leaves, beside_outside}
 use Rattle.cp_pq.proofs.AlwaysTogether.{Run, run_of, never_P, middle_together}
 use Rattle.cp_pq.proofs.Cuts.{cut_found, zip_clear, run_long, run_beside}
-
--- the node inside
-pub whole_taken : (q p : ℕ → Bool) (k m : Node) → has_all p k ≡ true → m ≡ k → (frames : List Frame) (kids : List Node)
-    → frames ≡ [] → kids ≡ m ∷ [] → IsTaken q p k frames (record { kids = kids; var = None })
-whole_taken q p k m full e frames kids ef ek = record {
-  node_is = ap (λ z. z ∷ []) (sym e) ∙ sym ek ∙ ap (λ z. fill z kids) (sym ef);
-  beside = subst (AreOutside q) (sym ef) tt;
-  all_inside = ap (list_all (has_all p)) (ek ∙ ap (λ z. z ∷ []) e) ∙ all_one (has_all p) k ∙ full;
-  part_is = (m, ek);
-}
 
 module _ (q p : ℕ → Bool) (opp : Opposite q p) where
   -- where a P-node has its kids compared, some order has the set apart
