@@ -1,6 +1,5 @@
-use Rattle.std.proofs.Common.{◌≡◌, [], sym, ◌∙◌, subst}
+use Rattle.std.proofs.Common.{sym, ◌∙◌, subst}
 use Rattle.std.specs.List.Sorted.{IsStrictlyIncreasing}
-use Rattle.cp_lists.specs.CyclicLists.{Distinct}
 use Rattle.cp_pq.specs.SmallTrees.{HasLeaves}
 use Rattle.cp_pq.proofs.SmallStars.{star_has}
 use Rattle.cp_pq.proofs.DeepTrees.{numbers_some, numbers_distinct}
