@@ -38,6 +38,7 @@ mod ReducedTrees
 mod SetInTrees
 mod SearchedSets
 mod SmallStars
+mod DeepTrees
 mod FilledRows
 mod SwappedOwners
 mod AlwaysTogether

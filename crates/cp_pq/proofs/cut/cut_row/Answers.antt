@@ -1,4 +1,4 @@
-use Rattle.std.proofs.Common.{◌≡◌, [], ◌∷◌, reverse, ap, ◌∙◌, subst}
+use Rattle.std.proofs.Common.{[], ◌∷◌, reverse, ap, ◌∙◌, subst}
 use Rattle.std.proofs.lemmas.List.{reverse-append}
 use Rattle.cp_pq.proofs.Cuts.{Remains, add_remains, none_remains}
 use Rattle.cp_pq.proofs.cut.cut_row.Goals as goal

@@ -1,4 +1,4 @@
-use Rattle.std.proofs.Common.{[], ◌∷◌, sym, ap, ◌∙◌}
+use Rattle.std.proofs.Common.{sym, ap, ◌∙◌}
 use Rattle.cp_pq.specs.Frames.{fill}
 use Rattle.cp_pq.proofs.FilledRows.{fill_one}
 use Rattle.cp_pq.proofs.Replacements.{hole_formed, replaced_tree, tree_formed}
