@@ -8,3 +8,6 @@ mod write;
 
 pub use trace::Trace;
 pub use write::write_trace;
+
+#[cfg(test)]
+mod tests;

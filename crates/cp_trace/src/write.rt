@@ -158,7 +158,7 @@ fn push_instance(alloc: Global, text: &mut Vec<u8>, i: &Instance) -> Result<(), 
 
 // Appends a branch of a shape. Linear in its size.
 #[cycle(bodies)]
-fn push_body(alloc: Global, text: &mut Vec<u8>, body: &Branch) -> Result<(), Memory>
+pub(crate) fn push_body(alloc: Global, text: &mut Vec<u8>, body: &Branch) -> Result<(), Memory>
     ensures { OnOk result (text.new.items ≡ text.old.items ++ body_text body.now) }
 {
     match body {
@@ -201,7 +201,7 @@ fn push_kids(alloc: Global, text: &mut Vec<u8>, kids: &[Branch]) -> Result<(), M
 }
 
 // Appends what the line of a step says.
-fn push_step(alloc: Global, text: &mut Vec<u8>, step: &Step) -> Result<(), Memory>
+pub(crate) fn push_step(alloc: Global, text: &mut Vec<u8>, step: &Step) -> Result<(), Memory>
     ensures { OnOk result (text.new.items ≡ text.old.items ++ step_line step.now) }
 {
     match step {
@@ -242,7 +242,7 @@ fn push_steps(alloc: Global, text: &mut Vec<u8>, steps: &[Step]) -> Result<(), M
 }
 
 // Appends what is to blame where there is no solution.
-fn push_reason(alloc: Global, text: &mut Vec<u8>, reason: Reason) -> Result<(), Memory>
+pub(crate) fn push_reason(alloc: Global, text: &mut Vec<u8>, reason: Reason) -> Result<(), Memory>
     ensures { OnOk result (text.new.items ≡ text.old.items ++ reason_line reason) }
 {
     match reason {
