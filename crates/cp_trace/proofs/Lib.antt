@@ -1,0 +1,7 @@
+-- what the proofs of this crate rest on
+mod BodyLemmas
+mod NamedParts
+mod PipesByEnds
+mod RisingLists
+mod Rows
+mod RunText
