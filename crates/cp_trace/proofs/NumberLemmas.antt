@@ -1,17 +1,13 @@
 -- Decimals and the items that are spelled with them.
-use Rattle.std.proofs.Common.{◌≡◌, ◌≢◌, ℕ, ◌<◌, ◌≤◌, ◌^◌, ◌/◌, ◌%◌, eqb, cond, Bool, true, false, List, [], ◌∷◌, ◌++◌, length, get_or, Result, Ok, Err, refl, sym, ap, ◌∙◌, subst, ◌⊎◌, inl, inr, arith, MatchOption, zero, suc, None, Some, eq-eqb, IsTrue}
-use Rattle.std.proofs.lemmas.Bool.{eqb-true}
+use Rattle.std.proofs.Common.{◌≡◌, ◌≢◌, ℕ, ◌<◌, ◌≤◌, ◌^◌, List, [], ◌∷◌, length, get_or, Result, Ok, Err, refl, sym, ap, ◌∙◌, subst, ◌⊎◌, inl, inr, arith, MatchOption, zero, suc, None, Some}
 use Rattle.std.specs.Fmt.{decimal}
 use Rattle.std.specs.Result.{MatchResult, result_ok}
 use Rattle.std.specs.Str.Parse.{AllDigits, digits_value, ParsesUnsigned}
 use Rattle.std.proofs.lemmas.Str.Parse.{IsNumeralModel, numerals_by_value, tells_digits, digit_from_value, parse_plain}
-use Rattle.std.proofs.lemmas.Fmt.{digits_decimal, decimal_injective, decimal-digits_value, parse-decimal, first_decimal, decimal_digit, decimal_nonempty, IsAscii-decimal}
+use Rattle.std.proofs.lemmas.Fmt.{digits_decimal, decimal-digits_value, parse-decimal, first_decimal, decimal_digit, decimal_nonempty, IsAscii-decimal}
 use Rattle.std.proofs.lemmas.Str.{IsUtf8-from_ascii}
 use Rattle.std.specs.Str.{IsUtf8}
-use Rattle.std.proofs.lemmas.Bool.Decides.{nat_tests}
-use Rattle.std.proofs.lemmas.List.{same_from_push}
 use Rattle.cp_trace.specs.Reading.{Lacks, IsPlain}
-use Rattle.cp_trace.proofs.CutLemmas.{lacks-append}
 
 -- decimals are read by the values of their digits
 pub own : IsNumeralModel (AllDigits 10) (digits_value 10)

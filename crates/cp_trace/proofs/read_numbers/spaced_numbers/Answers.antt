@@ -1,4 +1,3 @@
-use Rattle.std.proofs.Common.{sym, ◌∙◌}
 use Rattle.std.proofs.lemmas.Result.{IfOk-weaker}
 use Rattle.cp_trace.proofs.NumberLines.{numbers_behind_blank, no_numbers_behind}
 use Rattle.cp_trace.proofs.read_numbers.spaced_numbers.Goals as goal
