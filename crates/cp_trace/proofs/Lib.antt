@@ -5,3 +5,7 @@ mod PipesByEnds
 mod RisingLists
 mod Rows
 mod RunText
+mod CutLemmas
+mod NumberLemmas
+mod WordLemmas
+mod NumberLines

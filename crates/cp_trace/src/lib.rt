@@ -3,7 +3,9 @@
 
 mod named_parts;
 mod numbers;
+mod read_numbers;
 mod trace;
+mod word;
 mod write;
 
 pub use trace::Trace;
