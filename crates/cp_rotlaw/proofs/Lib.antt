@@ -20,3 +20,7 @@ pub mod SplitVertices
 pub mod SplitParts
 pub mod RestrictionLaws
 pub mod SplitRuns
+pub mod NamedMaps
+pub mod PoleLists
+pub mod PoleMaps
+pub mod PermutedPoles

@@ -5,3 +5,5 @@ pub mod GlueTables
 pub mod Stars
 pub mod StarParts
 pub mod Restrictions
+pub mod Poles
+pub mod PoleClasses
