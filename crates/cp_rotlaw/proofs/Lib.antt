@@ -24,3 +24,6 @@ pub mod NamedMaps
 pub mod PoleLists
 pub mod PoleMaps
 pub mod PermutedPoles
+pub mod PoleParts
+pub mod PermutedSystems
+pub mod PoleRows

@@ -1,10 +1,10 @@
 -- Lists under names, each with items of its own, in any order of the names.
-use Rattle.std.proofs.Common.{◌≡◌, ℕ, ◌<◌, ◌↔◌, zero, suc, List, [], ◌∷◌, ◌++◌, map, sym, refl, ◌∙◌, subst, inl, inr, ⊎_elim, arith}
+use Rattle.std.proofs.Common.{◌≡◌, ℕ, ◌<◌, zero, suc, List, [], ◌∷◌, map, sym, refl, ◌∙◌, subst, inl, inr, ⊎_elim, arith}
 use Rattle.std.proofs.lemmas.Bool.{cases_eq}
-use Rattle.cp_lists.specs.CyclicLists.{Distinct, Has, Lacks}
+use Rattle.cp_lists.specs.CyclicLists.{Distinct, Has}
 use Rattle.cp_lists.specs.Rows.{flat}
 use Rattle.cp_lists.proofs.DistinctLists.{Distinct-append, Has-append_cases, Has-append_left, Has-append_right, Lacks-from, has_lacks}
-use Rattle.cp_maps.specs.Maps.{IsMapOf, Ring, Rings, SameRings}
+use Rattle.cp_maps.specs.Maps.{Ring, Rings, SameRings}
 use Rattle.cp_maps.proofs.MapLists.{IsMapOf-other}
 use Rattle.cp_maps.proofs.NamedLists.{named_item}
 use Rattle.cp_maplaw.proofs.NamedRests.{named_some}

@@ -1,11 +1,11 @@
 -- The parts between two poles in another order keep genus zero.
-use Rattle.std.proofs.Common.{◌≡◌, ◌≢◌, ℕ, ◌*◌, ◌/◌, ◌<◌, ◌⊎◌, ◌&&◌, Bool, true, false, not, eqb, List, [], ◌∷◌, ◌++◌, length, map, slice_index, sym, refl, ap, ap₂, ◌∙◌, subst, inl, inr, ⊎_elim, arith}
+use Rattle.std.proofs.Common.{◌≡◌, ◌≢◌, ℕ, ◌*◌, ◌/◌, ◌<◌, ◌⊎◌, ◌&&◌, Bool, true, false, not, eqb, List, [], ◌∷◌, ◌++◌, length, map, sym, refl, ap, ◌∙◌, subst, inl, inr, ⊎_elim}
 use Rattle.std.proofs.lemmas.Bool.{cases_Bool, cases_eq, eq-eqb, eqb-true, false≢true, ne_eqb}
 use Rattle.std.specs.List.{filter}
-use Rattle.cp_lists.specs.CyclicLists.{Distinct, Has, Lacks, follow}
+use Rattle.cp_lists.specs.CyclicLists.{Distinct, Has, follow}
 use Rattle.cp_lists.specs.Rows.{flat}
 use Rattle.cp_lists.specs.Turns.{IsTurn}
-use Rattle.cp_lists.proofs.DistinctLists.{Distinct-append, Has-append_cases, Has-append_left, Has-append_right, Lacks-from, has_lacks}
+use Rattle.cp_lists.proofs.DistinctLists.{Distinct-append, Distinct-append_left, Distinct-append_right, Exactly-Distinct, Exactly-Has, Exactly-from, Has-append_cases, Has-append_left, Has-append_right, Lacks-from, has_lacks}
 use Rattle.cp_lists.proofs.FilteredLists.{Has-filter, filter-Distinct, filter-Has, filter_agree, filter_twice}
 use Rattle.cp_lists.proofs.FlatLists.{flat-append}
 use Rattle.cp_lists.proofs.TurnedLists.{Has-of_turn, turn-Distinct, turn-Has, turn-filter, turn-trans}
@@ -21,7 +21,7 @@ use Rattle.cp_mergelaw.specs.Branches.{Branch, EachBranch, HasTwins, IsBranchOf,
 use Rattle.cp_mergelaw.proofs.JoinedBranches.{permuted_branches-CanBeFlat}
 use Rattle.cp_mergelaw.proofs.LinkedPoles.{rest-CanBeFlat}
 use Rattle.cp_rot.specs.Genus.{HasGenusZero}
-use Rattle.cp_rot.specs.Systems.{IsRotation, System, darts, edges, list_of, next, vertex_of}
+use Rattle.cp_rot.specs.Systems.{Arranges, IsRotation, System, darts, edges, list_of, next, vertex_of}
 use Rattle.cp_rot.proofs.Functions.{next-follow}
 use Rattle.cp_rot.proofs.ListSystems.{Listed, Listed-system}
 use Rattle.cp_rotlaw.specs.PoleClasses.{ArePoleParts, HasEndsApart, IsEnteredTest, joined_rows, permuted_row}
@@ -320,127 +320,166 @@ module _ (r : System) (is : IsRotation r) (u v : ℕ) (ltu : u < r.vertices) (lt
       (λ m. Has-append_right d (flat rows) (flat (inners free_rows (bs xs))) (branch_inner xs x d m k))
       h)
 
-  -- a system with the same graph whose lists are those of r but at the poles
-  module _ (order : List ℕ) (s : System) (is_s : IsRotation s) (made : IsPermutedAt r u v order s)
-      (second : list_of s v ≡ permuted_row r v part entered ws order) where
-    ls : Listed s.vertices (darts s) (vertex_of s) (list_of s)
-    ls = Listed-system s is_s
+  -- a dart in the rows put together is one of v
+  joined_are : (xs : List ℕ) (d : ℕ) → Has d (joined_rows part zs ws xs) → IsDartOf r v d
+  joined_are [] d h =
+      let i = l.item v d ltv (filter-Has (λ y. not (entered (part y))) d (lists v) h).0 in
+      record { within = i.0; stands = i.1 }
+  joined_are (x ∷ xs) d h = ⊎_elim
+      (λ k. joined_are xs d k)
+      (λ k. (ws_are d (filter-Has (λ y. eqb (part y) (part x)) d ws k).0).0)
+      (Has-append_cases d (joined_rows part zs ws xs) (star_row part ws (part x)) h)
 
-    -- a vertex of the one is one of the other
-    vertex_s : (w : ℕ) → w < r.vertices → w < s.vertices
-    vertex_s w lt = subst (λ m. w < m) (sym made.vertices) lt
+  -- the free darts are in them
+  joined_free : (xs : List ℕ) (d : ℕ) → Has d zs → Has d (joined_rows part zs ws xs)
+  joined_free [] d h = h
+  joined_free (x ∷ xs) d h =
+      Has-append_left d (joined_rows part zs ws xs) (star_row part ws (part x)) (joined_free xs d h)
 
-    -- it has as many darts
-    size : darts s ≡ darts r
-    size = ap length made.at
+  -- so are those of the part of one of the darts
+  joined_part : (xs : List ℕ) (x d : ℕ) → Has x xs → Has d ws → part d ≡ part x → Has d (joined_rows part zs ws xs)
+  joined_part [] x d h k same = absurd h
+  joined_part (y ∷ xs) x d h k same = ⊎_elim
+      (λ e. Has-append_right d (joined_rows part zs ws xs) (star_row part ws (part y))
+      (Has-filter (λ z. eqb (part z) (part y)) d ws k (eq-eqb (part d) (part y) (same ∙ ap part (sym e)))))
+      (λ m. Has-append_left d (joined_rows part zs ws xs) (star_row part ws (part y)) (joined_part xs x d m k same))
+      h
 
-    -- at the same vertices
-    stands : (d : ℕ) → vertex_of s d ≡ vertex_of r d
-    stands d = ap (λ at. slice_index at d) made.at
-
+  -- an order of the darts of u, where the system has genus zero
+  module _ (order : List ℕ) (arr : Arranges r.at u order) (zero_genus : HasGenusZero r) where
     -- the order has darts of u
     order_at : (x : ℕ) → Has x order → IsDartOf r u x
     order_at x h =
-        let i = ls.item u x (vertex_s u ltu) (subst (Has x) (sym made.first) h) in record {
-          within = subst (λ m. x < m) size i.0;
-          stands = sym (stands x) ∙ i.1;
-        }
+        let k = (Exactly-Has (darts r) (λ d. eqb (vertex_of r d) u) order arr x).0 h in
+        record { within = k.0; stands = eqb-true (vertex_of r x) u k.1 }
 
     -- all of them
     order_has : (x : ℕ) → IsDartOf r u x → Has x order
     order_has x at =
-        subst (Has x) (ap (list_of s) (stands x ∙ at.stands) ∙ made.first)
-        (ls.own x (subst (λ m. x < m) (sym size) at.within))
+        (Exactly-Has (darts r) (λ d. eqb (vertex_of r d) u) order arr x).1
+        (at.within, eq-eqb (vertex_of r x) u at.stands)
 
-    -- the list of a vertex is a ring
-    ring_s : (w : ℕ) → w < r.vertices → Ring (next s) (list_of s w)
-    ring_s w lt = record {
-      distinct = ls.distinct w (vertex_s w lt);
-      along = λ d k. let i = ls.item w d (vertex_s w lt) k in
-          next-follow s is_s d i.0 ∙ ap (λ x. follow (list_of s x) d) i.1;
-    }
-
-    -- so are those of some vertices between
-    between_rings : (p : ℕ → Bool) → Rings (next s) (map lists (filter p others))
-    between_rings p = rings_of_names (vertex_of r) lists (next s) (filter p others) (λ w h.
-        let o = others_are r is u v ltu ltv differ number part parts w (filter-Has p w others h).0 in
-        subst (Ring (next s)) (made.others w o.0 o.1 o.2) (ring_s w o.0))
-
-    -- and the lists between
-    inner_rings : (xs : List ℕ) → Rings (next s) (inners free_rows (bs xs))
-    inner_rings [] = between_rings (λ w. not (entered (number w)))
-    inner_rings (x ∷ xs) =
-        Rings-append (next s) (map lists (of_part number (part x) others)) (inners free_rows (bs xs))
-        (between_rings (λ w. eqb (number w) (part x))) (inner_rings xs)
+    -- the list of v
+    abbrev row : List ℕ
+    row = permuted_row r v part entered ws order
 
     -- the lists put together
     abbrev rows : List (List ℕ)
     rows = heads (bs order) ∷ tails zs (bs order) ∷ inners free_rows (bs order)
 
     -- they can be flat
-    rows-CanBeFlat : HasGenusZero r → CanBeFlat n rows
-    rows-CanBeFlat zero_genus =
+    rows-CanBeFlat : CanBeFlat n rows
+    rows-CanBeFlat =
         permuted_branches-CanBeFlat n (next r) (lists u) (lists v) zs (map lists others) free_rows (bs order)
         (poles-IsMapOf r is u v ltu ltv differ number part parts) ((system_flat r is).0 zero_genus)
         (branches-IsBranchOf order order_at) (branches-HasTwins order order_at)
-        (darts_of-Distinct order order_at
-        (subst Distinct made.first (ls.distinct u (vertex_s u ltu))))
+        (darts_of-Distinct order order_at (Exactly-Distinct (darts r) (λ d. eqb (vertex_of r d) u) order arr))
         (rest_rows-CanBeFlat zero_genus)
 
-    -- each dart is in one of them
+    -- the row has each dart of v
+    row_has : (d : ℕ) → IsDartOf r v d → Has d row
+    row_has d at = ⊎_elim
+        (λ t. let f : (x : ℕ) × IsDartOf r u x × (part x ≡ part d) = test.from d at.within t in
+        joined_part order f.0 d (order_has f.0 f.1) (ws_have d at t) (sym f.2))
+        (λ f. joined_free order d
+        (Has-filter (λ y. not (entered (part y))) d (lists v)
+        (subst (λ w. Has d (lists w)) at.stands (l.own d at.within)) (not_false (entered (part d)) f)))
+        (cases_Bool (entered (part d)))
+
+    -- once, and nothing else
+    pub row-Arranges : Arranges r.at v row
+    row-Arranges = Exactly-from (darts r) (λ d. eqb (vertex_of r d) v) row
+        (subst Distinct (tails-branches order)
+        (Distinct-append_left (tails zs (bs order)) (flat (inners free_rows (bs order)))
+        (Distinct-append_right (heads (bs order)) (tails zs (bs order) ++ flat (inners free_rows (bs order)))
+        rows-CanBeFlat.1.once)))
+        (λ d h. let at = joined_are order d h in (at.within, eq-eqb (vertex_of r d) v at.stands))
+        (λ d lt t. row_has d (record { within = lt; stands = eqb-true (vertex_of r d) v t }))
+
+    -- a dart between is in the lists between
+    between_inner : (d : ℕ) → d < darts r → vertex_of r d ≢ u → vertex_of r d ≢ v
+        → Has d (flat (inners free_rows (bs order)))
+    between_inner d lt nu nv =
+        let w : ℕ = vertex_of r d in
+        let h : Has w others = others_have r is u v ltu ltv differ number part parts w (is.placed d lt) nu nv in
+        let same : part d ≡ number w = parts.inner d lt nu nv in
+        ⊎_elim
+        (λ t. let f : (x : ℕ) × IsDartOf r u x × (part x ≡ part d) = test.from d lt t in
+        branch_inner order f.0 d (order_has f.0 f.1)
+        (named_item lists (of_part number (part f.0) others) w d
+        (Has-filter (λ y. eqb (number y) (part f.0)) w others h
+        (eq-eqb (number w) (part f.0) (sym same ∙ sym f.2))) (l.own d lt)))
+        (λ f. free_inner order d
+        (named_item lists free w d
+        (Has-filter (λ y. not (entered (number y))) w others h
+        (not_false (entered (number w)) (ap entered (sym same) ∙ f))) (l.own d lt)))
+        (cases_Bool (entered (part d)))
+
+    -- each dart is in one of the lists
     each_dart : (d : ℕ) → d < darts r → Has d (flat rows)
     each_dart d lt =
-        let own : Has d (list_of s (vertex_of r d)) =
-        subst (λ w. Has d (list_of s w)) (stands d) (ls.own d (subst (λ m. d < m) (sym size) lt)) in
         let tails_and : List ℕ = tails zs (bs order) ++ flat (inners free_rows (bs order)) in
         ⊎_elim
         (λ e. Has-append_left d (heads (bs order)) tails_and
-        (subst (Has d) (ap (list_of s) e ∙ made.first ∙ sym (heads-branches order)) own))
+        (subst (Has d) (sym (heads-branches order)) (order_has d (record { within = lt; stands = e }))))
         (λ nu. Has-append_right d (heads (bs order)) tails_and (⊎_elim
         (λ e. Has-append_left d (tails zs (bs order)) (flat (inners free_rows (bs order)))
-        (subst (Has d) (ap (list_of s) e ∙ second ∙ sym (tails-branches order)) own))
-        (λ nv. Has-append_right d (tails zs (bs order)) (flat (inners free_rows (bs order))) (between d lt nu nv))
+        (subst (Has d) (sym (tails-branches order)) (row_has d (record { within = lt; stands = e }))))
+        (λ nv. Has-append_right d (tails zs (bs order)) (flat (inners free_rows (bs order)))
+        (between_inner d lt nu nv))
         (cases_eq (vertex_of r d) v)))
         (cases_eq (vertex_of r d) u)
-      where
-        between : (d : ℕ) → d < darts r → vertex_of r d ≢ u → vertex_of r d ≢ v
-            → Has d (flat (inners free_rows (bs order)))
-        between d lt nu nv =
-            let w : ℕ = vertex_of r d in
-            let h : Has w others = others_have r is u v ltu ltv differ number part parts w (is.placed d lt) nu nv in
-            let same : part d ≡ number w = parts.inner d lt nu nv in
-            ⊎_elim
-            (λ t. let f : (x : ℕ) × IsDartOf r u x × (part x ≡ part d) = test.from d lt t in
-            branch_inner order f.0 d (order_has f.0 f.1)
-            (named_item lists (of_part number (part f.0) others) w d
-            (Has-filter (λ y. eqb (number y) (part f.0)) w others h
-            (eq-eqb (number w) (part f.0) (sym same ∙ sym f.2))) (l.own d lt)))
-            (λ f. free_inner order d
-            (named_item lists free w d
-            (Has-filter (λ y. not (entered (number y))) w others h
-            (not_false (entered (number w)) (ap entered (sym same) ∙ f))) (l.own d lt)))
-            (cases_Bool (entered (part d)))
 
-    -- the map of the system has these lists
-    rows-IsMapOf : CanBeFlat n rows → IsMapOf (2 * n) (next s) rows
-    rows-IsMapOf can = record {
-      once = can.1.once;
-      below = can.1.below;
-      rings = (
-        subst (Ring (next s)) (made.first ∙ sym (heads-branches order)) (ring_s u ltu),
-        (
-          subst (Ring (next s)) (second ∙ sym (tails-branches order)) (ring_s v ltv),
-          inner_rings order,
-        ),
-      );
-      loose = λ d lt lacks.
-          absurd (has_lacks d (flat rows) (each_dart d (subst (λ m. d < m) (sym is.paired) lt)) lacks);
-    }
+    -- a system with the same graph whose lists are those of r but at the poles
+    module _ (s : System) (is_s : IsRotation s) (made : IsPermutedAt r u v order s) (second : list_of s v ≡ row) where
+      ls : Listed s.vertices (darts s) (vertex_of s) (list_of s)
+      ls = Listed-system s is_s
 
-    -- so it has genus zero
-    pub permuted-HasGenusZero : HasGenusZero r → HasGenusZero s
-    permuted-HasGenusZero zero_genus =
-        let can : CanBeFlat n rows = rows-CanBeFlat zero_genus in
-        (system_flat s is_s).1
-        (subst (λ m. IsFlat m (next s)) (sym (ap (λ m. m / 2) size))
-        (CanBeFlat-IsFlat n (next s) rows (rows-IsMapOf can) can))
+      -- it has as many darts
+      size : darts s ≡ darts r
+      size = ap length made.at
+
+      -- the list of a vertex is a ring
+      ring_s : (w : ℕ) → w < r.vertices → Ring (next s) (list_of s w)
+      ring_s w lt =
+          let lts : w < s.vertices = subst (λ m. w < m) (sym made.vertices) lt in record {
+            distinct = ls.distinct w lts;
+            along = λ d k. let i = ls.item w d lts k in
+                next-follow s is_s d i.0 ∙ ap (λ x. follow (list_of s x) d) i.1;
+          }
+
+      -- so are those of some vertices between
+      between_rings : (p : ℕ → Bool) → Rings (next s) (map lists (filter p others))
+      between_rings p = rings_of_names (vertex_of r) lists (next s) (filter p others) (λ w h.
+          let o = others_are r is u v ltu ltv differ number part parts w (filter-Has p w others h).0 in
+          subst (Ring (next s)) (made.others w o.0 o.1 o.2) (ring_s w o.0))
+
+      -- and the lists between
+      inner_rings : (xs : List ℕ) → Rings (next s) (inners free_rows (bs xs))
+      inner_rings [] = between_rings (λ w. not (entered (number w)))
+      inner_rings (x ∷ xs) =
+          Rings-append (next s) (map lists (of_part number (part x) others)) (inners free_rows (bs xs))
+          (between_rings (λ w. eqb (number w) (part x))) (inner_rings xs)
+
+      -- the map of the system has these lists
+      rows-IsMapOf : IsMapOf (2 * n) (next s) rows
+      rows-IsMapOf = record {
+        once = rows-CanBeFlat.1.once;
+        below = rows-CanBeFlat.1.below;
+        rings = (
+          subst (Ring (next s)) (made.first ∙ sym (heads-branches order)) (ring_s u ltu),
+          (
+            subst (Ring (next s)) (second ∙ sym (tails-branches order)) (ring_s v ltv),
+            inner_rings order,
+          ),
+        );
+        loose = λ d lt lacks.
+            absurd (has_lacks d (flat rows) (each_dart d (subst (λ m. d < m) (sym is.paired) lt)) lacks);
+      }
+
+      -- so it has genus zero
+      pub permuted-HasGenusZero : HasGenusZero s
+      permuted-HasGenusZero =
+          (system_flat s is_s).1
+          (subst (λ m. IsFlat m (next s)) (sym (ap (λ m. m / 2) size))
+          (CanBeFlat-IsFlat n (next s) rows rows-IsMapOf rows-CanBeFlat))

@@ -1,9 +1,9 @@
 -- The map of a rotation system with two poles in front, and the parts between them as branches.
-use Rattle.std.proofs.Common.{◌≡◌, ◌≢◌, ℕ, ◌+◌, ◌*◌, ◌/◌, ◌%◌, ◌<◌, ◌⊎◌, ◌↔◌, Bool, true, false, not, eqb, List, [], ◌∷◌, ◌++◌, map, slice_index_or, sym, refl, ap, ◌∙◌, subst, inl, inr, ⊎_elim, arith}
-use Rattle.std.proofs.lemmas.Bool.{and_parts, cases_Bool, cases_eq, eq-eqb, eqb-true, false≢true, ne_eqb}
-use Rattle.std.proofs.lemmas.List.{get_or_default, map-append}
+use Rattle.std.proofs.Common.{◌≡◌, ◌≢◌, ℕ, ◌*◌, ◌%◌, ◌<◌, ◌⊎◌, Bool, true, false, not, eqb, List, ◌∷◌, ◌++◌, map, sym, refl, ap, ◌∙◌, subst, inl, inr, ⊎_elim, arith}
+use Rattle.std.proofs.lemmas.Bool.{and_parts, cases_Bool, cases_eq, false≢true, ne_eqb}
+use Rattle.std.proofs.lemmas.List.{map-append}
 use Rattle.std.specs.List.{Contains, filter}
-use Rattle.cp_lists.specs.CyclicLists.{Distinct, Has, Lacks, but, follow}
+use Rattle.cp_lists.specs.CyclicLists.{Distinct, Has, but, follow}
 use Rattle.cp_lists.specs.Rows.{flat}
 use Rattle.cp_lists.proofs.DistinctLists.{Distinct-append, Has-append_cases, Has-append_left, Has-append_right, Has-but, Lacks-from, but-Distinct, but-Has, but-Lacks, but-Lacks_other, has_lacks, has_other}
 use Rattle.cp_lists.proofs.FilteredLists.{Has-filter, filter-Distinct, filter-Has}
@@ -13,7 +13,7 @@ use Rattle.cp_faces.proofs.Twins.{twin_even}
 use Rattle.cp_conn.specs.CutVertex.{avoids, without_vertex}
 use Rattle.cp_conn.proofs.CutVertices.{kept_of, kept_pair}
 use Rattle.cp_maps.specs.Genus.{OnePart}
-use Rattle.cp_maps.specs.Maps.{IsMapOf, Ring, SameRings, next_by}
+use Rattle.cp_maps.specs.Maps.{IsMapOf, SameRings, next_by}
 use Rattle.cp_maps.proofs.ListFacts.{Below-from}
 use Rattle.cp_maps.proofs.MapLists.{IsMapOf-by}
 use Rattle.cp_maps.proofs.NamedLists.{named_item}
@@ -234,10 +234,12 @@ module _ (r : System) (is : IsRotation r) (u v : ℕ) (ltu : u < r.vertices) (lt
     tested-SameRings =
         subst (λ rows. SameRings (2 * n) (lists u ∷ lists v ∷ map lists others) (lists u ∷ lists v ∷ rows))
         (map-append lists passing failing)
-        (renamed-SameRings (vertex_of r) lists (2 * n) poles_first (u ∷ v ∷ (passing ++ failing))
-        (
-          (poles_first-Distinct.0.0, Lacks-from u (passing ++ failing)
-              (λ h. (others_are u (undivided u h)).1 refl)),
+        (renamed-SameRings (vertex_of r) lists (2 * n) poles_first (u ∷ v ∷ (passing ++ failing)) (
+          (
+            poles_first-Distinct.0.0,
+            Lacks-from u (passing ++ failing)
+                (λ h. (others_are u (undivided u h)).1 refl),
+          ),
           (Lacks-from v (passing ++ failing) (λ h. (others_are v (undivided v h)).2 refl), divided-Distinct),
         )
         (λ w h. ⊎_elim inl (λ k. ⊎_elim (λ e. inr (inl e)) (λ m. inr (inr (divided w m))) k) h)

@@ -36,7 +36,7 @@ pair_ends at d paired lt =
     pair = (pair_of_edge at (d / 2) (omega arith)).1 (0, 0)
 
 -- both darts are of one edge
-twin-half : (d : ℕ) → twin d / 2 ≡ d / 2
+pub twin-half : (d : ℕ) → twin d / 2 ≡ d / 2
 twin-half d = ⊎_elim (λ even. omega (arith, twin_even d even)) (λ odd. omega (arith, twin_odd d odd)) (cases_eq (d % 2) 0)
 
 module _ (r : System) (is : IsRotation r) (u : ℕ) (ltu : u < r.vertices) (parts : ℕ) (entered : List ℕ) (a : AreEntered r u parts entered) (more : ℕ) where

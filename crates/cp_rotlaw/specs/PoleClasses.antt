@@ -1,13 +1,12 @@
 -- The parts into which two poles divide a rotation system, and the darts of one pole put together by parts.
-use Rattle.std.specs.Prelude.{◌≡◌, ◌≢◌, ◌⊎◌, ℕ, ◌+◌, ◌/◌, ◌<◌, ◌==◌, ◌||◌, Bool, true, false, not, cond, List, [], ◌∷◌, ◌++◌, length, slice_index, slice_index_or}
+use Rattle.std.specs.Prelude.{◌≡◌, ◌≢◌, ◌⊎◌, ℕ, ◌+◌, ◌/◌, ◌<◌, ◌==◌, ◌||◌, Bool, true, not, cond, List, [], ◌∷◌, ◌++◌, slice_index}
 use Rattle.std.specs.List.{filter}
-use Rattle.cp_lists.specs.CyclicLists.{Has}
 use Rattle.cp_lists.specs.Turns.{IsTurn}
 use Rattle.cp_orbits.specs.Connected.{Connected}
 use Rattle.cp_faces.specs.Twins.{twin}
 use Rattle.cp_conn.specs.CutVertex.{without_vertex}
 use Rattle.cp_rot.specs.Genus.{end_pairs}
-use Rattle.cp_rot.specs.Systems.{System, darts, edges, list_of, vertex_of}
+use Rattle.cp_rot.specs.Systems.{System, darts, list_of, vertex_of}
 use Rattle.cp_rotlaw.specs.Stars.{IsDartOf}
 use Rattle.cp_rotlaw.specs.StarParts.{far_key, star_row}
 
@@ -27,6 +26,12 @@ pole_part r u v numbers d = cond (is_pole u v (vertex_of r (twin d))) (r.vertice
 -- the far end of dart d is neither pole
 abbrev pub LeadsBetween : System → ℕ → ℕ → ℕ → Type 0
 LeadsBetween r u v d = (vertex_of r (twin d) ≢ u) × (vertex_of r (twin d) ≢ v)
+
+-- the part of any dart: where it stands between the poles that of its vertex
+abbrev pub dart_part : System → ℕ → ℕ → List ℕ → ℕ → ℕ
+dart_part r u v numbers d = cond (is_pole u v (vertex_of r d))
+    (pole_part r u v numbers d)
+    (slice_index numbers (vertex_of r d))
 
 -- number tells for each vertex between the poles u and v its part, and part the part of each dart: an edge is of one
 -- part, of each part that a dart of u enters it has no other, and v has one
@@ -61,6 +66,19 @@ joined_rows part zs ws (x ∷ xs) = joined_rows part zs ws xs ++ star_row part w
 abbrev pub permuted_row : System → ℕ → (ℕ → ℕ) → (ℕ → Bool) → List ℕ → List ℕ → List ℕ
 permuted_row r v part entered ws order =
     joined_rows part (filter (λ d. not (entered (part d))) (list_of r v)) ws order
+
+-- the row has the darts of v by parts in the reverse of the order, those of each part from one end of the list of v on
+-- that is apart from its other end
+pub record IsPermutedRow (r : System) (u v : ℕ) (order row : List ℕ) : Type 0 where
+  pub number : ℕ → ℕ
+  pub part : ℕ → ℕ
+  pub entered : ℕ → Bool
+  pub ws : List ℕ
+  pub parts : ArePoleParts r u v number part
+  pub test : IsEnteredTest r u part entered
+  pub turn : IsTurn (filter (λ d. entered (part d)) (list_of r v)) ws
+  pub ends : HasEndsApart part ws
+  pub row_is : row ≡ permuted_row r v part entered ws order
 
 -- the lists where u has the order and v the row
 abbrev pub permuted_list : System → ℕ → ℕ → List ℕ → List ℕ → ℕ → List ℕ

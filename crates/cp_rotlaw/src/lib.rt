@@ -5,6 +5,9 @@ mod dipole;
 mod gluing;
 mod gluing_tables;
 mod laws;
+mod pole_parts;
+mod pole_rows;
+mod poles;
 mod star;
 mod star_lists;
 mod star_parts;
@@ -13,6 +16,8 @@ mod systems;
 mod tests_glue;
 #[cfg(test)]
 mod tests_merge;
+#[cfg(test)]
+mod tests_poles;
 #[cfg(test)]
 mod tests_star;
 #[cfg(test)]
@@ -24,4 +29,5 @@ pub use laws::{
     restriction_keeps_genus_zero, run_keeps_genus, split_off_has_genus_of_parts,
     split_off_keeps_genus_zero,
 };
+pub use poles::permute_components;
 pub use star::star_split;

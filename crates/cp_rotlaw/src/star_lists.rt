@@ -53,7 +53,7 @@ pub(crate) fn star_vertices(
 }
 
 // A number of empty rows.
-fn empty_rows(alloc: Global, parts: usize) -> Result<Vec<Items<usize>>, Memory>
+pub(crate) fn empty_rows(alloc: Global, parts: usize) -> Result<Vec<Items<usize>>, Memory>
     ensures size { IfOk result (λ rows. length rows.items ≡ parts) }
     ensures empty { IfOk result (λ rows. (i : ℕ) → slice_index_or rows.items i [] ≡ []) }
 {

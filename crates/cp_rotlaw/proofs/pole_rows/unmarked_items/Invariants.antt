@@ -1,0 +1,7 @@
+use Rattle.std.proofs.Common.{◌≡◌, false, not, slice_index, slice_index_or, take}
+use Rattle.std.specs.List.{filter}
+use Rattle.cp_rotlaw.proofs.pole_rows.unmarked_items.Given as goal
+
+abbrev pub invariant-loop-d : goal.invariant-loop-d
+invariant-loop-d l =
+    l.kept.items ≡ filter (λ d. not (slice_index_or l.marks (slice_index l.parts d) false)) (take l.d-index l.items)
