@@ -8,7 +8,6 @@ mod laws;
 mod pole_parts;
 mod pole_rows;
 mod poles;
-mod sides;
 mod star;
 mod star_lists;
 mod star_parts;
@@ -31,5 +30,4 @@ pub use laws::{
     split_off_keeps_genus_zero,
 };
 pub use poles::permute_components;
-pub use sides::merge_side;
 pub use star::star_split;
