@@ -1,9 +1,5 @@
 -- What the program finds at a side that is merged in part.
-<<<<<<< HEAD
-use Rattle.std.proofs.Common.{◌≡◌, ◌≢◌, ℕ, suc, ◌+◌, ◌*◌, ◌<◌, ◌≤◌, Bool, true, false, not, eqb, List, [], ◌∷◌, ◌++◌, length, map, set, slice_index, slice_index_or, sym, refl, ap, ◌∙◌, subst, inl, inr, ⊎_elim, arith, length-append}
-=======
 use Rattle.std.proofs.Common.{◌≡◌, ◌≢◌, ℕ, ◌+◌, ◌*◌, ◌<◌, ◌≤◌, Bool, true, false, not, List, [], ◌∷◌, ◌++◌, length, map, set, slice_index, slice_index_or, sym, refl, ap, ◌∙◌, subst, ⊎_elim, arith, length-append}
->>>>>>> main
 use Rattle.std.proofs.lemmas.Bool.{cases_Bool, false≢true}
 use Rattle.std.proofs.lemmas.List.{map-append}
 use Rattle.std.specs.List.{filter}
@@ -11,10 +7,6 @@ use Rattle.cp_lists.specs.CyclicLists.{Distinct, Has, Lacks, but}
 use Rattle.cp_lists.proofs.DistinctLists.{Distinct-append, Has-append_cases, Has-append_left, Has-append_right, Has-place, Has-split, Lacks-from, but_middle}
 use Rattle.cp_lists.proofs.FilteredLists.{Has-filter, filter-Distinct, filter-Has, filter_no, filter_yes}
 use Rattle.cp_faces.specs.Twins.{twin}
-<<<<<<< HEAD
-use Rattle.cp_maps.specs.Genus.{Becomes}
-=======
->>>>>>> main
 use Rattle.cp_maps.specs.Maps.{IsMapOf}
 use Rattle.cp_maps.proofs.MapLists.{IsMapOf-bare}
 use Rattle.cp_rot.specs.Rewrites.{values}

@@ -1,18 +1,10 @@
 -- One more vertex of a side merged: at a corner of a vertex of the other side, or of another component.
-<<<<<<< HEAD
-use Rattle.std.proofs.Common.{◌≡◌, ◌≢◌, ℕ, zero, suc, ◌+◌, ◌*◌, ◌<◌, Bool, true, false, not, cond, List, [], ◌∷◌, ◌++◌, length, map, set, slice_index, slice_index_or, sym, refl, ap, ap₂, ◌∙◌, subst, inl, inr, ⊎_elim, arith}
-=======
 use Rattle.std.proofs.Common.{◌≡◌, ℕ, zero, suc, ◌*◌, ◌<◌, Bool, true, false, not, cond, List, [], ◌∷◌, ◌++◌, length, map, set, slice_index, slice_index_or, sym, refl, ap, ◌∙◌, subst, inl, inr, ⊎_elim}
->>>>>>> main
 use Rattle.std.proofs.lemmas.Bool.{cases_Bool, cond-false, cond-true, false≢true}
 use Rattle.std.proofs.lemmas.List.{map-append}
 use Rattle.std.specs.Fn.{iterate}
 use Rattle.std.specs.List.{filter}
 use Rattle.cp_lists.specs.CyclicLists.{Distinct, Has, Lacks, but, follow}
-<<<<<<< HEAD
-use Rattle.cp_lists.specs.Rows.{flat}
-=======
->>>>>>> main
 use Rattle.cp_lists.proofs.CyclicLists.{follow-Has}
 use Rattle.cp_lists.proofs.DistinctLists.{Distinct-append, Has-append_left, Has-append_right, Has-but, Has-split, Lacks-from, but-Distinct, but-Has, but-append, but_lacks, but_middle}
 use Rattle.cp_lists.proofs.FilteredLists.{Has-filter, filter-Distinct, filter-Has}
@@ -139,12 +131,8 @@ module _ (r : System) (is : IsRotation r) (side : List Bool) (sides : IsSideOf r
 
   -- a vertex that is left taken away
   less_names : (w : ℕ) → Has w left → but w (left ++ other_names) ≡ but w left ++ other_names
-<<<<<<< HEAD
-  less_names w h = but-append w left other_names ∙ ap (λ xs. but w left ++ xs) (but_lacks w other_names (apart_names w h))
-=======
   less_names w h = but-append w left other_names
       ∙ ap (λ xs. but w left ++ xs) (but_lacks w other_names (apart_names w h))
->>>>>>> main
 
   -- with its list behind the first
   second-IsMapOf : (w : ℕ) → Has w left → IsMapOf n g (first ∷ lists w ∷ map lists (but w (left ++ other_names)))

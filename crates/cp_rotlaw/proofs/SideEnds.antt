@@ -1,14 +1,7 @@
 -- A side that is merged into one list: the order of its edges.
-<<<<<<< HEAD
-use Rattle.std.proofs.Common.{◌≡◌, ◌≢◌, ℕ, ◌+◌, ◌*◌, ◌/◌, ◌%◌, ◌<◌, Bool, true, false, not, cond, List, [], ◌∷◌, ◌++◌, map, slice_index_or, sym, refl, ap, ◌∙◌, subst, inl, inr, ⊎_elim, arith}
-use Rattle.std.proofs.lemmas.Bool.{cases_Bool, cases_eq, cond-false, cond-true, false≢true}
-use Rattle.std.specs.List.{filter}
-use Rattle.cp_lists.specs.Count.{Exactly}
-=======
 use Rattle.std.proofs.Common.{◌≡◌, ℕ, ◌+◌, ◌*◌, ◌/◌, ◌%◌, ◌<◌, Bool, true, false, not, List, [], ◌∷◌, ◌++◌, map, slice_index_or, sym, refl, ap, ◌∙◌, subst, inl, ⊎_elim, arith}
 use Rattle.std.proofs.lemmas.Bool.{cases_Bool, cases_eq, cond-false, cond-true, false≢true}
 use Rattle.std.specs.List.{filter}
->>>>>>> main
 use Rattle.cp_lists.specs.CyclicLists.{Distinct, Has}
 use Rattle.cp_lists.specs.Rows.{flat}
 use Rattle.cp_lists.proofs.DistinctLists.{Exactly-from}
@@ -27,12 +20,7 @@ use Rattle.cp_mergelaw.proofs.MergedSides.{IsMergeOf-IsMergedSide}
 use Rattle.cp_rot.specs.Genus.{HasGenusZero}
 use Rattle.cp_rot.specs.Rewrites.{values}
 use Rattle.cp_rot.specs.Systems.{IsRotation, System, darts, edges, list_of, next, vertex_of}
-<<<<<<< HEAD
-use Rattle.cp_rot.specs.Tables.{IsMarked}
-use Rattle.cp_rot.proofs.ListSystems.{Listed, Listed-system}
-=======
 use Rattle.cp_rot.proofs.ListSystems.{Listed-system}
->>>>>>> main
 use Rattle.cp_rotlaw.specs.SideOrders.{IsSideOf, IsSideOrder, in_side, rows_where, side_dart}
 use Rattle.cp_rotlaw.specs.SideStates.{IsMerging, other_rows, vertices_left}
 use Rattle.cp_rotlaw.proofs.NamedMaps.{numbers-below}

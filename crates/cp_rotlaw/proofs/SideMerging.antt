@@ -1,26 +1,13 @@
 -- The vertices of a side merged into one list, one after the other.
-<<<<<<< HEAD
-use Rattle.std.proofs.Common.{◌≡◌, ◌≢◌, ℕ, suc, ◌+◌, ◌*◌, ◌<◌, ◌&&◌, Bool, true, false, not, eqb, List, [], ◌∷◌, ◌++◌, length, map, set, slice_index, slice_index_or, append_assoc, sym, refl, ap, ap₂, ◌∙◌, subst, inl, inr, ⊎_elim, arith}
-use Rattle.std.proofs.lemmas.Bool.{and_parts, cases_Bool, cases_eq, eq-eqb, false≢true, ne_eqb}
-use Rattle.std.proofs.lemmas.List.{get_or-set_other, get_or-set_same, length-set, map-append}
-use Rattle.std.specs.List.{filter}
-use Rattle.cp_lists.specs.CyclicLists.{Distinct, Has, Lacks, but, follow}
-use Rattle.cp_lists.specs.Rows.{flat}
-=======
 use Rattle.std.proofs.Common.{◌≡◌, ℕ, ◌*◌, ◌<◌, ◌&&◌, Bool, true, false, not, eqb, List, [], ◌∷◌, ◌++◌, length, map, set, slice_index_or, sym, refl, ap, ap₂, ◌∙◌, subst, ⊎_elim}
 use Rattle.std.proofs.lemmas.Bool.{and_parts, cases_eq, eq-eqb, false≢true, ne_eqb}
 use Rattle.std.proofs.lemmas.List.{get_or-set_other, get_or-set_same, length-set, map-append}
 use Rattle.std.specs.List.{filter}
 use Rattle.cp_lists.specs.CyclicLists.{Distinct, Has, Lacks, but}
->>>>>>> main
 use Rattle.cp_lists.specs.Turns.{IsTurn}
 use Rattle.cp_lists.proofs.DistinctLists.{Has-append_cases, Has-append_left, Has-append_right, Has-split, but_middle}
 use Rattle.cp_lists.proofs.FilteredLists.{Has-filter, filter-Distinct, filter-Has, filter_agree, filter_twice}
 use Rattle.cp_lists.proofs.TurnedLists.{Has-of_turn, turn-Has}
-<<<<<<< HEAD
-use Rattle.cp_faces.specs.Twins.{twin}
-=======
->>>>>>> main
 use Rattle.cp_maps.specs.Genus.{Becomes}
 use Rattle.cp_maps.specs.Maps.{IsMapOf}
 use Rattle.cp_maps.proofs.Genus.{SameGenus-trans}
@@ -30,17 +17,10 @@ use Rattle.cp_rot.specs.Rewrites.{values}
 use Rattle.cp_rot.specs.Systems.{IsRotation, System, darts, edges, list_of, next, vertex_of}
 use Rattle.cp_rot.specs.Tables.{IsMarked}
 use Rattle.cp_rot.proofs.ListSystems.{Listed, Listed-system}
-<<<<<<< HEAD
-use Rattle.cp_rotlaw.specs.SideOrders.{IsSideOf, in_side, rows_where}
-use Rattle.cp_rotlaw.specs.SideStates.{IsMerging, is_left, other_rows, vertices_left}
-use Rattle.cp_rotlaw.proofs.NamedMaps.{Has-numbers, numbers-Distinct, numbers-below}
-use Rattle.cp_rotlaw.proofs.PoleMaps.{not_false, not_true}
-=======
 use Rattle.cp_rotlaw.specs.SideOrders.{IsSideOf, in_side}
 use Rattle.cp_rotlaw.specs.SideStates.{IsMerging, is_left, other_rows, vertices_left}
 use Rattle.cp_rotlaw.proofs.NamedMaps.{Has-numbers, numbers-Distinct, numbers-below}
 use Rattle.cp_rotlaw.proofs.PoleMaps.{not_true}
->>>>>>> main
 
 -- a vertex that is marked now is left where it was left and is another one
 is_left-set : (side merged : List Bool) (w x : ℕ) → w < length merged

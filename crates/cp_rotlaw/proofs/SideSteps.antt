@@ -1,20 +1,10 @@
 -- Two lists of a side put together at a corner of a list between them.
-<<<<<<< HEAD
-use Rattle.std.proofs.Common.{◌≡◌, ◌≢◌, ℕ, suc, ◌+◌, ◌*◌, ◌<◌, Bool, true, false, List, [], ◌∷◌, ◌++◌, length, take, drop, drop-cons, slice_index, append_assoc, sym, refl, ap, ap₂, ◌∙◌, subst, inl, inr, ⊎_elim, arith}
-use Rattle.std.proofs.lemmas.Bool.{cases_Bool, false≢true}
-use Rattle.std.proofs.lemmas.List.{take-append-drop, take_more}
-use Rattle.cp_lists.specs.CyclicLists.{Distinct, Has, follow}
-use Rattle.cp_lists.specs.Rows.{flat}
-use Rattle.cp_lists.specs.Turns.{IsTurn}
-use Rattle.cp_lists.proofs.CyclicLists.{follow-Has, next_from_at}
-=======
 use Rattle.std.proofs.Common.{◌≡◌, ◌≢◌, ℕ, suc, ◌+◌, ◌*◌, ◌<◌, List, [], ◌∷◌, ◌++◌, length, take, drop, drop-cons, slice_index, append_assoc, sym, refl, ap, ap₂, ◌∙◌, subst, arith}
 use Rattle.std.proofs.lemmas.List.{take-append-drop, take_more}
 use Rattle.cp_lists.specs.CyclicLists.{Has, follow}
 use Rattle.cp_lists.specs.Rows.{flat}
 use Rattle.cp_lists.specs.Turns.{IsTurn}
 use Rattle.cp_lists.proofs.CyclicLists.{next_from_at}
->>>>>>> main
 use Rattle.cp_lists.proofs.DistinctLists.{Distinct-apart, Has-append_left, Has_at, has_lacks}
 use Rattle.cp_lists.proofs.TurnedLists.{turn-follow, turn-sym, turn_parts, turn_to_item}
 use Rattle.cp_faces.specs.Twins.{twin}

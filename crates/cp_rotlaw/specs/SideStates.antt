@@ -29,12 +29,8 @@ pub record IsMerging (r : System) (side merged : List Bool) (first : List ℕ) :
   pub within : (w : ℕ) → IsMarked merged w → in_side side w ≡ true
   pub items : (d : ℕ) → Has d first → (d < darts r) × IsMarked merged (vertex_of r d)
   pub all : (d : ℕ) → d < darts r → IsMarked merged (vertex_of r d) → Has d first
-<<<<<<< HEAD
-  pub becomes : Becomes (edges r) (next r) (first ∷ (map (list_of r) (vertices_left r side merged) ++ other_rows r side))
-=======
   pub becomes : Becomes (edges r) (next r)
       (first ∷ (map (list_of r) (vertices_left r side merged) ++ other_rows r side))
->>>>>>> main
   pub refines : (whole : List ℕ) → IsMergeOf whole (first ∷ map (list_of r) (vertices_left r side merged))
       → IsMergeOf whole (rows_where r (in_side side))
 
