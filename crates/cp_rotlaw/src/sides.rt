@@ -110,7 +110,13 @@ fn merged_at_corner(
     let _ = (a.darts(), side.len(), merged.len());
     let twin = other_dart(a.next(x));
     let list = a.list(a.at(twin)).items();
-    turned_pair(alloc, row, place(row, other_dart(x)), list, place(list, twin) + 1)
+    turned_pair(
+        alloc,
+        row,
+        place(row, other_dart(x)),
+        list,
+        place(list, twin) + 1,
+    )
 }
 
 // One vertex more of the side, and the list with that of this vertex; none where all are merged.
@@ -126,7 +132,7 @@ fn next_merge(
     ensures { IfOk result (λ found. MatchOption found
         (NoneLeft a.now side.now merged.now)
         (λ more. Has more.0 (vertices_left a.now side.now merged.now)
-            × IsMerging a.now side.now (set merged.now more.0 true) more.1.items)) }
+        × IsMerging a.now side.now (set merged.now more.0 true) more.1.items)) }
 {
     let _ = a.darts();
     if let Some(x) = corner(a, side, merged) {
