@@ -20,8 +20,6 @@ mod tests_merge;
 #[cfg(test)]
 mod tests_poles;
 #[cfg(test)]
-mod tests_sides;
-#[cfg(test)]
 mod tests_star;
 #[cfg(test)]
 mod tests_systems;
