@@ -1,4 +1,4 @@
-use Rattle.std.proofs.Common.{◌≡◌, ◌+◌, ◌≤◌, length}
+use Rattle.std.proofs.Common.{◌+◌, ◌≤◌, length}
 use Rattle.cp_rotlaw.specs.SideStates.{IsMerging, vertices_left}
 use Rattle.cp_rotlaw.proofs.sides.merged_row.Given as goal
 

@@ -1,4 +1,4 @@
-use Rattle.std.proofs.Common.{◌≡◌, ◌∙◌, ◌++◌, ℕ, List, ap, ap₂, append-nil, false, not, set, slice_index_or, subst, sym, true}
+use Rattle.std.proofs.Common.{◌≡◌, ◌∙◌, ◌++◌, ℕ, List, ap, ap₂, append-nil, not, set, subst, sym, true}
 use Rattle.cp_lists.specs.CyclicLists.{Has}
 use Rattle.cp_faces.specs.Twins.{twin}
 use Rattle.cp_rot.specs.Systems.{list_of, next, vertex_of}
