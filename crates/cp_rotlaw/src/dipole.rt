@@ -8,7 +8,7 @@ use cp_rot::Rot;
 use std::alloc::Global;
 
 // The edges of the darts.
-fn edges_of(alloc: Global, items: &[usize]) -> Result<CycList, Memory>
+pub(crate) fn edges_of(alloc: Global, items: &[usize]) -> Result<CycList, Memory>
     ensures { IfOk result (λ list. list ≡ map (λ d. d / 2) items.now) }
 {
     let edges: Vec<usize> = items.iter().map(|d| *d / 2).collect(alloc)?;

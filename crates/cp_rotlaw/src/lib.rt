@@ -8,6 +8,7 @@ mod laws;
 mod pole_parts;
 mod pole_rows;
 mod poles;
+mod sides;
 mod star;
 mod star_lists;
 mod star_parts;
@@ -30,4 +31,5 @@ pub use laws::{
     split_off_keeps_genus_zero,
 };
 pub use poles::permute_components;
+pub use sides::merge_side;
 pub use star::star_split;
