@@ -15,3 +15,4 @@ mod ForcedTrees
 mod OpenedTrees
 mod PlacedOrders
 mod FittedNodes
+mod SmallOrders

@@ -1,10 +1,13 @@
 // Nodes read by bits, copied and told, and each call on a tree once.
+ghost use Rattle.std.specs.Prelude.{IsTrue};
+ghost use Rattle.cp_force.specs.SmallOrders.{is_star_order};
+
 use crate::copying::copy_of_node;
 use crate::reading::push_word;
 use crate::shaping::branch_of_node;
-use crate::{copy_of, order_of, owner_of, shape_of};
+use crate::{ForceFault, OrderTree, copy_of, force, order_of, owner_of, shape_of};
 use cp_base::{Branch, Items, Memory};
-use cp_pq::{Node, Nodes, star};
+use cp_pq::{Node, Nodes, Tree, star};
 use std::alloc::Global;
 use std::test::Fail;
 
@@ -55,5 +58,53 @@ fn a_star_has_its_owner_and_an_order(rt: HostRuntime) -> Result<(), Fail> {
     let shape = shape_of(rt.alloc(), &tree)?;
     assert_eq!(rt; shape.root, 0);
     assert!(rt; matches!(shape.body, Branch::P(_)));
+    Ok(())
+}
+
+// The star with the root 0, the owner 7 and one var, forced to the order by its var.
+fn star_forced(alloc: Global, leaves: &[usize], order: &[usize]) -> Result<Tree, ForceFault>
+    requires { IsTrue (is_star_order leaves.now order.now) }
+{
+    let tree = star(alloc, 0, leaves, 7, 1)?;
+    force(alloc, tree, order, 0)
+}
+
+#[test]
+fn a_star_is_forced_in_both_directions(rt: HostRuntime) -> Result<(), Fail> {
+    let tree = star_forced(rt.alloc(), &[1, 2, 3, 4], &[1, 3, 2])?;
+    assert_eq!(rt; tree.vars(), 1);
+    let mut word = Vec::new(rt.alloc());
+    push_word(tree.body(), &[false], &mut word)?;
+    push_word(tree.body(), &[true], &mut word)?;
+    assert_eq!(rt; word.as_slice(), [4usize, 1, 3, 2, 4, 2, 3, 1].as_slice());
+    Ok(())
+}
+
+#[test]
+fn one_leaf_is_forced(rt: HostRuntime) -> Result<(), Fail> {
+    let tree = star_forced(rt.alloc(), &[1, 2], &[2])?;
+    assert_eq!(rt; tree.vars(), 1);
+    assert_eq!(rt; tree.equations().len(), 0);
+    assert_eq!(rt; owner_of(&tree), Some(7));
+    Ok(())
+}
+
+// What the trait tells of a tree: its vars, the root of the shape of a copy, and its owner.
+fn told<T: OrderTree + Drop>(
+    alloc: Global,
+    tree: &T,
+) -> Result<(usize, usize, Option<usize>), Memory> {
+    let copy = tree.copy_tree(alloc)?;
+    let shape = copy.shape(alloc)?;
+    Ok((tree.vars(), shape.root, copy.sole_owner()))
+}
+
+#[test]
+fn a_tree_is_told_through_the_trait(rt: HostRuntime) -> Result<(), Fail> {
+    let tree = star(rt.alloc(), 0, &[1, 2, 3, 4], 7, 1)?;
+    let (vars, root, owner) = told(rt.alloc(), &tree)?;
+    assert_eq!(rt; vars, 1);
+    assert_eq!(rt; root, 0);
+    assert_eq!(rt; owner, Some(7));
     Ok(())
 }

@@ -1,0 +1,22 @@
+use Rattle.std.proofs.Common.{◌<◌, sym, ap, subst, arith}
+use Rattle.cp_force.proofs.SmallOrders.{star_distinct, star_some, order_some, order_distinct, order_leaves}
+use Rattle.cp_force.proofs.tests.star_forced.Goals as goal
+
+pub star-requires-clause-not_empty : goal.star-requires-clause-not_empty
+star-requires-clause-not_empty c = star_some c.args.leaves.now c.args.order.now c.requires
+
+pub star-requires-clause-distinct : goal.star-requires-clause-distinct
+star-requires-clause-distinct c = star_distinct c.args.leaves.now c.args.order.now c.requires
+
+pub force-requires-clause-not_empty : goal.force-requires-clause-not_empty
+force-requires-clause-not_empty c = order_some c.args.leaves.now c.args.order.now c.requires
+
+pub force-requires-clause-distinct : goal.force-requires-clause-distinct
+force-requires-clause-distinct c = order_distinct c.args.leaves.now c.args.order.now c.requires
+
+pub force-requires-clause-leaves_of : goal.force-requires-clause-leaves_of
+force-requires-clause-leaves_of c =
+    order_leaves c.args.leaves.now c.args.order.now c.requires 7 1 c.in_ok-tree.tree c.in_ok-tree.ensures
+
+pub force-requires-clause-var_within : goal.force-requires-clause-var_within
+force-requires-clause-var_within c = subst (λ n. 0 < n) (sym (ap (λ t. t.vars) c.in_ok-tree.ensures.tree_is)) (omega arith)
