@@ -1,6 +1,5 @@
-use Rattle.std.proofs.Common.{◌<◌, sym, ap, subst, arith}
-use Rattle.cp_force.proofs.SmallOrders.{star_distinct, star_some, order_some, order_distinct, order_leaves}
-use Rattle.cp_force.proofs.tests.star_forced.Goals as goal
+use Rattle.cp_force.proofs.SmallOrders.{star_distinct, star_some, star_var, order_some, order_distinct, order_leaves}
+use Rattle.cp_force.proofs.tests.forced.Goals as goal
 
 pub star-requires-clause-not_empty : goal.star-requires-clause-not_empty
 star-requires-clause-not_empty c = star_some c.args.leaves.now c.args.order.now c.requires
@@ -16,7 +15,7 @@ force-requires-clause-distinct c = order_distinct c.args.leaves.now c.args.order
 
 pub force-requires-clause-leaves_of : goal.force-requires-clause-leaves_of
 force-requires-clause-leaves_of c =
-    order_leaves c.args.leaves.now c.args.order.now c.requires 7 1 c.in_ok-tree.tree c.in_ok-tree.ensures
+    order_leaves c.args.leaves.now c.args.order.now c.requires _ _ _ c.in_ok-star.ensures.star
 
 pub force-requires-clause-var_within : goal.force-requires-clause-var_within
-force-requires-clause-var_within c = subst (λ n. 0 < n) (sym (ap (λ t. t.vars) c.in_ok-tree.ensures.tree_is)) (omega arith)
+force-requires-clause-var_within c = star_var _ _ _ c.in_ok-star.ensures.star
