@@ -178,7 +178,7 @@ fresh_leaf leaf xs set owner vars old new h s r = record {
     kept : Has leaf (leaves new.body) → Has leaf xs
     kept m = subst (Has leaf) (star_has xs owner vars old s)
         (Has-IsPermutation leaf (leaves new.body) (leaves old.body)
-            (IsPermutation-sym (leaves old.body) (leaves new.body) r.leaves_kept) m)
+        (IsPermutation-sym (leaves old.body) (leaves new.body) r.leaves_kept) m)
 
     back : Has leaf (new.root ∷ leaves new.body) → Has leaf (0 ∷ xs)
     back = ⊎_elim (λ e. inl (sym root_is ∙ e)) (λ m. inr (kept m))

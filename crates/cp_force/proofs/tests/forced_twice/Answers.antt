@@ -29,7 +29,7 @@ force-requires-clause-distinct-2 c = order_distinct c.args.leaves.now c.args.aga
 pub force-requires-clause-leaves_of-2 : goal.force-requires-clause-leaves_of-2
 force-requires-clause-leaves_of-2 c =
     again_leaves c.args.leaves.now c.args.again.now c.requires.second _ _ _ _ _ _
-        c.in_ok-star.ensures.star c.in_ok-tree.ensures.forced
+    c.in_ok-star.ensures.star c.in_ok-tree.ensures.forced
 
 pub force-requires-clause-var_within-2 : goal.force-requires-clause-var_within-2
 force-requires-clause-var_within-2 c = again_var _ _ _ _ _ _ c.in_ok-star.ensures.star c.in_ok-tree.ensures.forced

@@ -21,4 +21,4 @@ replace-requires-clause-consecutive c = reduced_orders c.args.set.now _ _ c.in_o
 pub replace-requires-clause-fresh : goal.replace-requires-clause-fresh
 replace-requires-clause-fresh c =
     fresh_leaf c.args.leaf c.args.leaves.now c.args.set.now _ _ _ _ c.requires.fresh c.in_ok-star.ensures.star
-        c.in_ok-tree.ensures.reduced
+    c.in_ok-tree.ensures.reduced
