@@ -21,12 +21,16 @@ report_short bytes r n is =
     omega (arith, all, is.whole)
 
 -- the verdict on a report answers it and the text behind it
-pub verdict_judges : (g : Clustered) (r : Report) (text : List ℕ) → IsGraphText text g → (v : Verdict) → IsVerdict g r v → (end : End) (line : List ℕ) → Tells v end line → Judged r text end line
+pub verdict_judges : (g : Clustered) (r : Report) (text : List ℕ) → IsGraphText text g → (v : Verdict) → IsVerdict g r v
+    → (end : End) (line : List ℕ) → Tells v end line → Judged r text end line
 verdict_judges g r text is Accepted good end line told =
-    subst (λ t. Judged r text end t) (sym told.1) (subst (λ e. Judged r text e accepted_line) (sym told.0) (accepted g is good))
+    subst (λ t. Judged r text end t) (sym told.1) (subst (λ e. Judged r text e accepted_line) (sym told.0)
+    (accepted g is good))
 verdict_judges g r text is (Rejected reason) why end line told =
-    subst (λ t. Judged r text end t) (sym told.1) (subst (λ e. Judged r text e (rejected_line reason)) (sym told.0) (rejected g is reason why))
+    subst (λ t. Judged r text end t) (sym told.1) (subst (λ e. Judged r text e (rejected_line reason)) (sym told.0)
+    (rejected g is reason why))
 
 -- what is judged behind a report answers the bytes
-pub read_here : (bytes : List ℕ) (r : Report) (n : ℕ) (text : List ℕ) → BeginsWith bytes r n → text ≡ drop n bytes → (end : End) (line : List ℕ) → Judged r text end line → Checked bytes end line
+pub read_here : (bytes : List ℕ) (r : Report) (n : ℕ) (text : List ℕ) → BeginsWith bytes r n → text ≡ drop n bytes
+    → (end : End) (line : List ℕ) → Judged r text end line → Checked bytes end line
 read_here bytes r n text begins same end line is = read r n begins (subst (λ t. Judged r t end line) same is)

@@ -5,6 +5,9 @@ use Rattle.cp_cgraph.specs.Clustered.{Clustered}
 use Rattle.cp_cgraph.specs.GraphTexts.{IsGraphText}
 use Rattle.cp_cgraph.proofs.FaultLaw.{graph_or_fault}
 use Rattle.cp_gml.proofs.Outcomes.{some_entries}
+use Rattle.cp_gml.specs.Kinds.{grammar_name, grammar_number}
+use Rattle.cp_cgraph.specs.Kinds.{graph_name, graph_number}
+use Rattle.cp_report.specs.Kinds.{report_number}
 use Rattle.cp_io.specs.Commands.Answer.{usage, too_long, told}
 use Rattle.cp_io.specs.Streams.{most_bytes}
 use Rattle.cp_report.specs.declared.report.Report.{Report}
@@ -13,7 +16,7 @@ use Rattle.cp_check.proofs.Outcomes.{some_verdict}
 use Rattle.cp_app.specs.Answer.{Answer, Checked, Judged}
 use Rattle.cp_app.specs.Answer.Checked.{bad_report, read}
 use Rattle.cp_app.specs.Answer.Judged.{grammar, graph, accepted, rejected}
-use Rattle.cp_app.specs.Texts.{usage_line, bad_report_line, grammar_name, graph_name, refused_line, accepted_line, rejected_line}
+use Rattle.cp_app.specs.Texts.{usage_line, bad_report_line, refused_line, accepted_line, rejected_line}
 use Rattle.cp_app.specs.declared.command.Asked.TheVariants.{Check}
 use Rattle.cp_app.specs.declared.end.End.{End}
 use Rattle.cp_app.specs.declared.end.End.TheVariants as ends
@@ -35,11 +38,14 @@ some_judgement r text none =
     ⊎_elim
     (λ says. some_graph_judgement r text says.0 record { entries = list.0; list = list.1; graph = says.1 } none)
     (λ fault.
-    none (ends.Refused fault.0 fault.1) (refused_line (graph_name fault.0) fault.0 fault.1)
+    none (ends.Refused (graph_number fault.0) fault.1) (refused_line (graph_name fault.0) (graph_number fault.0)
+    fault.1)
     (graph fault.0 fault.1 record { entries = list.0; list = list.1; fault = fault.2 }))
     (graph_or_fault (length text) list.0))
     (λ fault.
-    none (ends.Refused fault.0 fault.1) (refused_line (grammar_name fault.0) fault.0 fault.1) (grammar fault.0 fault.1 fault.2))
+    none (ends.Refused (grammar_number fault.0) fault.1) (refused_line (grammar_name fault.0) (grammar_number fault.0)
+    fault.1)
+    (grammar fault.0 fault.1 fault.2))
     (some_entries text)
 
 -- `check` answers all bytes
@@ -48,12 +54,15 @@ some_check bytes none =
     some_reading bytes
     (λ reading.
     ⊎_elim
-    (λ begins. some_judgement begins.0 (drop begins.1 bytes) (λ end text is. none end text (read begins.0 begins.1 begins.2 is)))
-    (λ fault. none (ends.BadReport fault.0 fault.1) (bad_report_line fault.0 fault.1) (bad_report fault.0 fault.1 fault.2))
+    (λ begins. some_judgement begins.0 (drop begins.1 bytes) (λ end text is. none end text
+    (read begins.0 begins.1 begins.2 is)))
+    (λ fault. none (ends.BadReport (report_number fault.0) fault.1) (bad_report_line (report_number fault.0) fault.1)
+    (bad_report fault.0 fault.1 fault.2))
     reading)
 
 -- no words and bytes are without an end and a text
-pub some_answer : (words : List (List ℕ)) (bytes : List ℕ) → ((end : End) (text : List ℕ) → Answer words bytes end text → ⊥) → ⊥
+pub some_answer : (words : List (List ℕ)) (bytes : List ℕ)
+    → ((end : End) (text : List ℕ) → Answer words bytes end text → ⊥) → ⊥
 some_answer words bytes none =
     none ends.Usage usage_line (usage (asks_nothing words (λ check.
     ⊎_elim

@@ -2,7 +2,8 @@
 use Rattle.std.proofs.Common.{◌≡◌, ◌<◌, ◌≤◌, List, [], ◌∷◌, length, get_or, map, sym, ap, ◌∙◌, arith, Bool, true, false, IsTrue}
 
 -- a list of one item, seen through f
-pub map-only : {X Y : Type 0} (f : X → Y) → (xs : List X) (x : X) → 1 ≤ length xs → length xs < 2 → x ≡ get_or xs 0 x → map f xs ≡ f x ∷ []
+pub map-only : {X Y : Type 0} (f : X → Y) → (xs : List X) (x : X) → 1 ≤ length xs → length xs < 2 → x ≡ get_or xs 0 x
+    → map f xs ≡ f x ∷ []
 map-only f [] x low high e = absurd (omega (arith, low))
 map-only f (y ∷ []) x low high e = ap (λ z. f z ∷ []) (sym e)
 map-only f (y ∷ z ∷ zs) x low high e = absurd (omega (arith, high))

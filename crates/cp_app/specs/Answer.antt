@@ -1,7 +1,13 @@
 -- What a run may end with, and the text that it then writes.
 use Rattle.std.specs.Prelude.{◌≡◌, ℕ, List, [], ◌∷◌, drop, codes}
 use Rattle.cp_cgraph.specs.Clustered.{Clustered}
+use Rattle.cp_gml.specs.Kinds.{grammar_name, grammar_number}
 use Rattle.cp_gml.specs.Lists as lists
+use Rattle.cp_gml.specs.declared.kind.GrammarKind.{GrammarKind}
+use Rattle.cp_cgraph.specs.Kinds.{graph_name, graph_number}
+use Rattle.cp_cgraph.specs.declared.kind.GraphKind.{GraphKind}
+use Rattle.cp_report.specs.Kinds.{report_number}
+use Rattle.cp_report.specs.declared.kind.ReportKind.{ReportKind}
 use Rattle.cp_io.specs.Commands as commands
 use Rattle.cp_io.specs.declared.command.Ends.{Ends}
 use Rattle.cp_report.specs.declared.report.Report.{Report}
@@ -9,7 +15,7 @@ use Rattle.cp_report.specs.Texts.{BeginsWith}
 use Rattle.cp_report.specs.Faults as reports
 use Rattle.cp_cgraph.specs.GraphTexts.{IsGraphText, IsGraphFault}
 use Rattle.cp_check.specs.Judging.{IsReason, IsGoodReport}
-use Rattle.cp_app.specs.Texts.{usage_line, bad_report_line, grammar_name, graph_name, refused_line, accepted_line, rejected_line}
+use Rattle.cp_app.specs.Texts.{usage_line, bad_report_line, refused_line, accepted_line, rejected_line}
 use Rattle.cp_check.specs.declared.verdict.Reject.{Reject}
 use Rattle.cp_app.specs.declared.command.Asked.{Asked}
 use Rattle.cp_app.specs.declared.command.Asked.TheVariants.{Check}
@@ -22,15 +28,21 @@ IsCheck words = words ≡ codes "check" ∷ []
 
 -- what `check` answers to a report and the text behind it, by the first row that applies
 pub data Judged (r : Report) (text : List ℕ) : End → List ℕ → Type 0 where
-  grammar : (kind at : ℕ) → lists.IsFaultOf text kind at → Judged r text (ends.Refused kind at) (refused_line (grammar_name kind) kind at)
-  graph : (kind at : ℕ) → IsGraphFault text kind at → Judged r text (ends.Refused kind at) (refused_line (graph_name kind) kind at)
+  grammar : (kind : GrammarKind) (at : ℕ) → lists.IsFaultOf text kind at
+      → Judged r text (ends.Refused (grammar_number kind) at) (refused_line (grammar_name kind) (grammar_number kind)
+      at)
+  graph : (kind : GraphKind) (at : ℕ) → IsGraphFault text kind at
+      → Judged r text (ends.Refused (graph_number kind) at) (refused_line (graph_name kind) (graph_number kind) at)
   accepted : (g : Clustered) → IsGraphText text g → IsGoodReport g r → Judged r text ends.Accepted accepted_line
-  rejected : (g : Clustered) → IsGraphText text g → (reason : Reject) → IsReason g r reason → Judged r text (ends.Rejected reason) (rejected_line reason)
+  rejected : (g : Clustered) → IsGraphText text g → (reason : Reject) → IsReason g r reason
+      → Judged r text (ends.Rejected reason) (rejected_line reason)
 
 -- what `check` answers to bytes: they begin with a report, or they have a fault as one
 pub data Checked (bytes : List ℕ) : End → List ℕ → Type 0 where
-  bad_report : (kind number : ℕ) → reports.IsFaultOf bytes kind number → Checked bytes (ends.BadReport kind number) (bad_report_line kind number)
-  read : {end : End} {text : List ℕ} → (r : Report) (n : ℕ) → BeginsWith bytes r n → Judged r (drop n bytes) end text → Checked bytes end text
+  bad_report : (kind : ReportKind) (number : ℕ) → reports.IsFaultOf bytes kind number
+      → Checked bytes (ends.BadReport (report_number kind) number) (bad_report_line (report_number kind) number)
+  read : {end : End} {text : List ℕ} → (r : Report) (n : ℕ) → BeginsWith bytes r n → Judged r (drop n bytes) end text
+      → Checked bytes end text
 
 -- the words ask for this
 abbrev pub Asks : List (List ℕ) → Asked → Type 0
@@ -42,7 +54,14 @@ Answers Check = Checked
 
 -- the ends that all commands share
 abbrev pub shared_ends : Ends End
-shared_ends = record { usage = ends.Usage; too_long = ends.TooLong; read_fault = ends.ReadFault; write_fault = ends.WriteFault; memory = ends.Memory }
+shared_ends = record {
+  usage = ends.Usage;
+  too_long = ends.TooLong;
+  read_fault = ends.ReadFault;
+  write_fault =
+      ends.WriteFault;
+  memory = ends.Memory;
+}
 
 -- for these words and bytes the run may end so and write this text: the words ask for nothing, or the bytes are
 -- too many, or what they ask for is answered so

@@ -3,6 +3,7 @@ use Rattle.std.specs.Prelude.{ℕ}
 use Rattle.cp_app.specs.declared.end.End.{End}
 use Rattle.cp_app.specs.declared.end.End.TheVariants.{Yes, No, Accepted, Rejected, Done, Refused, BadReport, Usage, ReadFault, WriteFault, TooLong, Memory}
 
+-- the exit status of an end
 abbrev pub code_of : End → ℕ
 code_of Yes = 0
 code_of Accepted = 0

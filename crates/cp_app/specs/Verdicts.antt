@@ -6,6 +6,7 @@ use Rattle.cp_app.specs.Texts.{accepted_line, rejected_line}
 use Rattle.cp_app.specs.declared.end.End.{End}
 use Rattle.cp_app.specs.declared.end.End.TheVariants as ends
 
+-- the end and the line are those of the verdict
 abbrev pub Tells : Verdict → End → List ℕ → Type 0
 Tells Accepted end text = (end ≡ ends.Accepted) × (text ≡ accepted_line)
 Tells (Rejected reason) end text = (end ≡ ends.Rejected reason) × (text ≡ rejected_line reason)

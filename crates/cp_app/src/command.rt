@@ -3,7 +3,7 @@ ghost use Rattle.std.specs.Prelude.{◌↔◌, IsTrue, map, string_bytes};
 ghost use Rattle.cp_app.specs.Answer.{IsCheck};
 
 use crate::End;
-use crate::decide::decide;
+use crate::answering::answer_to;
 use cp_base::Memory;
 use cp_io::Command;
 use std::alloc::Global;
@@ -42,9 +42,9 @@ impl Command for Asked {
         }
     }
 
-    fn decide(self, alloc: Global, bytes: &[u8]) -> Result<(End, Vec<u8>), Memory> {
+    fn answer(self, alloc: Global, bytes: &[u8]) -> Result<(End, Vec<u8>), Memory> {
         match self {
-            Asked::Check => decide(alloc, bytes),
+            Asked::Check => answer_to(alloc, bytes),
         }
     }
 }

@@ -1,8 +1,8 @@
 //! The one call that the program makes: words of the command line in, bytes in, an end and a text out.
 #![tactic(auto)]
 
+mod answering;
 mod command;
-mod decide;
 mod end;
 mod judge;
 mod laws;

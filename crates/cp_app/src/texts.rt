@@ -1,9 +1,13 @@
 // The lines that a run writes.
 ghost use Rattle.std.specs.Prelude.{◌≡◌, IfOk};
-ghost use Rattle.cp_app.specs.Texts.{bad_report_line, grammar_name, graph_name, refused_line, rejected_line};
+ghost use Rattle.cp_gml.specs.Kinds.{grammar_name, grammar_number};
+ghost use Rattle.cp_cgraph.specs.Kinds.{graph_name, graph_number};
+ghost use Rattle.cp_app.specs.Texts.{bad_report_line, refused_line, rejected_line};
 
 use cp_base::Memory;
+use cp_cgraph::GraphKind;
 use cp_check::Reject;
+use cp_gml::GrammarKind;
 use std::alloc::Global;
 
 pub(crate) const USAGE: &[u8] = b"usage: cplan COMMAND [N]\n";
@@ -33,42 +37,6 @@ pub(crate) fn bad_report(alloc: Global, kind: u8, line: usize) -> Result<Vec<u8>
     Ok(format!(in alloc; "bad report {kind} line {line}\n")?.into_bytes())
 }
 
-// The name of a grammar fault, of kind 1 to 8.
-fn grammar_word(kind: u8) -> &'static str
-    ensures { result.now ≡ grammar_name kind }
-{
-    match kind {
-        1 => "BadByte",
-        2 => "OpenString",
-        3 => "BadNumber",
-        4 => "KeyExpected",
-        5 => "ValueExpected",
-        6 => "ListOpen",
-        7 => "StrayClose",
-        _ => "TooDeep",
-    }
-}
-
-// The name of a graph fault, of kind 10 to 21.
-fn graph_word(kind: u8) -> &'static str
-    ensures { result.now ≡ graph_name kind }
-{
-    match kind {
-        10 => "NoGraph",
-        11 => "SecondGraph",
-        12 => "NotAList",
-        13 => "MissingId",
-        14 => "RepeatedKey",
-        15 => "BadId",
-        16 => "DuplicateNode",
-        17 => "UnknownEnd",
-        18 => "SecondRoot",
-        19 => "UnknownVertex",
-        20 => "VertexTwice",
-        _ => "MissingEnd",
-    }
-}
-
 // The line of a fault with its name.
 fn refused(alloc: Global, kind: u8, name: &str, at: usize) -> Result<Vec<u8>, Memory>
     ensures { IfOk result (λ text. text.items ≡ refused_line name.now kind at) }
@@ -77,15 +45,15 @@ fn refused(alloc: Global, kind: u8, name: &str, at: usize) -> Result<Vec<u8>, Me
 }
 
 /// The line of a grammar fault.
-pub(crate) fn grammar_fault(alloc: Global, kind: u8, at: usize) -> Result<Vec<u8>, Memory>
-    ensures { IfOk result (λ text. text.items ≡ refused_line (grammar_name kind) kind at) }
+pub(crate) fn grammar_fault(alloc: Global, kind: GrammarKind, at: usize) -> Result<Vec<u8>, Memory>
+    ensures { IfOk result (λ text. text.items ≡ refused_line (grammar_name kind) (grammar_number kind) at) }
 {
-    refused(alloc, kind, grammar_word(kind), at)
+    refused(alloc, kind.number(), kind.name(), at)
 }
 
 /// The line of a graph fault.
-pub(crate) fn graph_fault(alloc: Global, kind: u8, at: usize) -> Result<Vec<u8>, Memory>
-    ensures { IfOk result (λ text. text.items ≡ refused_line (graph_name kind) kind at) }
+pub(crate) fn graph_fault(alloc: Global, kind: GraphKind, at: usize) -> Result<Vec<u8>, Memory>
+    ensures { IfOk result (λ text. text.items ≡ refused_line (graph_name kind) (graph_number kind) at) }
 {
-    refused(alloc, kind, graph_word(kind), at)
+    refused(alloc, kind.number(), kind.name(), at)
 }

@@ -41,6 +41,7 @@ Exactly-four n p a b c d four = record {
       (four.no_other x lt px);
 }
   where
+    -- the four items pass the test
     passing : All (λ x. (x < n) × (p x ≡ true)) (a ∷ b ∷ c ∷ d ∷ [])
     passing =
         All-cons (λ x. (x < n) × (p x ≡ true)) a (b ∷ c ∷ d ∷ []) four.first
@@ -48,12 +49,15 @@ Exactly-four n p a b c d four = record {
         (All-cons (λ x. (x < n) × (p x ≡ true)) c (d ∷ []) four.third
         (All-cons (λ x. (x < n) × (p x ≡ true)) d [] four.fourth (All-nil (λ x. (x < n) × (p x ≡ true))))))
 
+    -- no two of the four items are one
     apart : AllPairs (λ x y. x ≢ y) (a ∷ b ∷ c ∷ d ∷ [])
     apart =
         AllPairs-cons (λ x y. x ≢ y) a (b ∷ c ∷ d ∷ [])
-        (All-cons (λ y. a ≢ y) b (c ∷ d ∷ []) four.first_second (All-cons (λ y. a ≢ y) c (d ∷ []) four.first_third (All-cons (λ y. a ≢ y) d [] four.first_fourth (All-nil (λ y. a ≢ y)))))
+        (All-cons (λ y. a ≢ y) b (c ∷ d ∷ []) four.first_second (All-cons (λ y. a ≢ y) c (d ∷ []) four.first_third
+        (All-cons (λ y. a ≢ y) d [] four.first_fourth (All-nil (λ y. a ≢ y)))))
         (AllPairs-cons (λ x y. x ≢ y) b (c ∷ d ∷ [])
-        (All-cons (λ y. b ≢ y) c (d ∷ []) four.second_third (All-cons (λ y. b ≢ y) d [] four.second_fourth (All-nil (λ y. b ≢ y))))
+        (All-cons (λ y. b ≢ y) c (d ∷ []) four.second_third (All-cons (λ y. b ≢ y) d [] four.second_fourth
+        (All-nil (λ y. b ≢ y))))
         (AllPairs-cons (λ x y. x ≢ y) c (d ∷ [])
         (All-cons (λ y. c ≢ y) d [] four.third_fourth (All-nil (λ y. c ≢ y)))
         (AllPairs-cons (λ x y. x ≢ y) d [] (All-nil (λ y. d ≢ y)) (λ i j e lt within. absurd (omega arith)))))
@@ -94,7 +98,8 @@ Exactly-map m n p q f xs ex into apart onto = record {
   each_once = λ i j lti ltj e.
       let li : i < length xs = omega (arith, length-map xs f) in
       let lj : j < length xs = omega (arith, length-map xs f) in
-      ex.each_once i j li lj (apart (slice_index xs i) (slice_index xs j) (ex.each_passes i li).0 (ex.each_passes j lj).0 (sym (get_or-map f xs i 0 0 li) ∙ e ∙ get_or-map f xs j 0 0 lj));
+      ex.each_once i j li lj (apart (slice_index xs i) (slice_index xs j) (ex.each_passes i li).0
+      (ex.each_passes j lj).0 (sym (get_or-map f xs i 0 0 li) ∙ e ∙ get_or-map f xs j 0 0 lj));
   all = λ x lt qx.
       let h = onto x lt qx in
       subst (Contains (map f xs)) h.3 (Contains-map f xs h.0 (ex.all h.0 h.1 h.2));

@@ -16,18 +16,24 @@ use Rattle.cp_border.proofs.Rotation.{IsItem, crossing_of, item_at}
 abbrev pub four_darts : Clustered → Layout → ℕ → ℕ → ℕ → ℕ → List ℕ
 four_darts g l e i c k =
     cond (contains g c (source g e))
-    (begin_dart g l c k ∷ toward_source g e i ∷ finish_dart g l c (place_before (length (cluster_list l c)) k) ∷ toward_target g e i ∷ [])
-    (begin_dart g l c k ∷ toward_target g e i ∷ finish_dart g l c (place_before (length (cluster_list l c)) k) ∷ toward_source g e i ∷ [])
+    (begin_dart g l c k ∷ toward_source g e i ∷ finish_dart g l c (place_before (length (cluster_list l c)) k)
+    ∷ toward_target g e i ∷ [])
+    (begin_dart g l c k ∷ toward_target g e i ∷ finish_dart g l c (place_before (length (cluster_list l c)) k)
+    ∷ toward_source g e i ∷ [])
 
 -- which are the list of that border vertex
 pub list_at-four : (g : Clustered) (l : Layout) → IsClustered g → IsArranged g l → (c k : ℕ) → 0 < c → c < clusters g →
     k < length (cluster_list l c) →
-    list_at g l c k ≡ four_darts g l (slice_index (cluster_list l c) k) (position_or_len (λ x. x == c) (crossings g (slice_index (cluster_list l c) k))) c k
+    list_at g l c k ≡ four_darts g l (slice_index (cluster_list l c) k)
+    (position_or_len (λ x. x == c) (crossings g (slice_index (cluster_list l c) k))) c k
 list_at-four g l is ar c k above lt within =
     let item : IsItem g l c k (slice_index (cluster_list l c) k) = item_at g l ar c k above lt within in
     let cross = crossing_of g is (slice_index (cluster_list l c) k) c item.edge lt item.left in
-    ap (λ (b : ℕ). four_darts g l (slice_index (cluster_list l c) k) (position_or_len (λ (x : ℕ). x == c) (crossings g (slice_index (cluster_list l c) k))) b (position_or_len (λ (x : ℕ). x == slice_index (cluster_list l c) k) (cluster_list l b))) cross.is
-    ∙ ap (four_darts g l (slice_index (cluster_list l c) k) (position_or_len (λ (x : ℕ). x == c) (crossings g (slice_index (cluster_list l c) k))) c) item.place_is
+    ap (λ (b : ℕ). four_darts g l (slice_index (cluster_list l c) k) (position_or_len (λ (x : ℕ). x == c)
+    (crossings g (slice_index (cluster_list l c) k))) b (position_or_len
+    (λ (x : ℕ). x == slice_index (cluster_list l c) k) (cluster_list l b))) cross.is
+    ∙ ap (four_darts g l (slice_index (cluster_list l c) k) (position_or_len (λ (x : ℕ). x == c)
+    (crossings g (slice_index (cluster_list l c) k))) c) item.place_is
 
 -- lists of four equal items are equal
 same_four : (a b c d p q r s : ℕ) → a ≡ p → b ≡ q → c ≡ r → d ≡ s → (a ∷ b ∷ c ∷ d ∷ []) ≡ (p ∷ q ∷ r ∷ s ∷ [])
@@ -40,10 +46,13 @@ pub list_at-inside : (g : Clustered) (l : Layout) → IsClustered g → IsArrang
     ahead ≡ place_before (length (cluster_list l c)) k → contains g c (source g e) ≡ true →
     ((start + 2 * k) ∷ (2 * segment + 1) ∷ (start + 2 * ahead + 1) ∷ (2 * segment + 2) ∷ []) ≡ list_at g l c k
 list_at-inside g l is ar c k start segment e ahead above lt within begins item place behind inside =
-    let there : segment ≡ first_segment g (slice_index (cluster_list l c) k) + position_or_len (λ x. x == c) (crossings g (slice_index (cluster_list l c) k)) =
+    let there : segment ≡ first_segment g (slice_index (cluster_list l c) k) + position_or_len (λ x. x == c)
+    (crossings g (slice_index (cluster_list l c) k)) =
     place ∙ ap (λ (m : ℕ). first_segment g m + position_or_len (λ (x : ℕ). x == c) (crossings g m)) item in
     same_four _ _ _ _ _ _ _ _ (omega arith) (omega arith) (omega arith) (omega arith)
-    ∙ sym (list_at-four g l is ar c k above lt within ∙ cond-true (contains g c (source g (slice_index (cluster_list l c) k))) _ _ (ap (λ (m : ℕ). contains g c (source g m)) (sym item) ∙ inside))
+    ∙ sym (list_at-four g l is ar c k above lt within
+    ∙ cond-true (contains g c (source g (slice_index (cluster_list l c) k))) _ _
+    (ap (λ (m : ℕ). contains g c (source g m)) (sym item) ∙ inside))
 
 -- and where it does not
 pub list_at-outside : (g : Clustered) (l : Layout) → IsClustered g → IsArranged g l → (c k start segment e ahead : ℕ) →
@@ -52,7 +61,10 @@ pub list_at-outside : (g : Clustered) (l : Layout) → IsClustered g → IsArran
     ahead ≡ place_before (length (cluster_list l c)) k → contains g c (source g e) ≡ false →
     ((start + 2 * k) ∷ (2 * segment + 2) ∷ (start + 2 * ahead + 1) ∷ (2 * segment + 1) ∷ []) ≡ list_at g l c k
 list_at-outside g l is ar c k start segment e ahead above lt within begins item place behind outside =
-    let there : segment ≡ first_segment g (slice_index (cluster_list l c) k) + position_or_len (λ x. x == c) (crossings g (slice_index (cluster_list l c) k)) =
+    let there : segment ≡ first_segment g (slice_index (cluster_list l c) k) + position_or_len (λ x. x == c)
+    (crossings g (slice_index (cluster_list l c) k)) =
     place ∙ ap (λ (m : ℕ). first_segment g m + position_or_len (λ (x : ℕ). x == c) (crossings g m)) item in
     same_four _ _ _ _ _ _ _ _ (omega arith) (omega arith) (omega arith) (omega arith)
-    ∙ sym (list_at-four g l is ar c k above lt within ∙ cond-false (contains g c (source g (slice_index (cluster_list l c) k))) _ _ (ap (λ (m : ℕ). contains g c (source g m)) (sym item) ∙ outside))
+    ∙ sym (list_at-four g l is ar c k above lt within
+    ∙ cond-false (contains g c (source g (slice_index (cluster_list l c) k))) _ _
+    (ap (λ (m : ℕ). contains g c (source g m)) (sym item) ∙ outside))

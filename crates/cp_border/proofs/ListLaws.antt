@@ -20,7 +20,8 @@ pub border_at-lt : (g : Clustered) (l : Layout) → IsClustered g → IsArranged
 border_at-lt g l is ar c k above lt within =
     let item = item_at g l ar c k above lt within in
     let cross = crossing_of g is (slice_index (cluster_list l c) k) c item.edge lt item.left in
-    border_vertex-lt g (slice_index (cluster_list l c) k) (position_or_len (λ x. x == c) (crossings g (slice_index (cluster_list l c) k))) item.edge cross.within
+    border_vertex-lt g (slice_index (cluster_list l c) k) (position_or_len (λ x. x == c)
+    (crossings g (slice_index (cluster_list l c) k))) item.edge cross.within
 
 -- and the list at an item is that of its border vertex
 pub list_of_item : (g : Clustered) (l : Layout) → IsClustered g → IsArranged g l → (c k : ℕ) → 0 < c → c < clusters g →
@@ -28,7 +29,8 @@ pub list_of_item : (g : Clustered) (l : Layout) → IsClustered g → IsArranged
 list_of_item g l is ar c k above lt within =
     let item = item_at g l ar c k above lt within in
     let cross = crossing_of g is (slice_index (cluster_list l c) k) c item.edge lt item.left in
-    sym (list_of_border g l ar (slice_index (cluster_list l c) k) (position_or_len (λ x. x == c) (crossings g (slice_index (cluster_list l c) k))) item.edge cross.within)
+    sym (list_of_border g l ar (slice_index (cluster_list l c) k) (position_or_len (λ x. x == c)
+    (crossings g (slice_index (cluster_list l c) k))) item.edge cross.within)
 
 -- the first border edge, and where the border edges of a cluster begin and end
 pub start_first : (g : Clustered) (l : Layout) (sum : ℕ) → sum ≡ before (crossed g) (edges g) →
@@ -39,8 +41,10 @@ start_first g l sum is = omega arith
 pub start_next : (g : Clustered) (l : Layout) (c start count : ℕ) → 0 < c → start ≡ 2 * first_border_edge g l c →
     count ≡ length (cluster_list l c) → start + 2 * count ≡ 2 * first_border_edge g l (c + 1)
 start_next g l c start count above is size =
-    let more : before (border_length l) (suc (c - 1)) ≡ before (border_length l) (c + 1 - 1) = ap (before (border_length l)) (let h : suc (c - 1) ≡ c + 1 - 1 = omega arith in h) in
-    let this : border_length l (c - 1) ≡ length (cluster_list l c) = ap (λ (m : ℕ). length (cluster_list l m)) (let h : c - 1 + 1 ≡ c = omega arith in h) in
+    let more : before (border_length l) (suc (c - 1)) ≡ before (border_length l) (c + 1 - 1) =
+    ap (before (border_length l)) (let h : suc (c - 1) ≡ c + 1 - 1 = omega arith in h) in
+    let this : border_length l (c - 1) ≡ length (cluster_list l c) =
+    ap (λ (m : ℕ). length (cluster_list l m)) (let h : c - 1 + 1 ≡ c = omega arith in h) in
     omega arith
 
 -- where the border edges of a cluster begin is a small number
@@ -48,13 +52,15 @@ pub start-lt : (g : Clustered) (l : Layout) → IsClustered g → IsArranged g l
     edges g < 2 ^ 60 → nodes g + before (crossed g) (edges g) < 2 ^ 59 → start ≡ 2 * first_border_edge g l c →
     start < 2 ^ 62
 start-lt g l is ar c start lt few size at =
-    let all : before (border_length l) (c - 1) ≤ before (border_length l) (length g.parents) = before-le (border_length l) (c - 1) (length g.parents) (omega arith) in
+    let all : before (border_length l) (c - 1) ≤ before (border_length l) (length g.parents) =
+    before-le (border_length l) (c - 1) (length g.parents) (omega arith) in
     omega (arith, border_edges-vertices g l is ar)
 
 -- the darts of the border edges are few
 pub border_dart-lt : (g : Clustered) (l : Layout) → IsClustered g → IsArranged g l → (c k : ℕ) → 0 < c →
     c < clusters g →
-    k < length (cluster_list l c) → edges g + 2 * before (crossed g) (edges g) < 2 ^ 59 → 2 * (first_border_edge g l c + k) + 1 < 2 ^ 60
+    k < length (cluster_list l c) → edges g + 2 * before (crossed g) (edges g) < 2 ^ 59
+    → 2 * (first_border_edge g l c + k) + 1 < 2 ^ 60
 border_dart-lt g l is ar c k above lt within few =
     omega (arith, (begin_dart-lt g l c k above lt within).1, border_edges-vertices g l is ar)
 
@@ -62,6 +68,7 @@ border_dart-lt g l is ar c k above lt within few =
 pub take_front : (n : ℕ) (xs ys : List ℕ) → n ≡ length xs → take n (xs ++ ys) ≡ xs
 take_front n xs ys e = ap (λ (k : ℕ). take k (xs ++ ys)) e ∙ front xs ys
   where
+    -- the front of two lists is the first list
     front : (xs ys : List ℕ) → take (length xs) (xs ++ ys) ≡ xs
     front [] ys = refl
     front (x ∷ xs) ys = ap (λ (zs : List ℕ). x ∷ zs) (front xs ys)

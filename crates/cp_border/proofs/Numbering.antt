@@ -9,12 +9,14 @@ use Rattle.cp_border.specs.Borders.{before}
 -- sums of values that agree below n
 pub before_agree : (f h : ℕ → ℕ) (n : ℕ) → ((k : ℕ) → k < n → f k ≡ h k) → before f n ≡ before h n
 before_agree f h zero same = refl
-before_agree f h (suc n) same = ap₂ (λ (a b : ℕ). a + b) (before_agree f h n (λ k lt. same k (omega arith))) (same n (lt-suc_self n))
+before_agree f h (suc n) same =
+    ap₂ (λ (a b : ℕ). a + b) (before_agree f h n (λ k lt. same k (omega arith))) (same n (lt-suc_self n))
 
 -- prefix sums rise
 pub before-le : (f : ℕ → ℕ) (i n : ℕ) → i ≤ n → before f i ≤ before f n
 before-le f i zero le = let e : i ≡ 0 = omega arith in rw e (omega arith)
-before-le f i (suc n) le = ⊎_elim (λ e. rw e (omega arith)) (λ ne. omega (arith, before-le f i n (omega arith))) (cases_eq i (suc n))
+before-le f i (suc n) le = ⊎_elim (λ e. rw e (omega arith)) (λ ne. omega (arith, before-le f i n (omega arith)))
+    (cases_eq i (suc n))
 
 -- a piece ends before the next begins
 pub before_next : (f : ℕ → ℕ) (i n : ℕ) → i < n → before f i + f i ≤ before f n
@@ -37,8 +39,22 @@ pub located : (f : ℕ → ℕ) (n x : ℕ) → x < before f n → Place f n x
 located f zero x lt = absurd (omega arith)
 located f (suc n) x lt =
     ⊎_elim
-    (λ less. let p = located f n x less in record { piece = p.piece; place = p.place; is_piece = omega (arith, p.is_piece); is_place = p.is_place; is = p.is })
-    (λ more. record { piece = n; place = x - before f n; is_piece = omega arith; is_place = omega arith; is = omega arith })
+    (λ less. let p = located f n x less in record {
+      piece = p.piece;
+      place = p.place;
+      is_piece = omega
+          (arith, p.is_piece);
+      is_place = p.is_place;
+      is = p.is;
+    })
+    (λ more. record {
+      piece = n;
+      place = x - before f n;
+      is_piece = omega arith;
+      is_place = omega arith;
+      is =
+          omega arith;
+    })
     (cases_lt x (before f n))
 
 -- and in one piece only, at one place
@@ -58,7 +74,8 @@ flat_map_last F a zero = append-nil (F a) ∙ ap F (let e : a ≡ a + 0 = omega 
 flat_map_last {A = A} F a (suc n) =
     ap (λ (xs : List A). F a ++ xs) (flat_map_last F (a + 1) n)
     ∙ sym (append_assoc (F a) (flat_map F (range_with_len (a + 1) n)) (F (a + 1 + n)))
-    ∙ ap (λ (m : ℕ). (F a ++ flat_map F (range_with_len (a + 1) n)) ++ F m) (let e : a + 1 + n ≡ a + suc n = omega arith in e)
+    ∙ ap (λ (m : ℕ). (F a ++ flat_map F (range_with_len (a + 1) n)) ++ F m)
+    (let e : a + 1 + n ≡ a + suc n = omega arith in e)
 
 -- the pieces together are as long as the sum of their lengths
 pub pieces_length : {A : Type 0} (F : ℕ → List A) (f : ℕ → ℕ) (a n : ℕ) → ((k : ℕ) → k < n → length (F (a + k)) ≡ f k) →
@@ -74,7 +91,8 @@ pub piece_at : {A : Type 0} (F : ℕ → List A) (f : ℕ → ℕ) (a n i j : �
     get_or (flat_map F (range_with_len a n)) (before f i + j) d ≡ get_or (F (a + i)) j d
 piece_at F f a zero i j d same lt within = absurd (omega arith)
 piece_at {A = A} F f a (suc n) i j d same lt within =
-    let so_long : length (flat_map F (range_with_len a n)) ≡ before f n = pieces_length F f a n (λ k l. same k (omega arith)) in
+    let so_long : length (flat_map F (range_with_len a n)) ≡ before f n =
+    pieces_length F f a n (λ k l. same k (omega arith)) in
     ap (λ (xs : List A). get_or xs (before f i + j) d) (flat_map_last F a n)
     ∙ ⊎_elim
     (λ e.
@@ -82,7 +100,8 @@ piece_at {A = A} F f a (suc n) i j d same lt within =
     ∙ get_or-append-add (flat_map F (range_with_len a n)) (F (a + n)) j d
     ∙ ap (λ (m : ℕ). get_or (F (a + m)) j d) (sym e))
     (λ ne.
-    get_or_append_left (flat_map F (range_with_len a n)) (F (a + n)) d (before f i + j) (omega (arith, before_within f i j n (omega arith) within))
+    get_or_append_left (flat_map F (range_with_len a n)) (F (a + n)) d (before f i + j)
+    (omega (arith, before_within f i j n (omega arith) within))
     ∙ piece_at F f a n i j d (λ k l. same k (omega arith)) (omega arith) within)
     (cases_eq i n)
 
@@ -132,12 +151,16 @@ counted_twice p zero n = sym (before_nothing n)
 counted_twice p (suc m) n =
     let rest : before (λ k. count n (p k)) m ≡ before (λ e. count m (λ k. p k e)) n = counted_twice p m n in
     let now : before (λ e. cond (p m e) 1 0) n ≡ count n (p m) = before_ones (p m) n in
-    let split : before (λ e. cond (p m e) 1 0 + count m (λ k. p k e)) n ≡ before (λ e. cond (p m e) 1 0) n + before (λ e. count m (λ k. p k e)) n =
+    let split : before (λ e. cond (p m e) 1 0 + count m (λ k. p k e)) n ≡ before (λ e. cond (p m e) 1 0) n + before
+    (λ e. count m (λ k. p k e)) n =
     before_sum (λ e. cond (p m e) 1 0) (λ e. count m (λ k. p k e)) n in
-    ap₂ (λ (a b : ℕ). a + b) rest (sym now) ∙ (let e : before (λ e. count m (λ k. p k e)) n + before (λ e. cond (p m e) 1 0) n ≡ before (λ e. cond (p m e) 1 0) n + before (λ e. count m (λ k. p k e)) n = omega arith in e) ∙ sym split
+    ap₂ (λ (a b : ℕ). a + b) rest (sym now)
+    ∙ (let e : before (λ e. count m (λ k. p k e)) n + before (λ e. cond (p m e) 1 0) n ≡ before
+    (λ e. cond (p m e) 1 0) n + before (λ e. count m (λ k. p k e)) n = omega arith in e) ∙ sym split
 
 -- a test that fails at 0 counts as much from 1 on
 pub count_from_one : (n : ℕ) (p : ℕ → Bool) → p 0 ≡ false → count (suc n) p ≡ count n (λ k. p (k + 1))
 count_from_one zero p fails = rw fails refl
 count_from_one (suc n) p fails =
-    ap₂ (λ (b : Bool) (c : ℕ). cond b 1 0 + c) (ap p (let e : suc n ≡ n + 1 = omega arith in e)) (count_from_one n p fails)
+    ap₂ (λ (b : Bool) (c : ℕ). cond b 1 0 + c) (ap p (let e : suc n ≡ n + 1 = omega arith in e))
+    (count_from_one n p fails)

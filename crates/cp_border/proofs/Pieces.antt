@@ -10,7 +10,8 @@ flat_map_places {X = X} {A = A} F f d a [] same = refl
 flat_map_places {X = X} {A = A} F f d a (x ∷ xs) same =
     let first : F a ≡ f x = ap F (let e : a ≡ a + 0 = omega arith in e) ∙ same 0 (omega arith) in
     let rest : flat_map F (range_with_len (a + 1) (length xs)) ≡ flat_map f xs =
-    flat_map_places F f d (a + 1) xs (λ i lt. ap F (let e : a + 1 + i ≡ a + suc i = omega arith in e) ∙ same (suc i) (omega arith)) in
+    flat_map_places F f d (a + 1) xs (λ i lt. ap F (let e : a + 1 + i ≡ a + suc i = omega arith in e) ∙ same (suc i)
+    (omega arith)) in
     ap₂ (λ (p q : List A). p ++ q) first rest
 
 -- pieces that are empty make an empty list

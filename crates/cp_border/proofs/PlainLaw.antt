@@ -35,7 +35,9 @@ plain_around g is none v = ap (λ (h : ℕ). outward g.parents h h) (plain_home 
 -- no edge crosses a border
 pub plain_crossings : (g : Clustered) → IsClustered g → g.parents ≡ [] → (e : ℕ) → crossings g e ≡ []
 plain_crossings g is none e =
-    ap₂ (λ (xs ys : List ℕ). filter (λ c. not (contains g c (target g e))) xs ++ reverse (filter (λ c. not (contains g c (source g e))) ys)) (plain_around g is none (source g e)) (plain_around g is none (target g e))
+    ap₂ (λ (xs ys : List ℕ). filter (λ c. not (contains g c (target g e))) xs ++ reverse
+    (filter (λ c. not (contains g c (source g e))) ys)) (plain_around g is none (source g e))
+    (plain_around g is none (target g e))
 
 -- an edge of a graph with no cluster but the root crosses no border
 pub plain_crossed : (g : Clustered) → IsClustered g → g.parents ≡ [] → (e : ℕ) → crossed g e ≡ 0
@@ -60,31 +62,42 @@ side_dart d q c half nothing =
 
 -- so each dart keeps its number
 pub plain_end_dart : (g : Clustered) → IsClustered g → g.parents ≡ [] → (d : ℕ) → end_dart g d ≡ d
-plain_end_dart g is none d = side_dart d (first_segment g (d / 2)) (crossed g (d / 2)) (plain_first_segment g is none (d / 2)) (plain_crossed g is none (d / 2))
+plain_end_dart g is none d = side_dart d (first_segment g (d / 2)) (crossed g (d / 2))
+    (plain_first_segment g is none (d / 2)) (plain_crossed g is none (d / 2))
 
 -- and runs between the nodes of the edge
 plain_segment_ends : (g : Clustered) → IsClustered g → g.parents ≡ [] → (e : ℕ) →
     segment_ends g e ≡ source g e ∷ target g e ∷ []
 plain_segment_ends g is none e =
-    ap (λ (n : ℕ). source g e ∷ flat_map (λ (b : ℕ). b ∷ b ∷ []) (range_with_len (first_border g e) n) ++ target g e ∷ []) (plain_crossed g is none e)
+    ap (λ (n : ℕ). source g e ∷ flat_map (λ (b : ℕ). b ∷ b ∷ []) (range_with_len (first_border g e) n) ++ target g e
+    ∷ []) (plain_crossed g is none e)
 
 -- the border graph of a graph without clusters is the graph, with the nodes' lists
 pub borders-plain : (g : Clustered) (l : Layout) → IsClustered g → g.parents ≡ [] →
     borders g l ≡ record { vertices = nodes g; at = dart_nodes g.ends; lists = l.nodes }
 borders-plain g l is none =
-    let same_vertices : first_border g (edges g) ≡ nodes g = omega (arith, before_zero (crossed g) (plain_crossed g is none) (edges g)) in
+    let same_vertices : first_border g (edges g) ≡ nodes g =
+    omega (arith, before_zero (crossed g) (plain_crossed g is none) (edges g)) in
     let same_segments : flat_map (segment_ends g) (range_with_len 0 (edges g)) ≡ dart_nodes g.ends =
-    flat_map_places (segment_ends g) (λ e. e.0 ∷ e.1 ∷ []) (0, 0) 0 g.ends (λ i lt. ap (segment_ends g) (let e : 0 + i ≡ i = omega arith in e) ∙ plain_segment_ends g is none i) in
+    flat_map_places (segment_ends g) (λ e. e.0 ∷ e.1 ∷ []) (0, 0) 0 g.ends
+    (λ i lt. ap (segment_ends g) (let e : 0 + i ≡ i = omega arith in e) ∙ plain_segment_ends g is none i) in
     let no_borders : flat_map (border_ends g l) (range_with_len 1 (length g.parents)) ≡ [] =
     ap (λ (n : ℕ). flat_map (border_ends g l) (range_with_len 1 n)) (ap length none) in
-    let same_lists : map (map (end_dart g)) l.nodes ≡ l.nodes = map_same (map (end_dart g)) l.nodes (λ xs. map_same (end_dart g) xs (plain_end_dart g is none)) in
-    let no_lists : flat_map (λ e. map (border_list g l e) (range_with_len 0 (crossed g e))) (range_with_len 0 (edges g)) ≡ [] =
-    flat_map_empty (λ e. map (border_list g l e) (range_with_len 0 (crossed g e))) (range_with_len 0 (edges g)) (λ e. ap (λ (n : ℕ). map (border_list g l e) (range_with_len 0 n)) (plain_crossed g is none e)) in
-    let at_is : (borders g l).at ≡ dart_nodes g.ends = ap₂ (λ (p q : List ℕ). p ++ q) same_segments no_borders ∙ append-nil (dart_nodes g.ends) in
-    let lists_is : (borders g l).lists ≡ l.nodes = ap₂ (λ (p q : List (List ℕ)). p ++ q) same_lists no_lists ∙ append-nil l.nodes in
+    let same_lists : map (map (end_dart g)) l.nodes ≡ l.nodes =
+    map_same (map (end_dart g)) l.nodes (λ xs. map_same (end_dart g) xs (plain_end_dart g is none)) in
+    let no_lists : flat_map (λ e. map (border_list g l e) (range_with_len 0 (crossed g e))) (range_with_len 0 (edges g))
+    ≡ [] =
+    flat_map_empty (λ e. map (border_list g l e) (range_with_len 0 (crossed g e))) (range_with_len 0 (edges g))
+    (λ e. ap (λ (n : ℕ). map (border_list g l e) (range_with_len 0 n)) (plain_crossed g is none e)) in
+    let at_is : (borders g l).at ≡ dart_nodes g.ends = ap₂ (λ (p q : List ℕ). p ++ q) same_segments no_borders
+    ∙ append-nil (dart_nodes g.ends) in
+    let lists_is : (borders g l).lists ≡ l.nodes = ap₂ (λ (p q : List (List ℕ)). p ++ q) same_lists no_lists
+    ∙ append-nil l.nodes in
     let first_two : borders g l ≡ record { vertices = nodes g; at = dart_nodes g.ends; lists = (borders g l).lists } =
-    ap₂ (λ (v : ℕ) (xs : List ℕ). let s : System = record { vertices = v; at = xs; lists = (borders g l).lists } in s) same_vertices at_is in
-    first_two ∙ ap (λ (xs : List (List ℕ)). let s : System = record { vertices = nodes g; at = dart_nodes g.ends; lists = xs } in s) lists_is
+    ap₂ (λ (v : ℕ) (xs : List ℕ). let s : System = record { vertices = v; at = xs; lists = (borders g l).lists } in s)
+    same_vertices at_is in
+    first_two ∙ ap (λ (xs : List (List ℕ)). let s : System =
+    record { vertices = nodes g; at = dart_nodes g.ends; lists = xs } in s) lists_is
 
 -- the darts are twice the edges
 pub length-dart_nodes : (ends : List (ℕ × ℕ)) → length (dart_nodes ends) ≡ 2 * length ends
@@ -103,7 +116,8 @@ dart_nodes_at (e ∷ es) (suc zero) = refl
 dart_nodes_at (e ∷ es) (suc (suc d)) =
     let half : suc (suc d) / 2 ≡ suc (d / 2) = omega arith in
     let side : suc (suc d) % 2 ≡ d % 2 = omega arith in
-    dart_nodes_at es d ∙ sym (ap₂ (λ (r q : ℕ). cond (r == 0) (slice_index_or (e ∷ es) q (0, 0)).0 (slice_index_or (e ∷ es) q (0, 0)).1) side half)
+    dart_nodes_at es d ∙ sym (ap₂ (λ (r q : ℕ). cond (r == 0) (slice_index_or (e ∷ es) q (0, 0)).0
+    (slice_index_or (e ∷ es) q (0, 0)).1) side half)
 
 -- the list of the darts' nodes gives the node of each dart
 pub slice_index-dart_nodes : (g : Clustered) (d : ℕ) → slice_index (dart_nodes g.ends) d ≡ node_of g d
@@ -114,20 +128,23 @@ exact_there : (g : Clustered) (i : ℕ) (xs : List ℕ) → Exactly (2 * edges g
     Arranges (dart_nodes g.ends) i xs
 exact_there g i xs ex =
     subst (λ n. Exactly n (λ d. slice_index (dart_nodes g.ends) d == i) xs) (sym (length-dart_nodes g.ends))
-    (Exactly-agree (2 * edges g) (λ d. node_of g d == i) (λ d. slice_index (dart_nodes g.ends) d == i) xs (λ x lt. ap (λ (y : ℕ). y == i) (sym (slice_index-dart_nodes g x))) ex)
+    (Exactly-agree (2 * edges g) (λ d. node_of g d == i) (λ d. slice_index (dart_nodes g.ends) d == i) xs
+    (λ x lt. ap (λ (y : ℕ). y == i) (sym (slice_index-dart_nodes g x))) ex)
 
 -- an arrangement of the darts at a node is exactly its darts
 exact_back : (g : Clustered) (i : ℕ) (xs : List ℕ) → Arranges (dart_nodes g.ends) i xs →
     Exactly (2 * edges g) (λ d. node_of g d == i) xs
 exact_back g i xs ex =
-    Exactly-agree (2 * edges g) (λ d. slice_index (dart_nodes g.ends) d == i) (λ d. node_of g d == i) xs (λ x lt. ap (λ (y : ℕ). y == i) (slice_index-dart_nodes g x))
+    Exactly-agree (2 * edges g) (λ d. slice_index (dart_nodes g.ends) d == i) (λ d. node_of g d == i) xs
+    (λ x lt. ap (λ (y : ℕ). y == i) (slice_index-dart_nodes g x))
     (subst (λ n. Exactly n (λ d. slice_index (dart_nodes g.ends) d == i) xs) (length-dart_nodes g.ends) ex)
 
 -- the list of a node is right in the layout where it is right in the rotation system
 pub IsRightList-from_node : (g : Clustered) (l : Layout) (i : ℕ) → IsRightNode g l i →
     IsRightList (nodes g) (dart_nodes g.ends) l.nodes i
 IsRightList-from_node g l i right = record {
-  present = λ lt. let h : (i < length l.nodes) × Exactly (2 * edges g) (λ d. node_of g d == i) (node_list l i) = right.present lt in (h.0, exact_there g i (node_list l i) h.1);
+  present = λ lt. let h : (i < length l.nodes) × Exactly (2 * edges g) (λ d. node_of g d == i) (node_list l i) =
+      right.present lt in (h.0, exact_there g i (node_list l i) h.1);
   expected = right.expected;
 }
 
@@ -135,7 +152,8 @@ IsRightList-from_node g l i right = record {
 pub IsRightNode-from_list : (g : Clustered) (l : Layout) (i : ℕ) → IsRightList (nodes g) (dart_nodes g.ends) l.nodes i →
     IsRightNode g l i
 IsRightNode-from_list g l i right = record {
-  present = λ lt. let h : (i < length l.nodes) × Arranges (dart_nodes g.ends) i (node_list l i) = right.present lt in (h.0, exact_back g i (node_list l i) h.1);
+  present = λ lt. let h : (i < length l.nodes) × Arranges (dart_nodes g.ends) i (node_list l i) =
+      right.present lt in (h.0, exact_back g i (node_list l i) h.1);
   expected = right.expected;
 }
 
@@ -149,11 +167,21 @@ pub IsFirstWrongNode-iff_list : (g : Clustered) (l : Layout) (i : ℕ) →
     IsFirstWrongNode g l i ↔ IsFirstWrong (nodes g) (dart_nodes g.ends) l.nodes i
 IsFirstWrongNode-iff_list g l i = (there, back)
   where
+    -- the first wrong node line is the first list that is not exact
     there : IsFirstWrongNode g l i → IsFirstWrong (nodes g) (dart_nodes g.ends) l.nodes i
-    there first = record { wrong = λ right. first.wrong (IsRightNode-from_list g l i right); right_before = λ j lt. IsRightList-from_node g l j (first.right_before j lt) }
+    there first = record {
+      wrong = λ right. first.wrong (IsRightNode-from_list g l i right);
+      right_before =
+          λ j lt. IsRightList-from_node g l j (first.right_before j lt);
+    }
 
+    -- and the first list that is not exact is the first wrong node line
     back : IsFirstWrong (nodes g) (dart_nodes g.ends) l.nodes i → IsFirstWrongNode g l i
-    back first = record { wrong = λ right. first.wrong (IsRightList-from_node g l i right); right_before = λ j lt. IsRightNode-from_list g l j (first.right_before j lt) }
+    back first = record {
+      wrong = λ right. first.wrong (IsRightList-from_node g l i right);
+      right_before =
+          λ j lt. IsRightNode-from_list g l j (first.right_before j lt);
+    }
 
 -- without clusters and without lists of clusters, no cluster line is wrong
 pub IsRightCluster-plain : (g : Clustered) (l : Layout) → g.parents ≡ [] → l.clusters ≡ [] → (k : ℕ) →
@@ -205,4 +233,5 @@ IsRotation-plain_lists g lists is right = record {
 -- the border graph of a graph without clusters is a rotation system where each list is right
 pub IsRotation-plain : (g : Clustered) (l : Layout) → IsClustered g → g.parents ≡ [] →
     ((i : ℕ) → IsRightList (nodes g) (dart_nodes g.ends) l.nodes i) → IsRotation (borders g l)
-IsRotation-plain g l is none right = subst IsRotation (sym (borders-plain g l is none)) (IsRotation-plain_lists g l.nodes is right)
+IsRotation-plain g l is none right =
+    subst IsRotation (sym (borders-plain g l is none)) (IsRotation-plain_lists g l.nodes is right)

@@ -29,7 +29,8 @@ abbrev pub IsAtBorder : Clustered → Layout → ℕ → ℕ → ℕ → Type 0
 IsAtBorder g l e i x =
     (x ≡ begin_dart g l (slice_index (crossings g e) i) (place_on_border g l e i))
     ⊎ ((x ≡ toward_source g e i)
-    ⊎ ((x ≡ finish_dart g l (slice_index (crossings g e) i) (place_before (length (cluster_list l (slice_index (crossings g e) i))) (place_on_border g l e i)))
+    ⊎ ((x ≡ finish_dart g l (slice_index (crossings g e) i) (place_before
+    (length (cluster_list l (slice_index (crossings g e) i))) (place_on_border g l e i)))
     ⊎ (x ≡ toward_target g e i)))
 
 -- dart x stands at vertex v, which is a node or a border vertex
@@ -42,28 +43,49 @@ pub data StandsAt (g : Clustered) (l : Layout) (x v : ℕ) : Type 0 where
 pub stands_at : (g : Clustered) (l : Layout) → IsClustered g → IsArranged g l → (x : ℕ) → DartOf g l x →
     StandsAt g l x (slice_index (borders g l).at x)
 stands_at g l is ar x (leaves_source e lt same) =
-    let d : end_dart g (2 * e) ≡ x = end_source g (2 * e) (omega arith) ∙ ap (λ (m : ℕ). 2 * first_segment g m) (let h : 2 * e / 2 ≡ e = omega arith in h) ∙ sym same in
-    at_node (2 * e) (omega arith) d (sym (end_dart_stands g l (2 * e) (omega arith)) ∙ ap (slice_index (borders g l).at) d)
+    let d : end_dart g (2 * e) ≡ x = end_source g (2 * e) (omega arith)
+    ∙ ap (λ (m : ℕ). 2 * first_segment g m) (let h : 2 * e / 2 ≡ e = omega arith in h) ∙ sym same in
+    at_node (2 * e) (omega arith) d (sym (end_dart_stands g l (2 * e) (omega arith)) ∙ ap (slice_index (borders g l).at)
+    d)
 stands_at g l is ar x (reaches_target e lt same) =
-    let d : end_dart g (2 * e + 1) ≡ x = end_target g (2 * e + 1) (λ even. omega arith) ∙ ap (λ (m : ℕ). 2 * (first_segment g m + crossed g m) + 1) (let h : (2 * e + 1) / 2 ≡ e = omega arith in h) ∙ sym same in
-    at_node (2 * e + 1) (omega arith) d (sym (end_dart_stands g l (2 * e + 1) (omega arith)) ∙ ap (slice_index (borders g l).at) d)
+    let d : end_dart g (2 * e + 1) ≡ x = end_target g (2 * e + 1) (λ even. omega arith)
+    ∙ ap (λ (m : ℕ). 2 * (first_segment g m + crossed g m) + 1) (let h : (2 * e + 1) / 2 ≡ e = omega arith in h)
+    ∙ sym same in
+    at_node (2 * e + 1) (omega arith) d (sym (end_dart_stands g l (2 * e + 1) (omega arith)) ∙ ap
+    (slice_index (borders g l).at) d)
 stands_at g l is ar x (looks_to_source e i lt within same) =
-    at_border e i lt within (sym (ap (slice_index (borders g l).at) same ∙ stands_toward_source g l e i lt within)) (inr (inl same))
+    at_border e i lt within (sym (ap (slice_index (borders g l).at) same ∙ stands_toward_source g l e i lt within))
+    (inr (inl same))
 stands_at g l is ar x (looks_to_target e i lt within same) =
-    at_border e i lt within (sym (ap (slice_index (borders g l).at) same ∙ stands_toward_target g l e i lt within)) (inr (inr (inr same)))
+    at_border e i lt within (sym (ap (slice_index (borders g l).at) same ∙ stands_toward_target g l e i lt within))
+    (inr (inr (inr same)))
 stands_at g l is ar x (begins_border c k above lt within same) =
     let item : IsItem g l c k (slice_index (cluster_list l c) k) = item_at g l ar c k above lt within in
     let cross = crossing_of g is (slice_index (cluster_list l c) k) c item.edge lt item.left in
-    at_border (slice_index (cluster_list l c) k) (position_or_len (λ y. y == c) (crossings g (slice_index (cluster_list l c) k))) item.edge cross.within
+    at_border (slice_index (cluster_list l c) k) (position_or_len (λ y. y == c)
+    (crossings g (slice_index (cluster_list l c) k))) item.edge cross.within
     (sym (ap (slice_index (borders g l).at) same ∙ stands_begin g l c k above lt within))
-    (inl (same ∙ sym (ap (λ (b : ℕ). begin_dart g l b (position_or_len (λ (y : ℕ). y == slice_index (cluster_list l c) k) (cluster_list l b))) cross.is ∙ ap (begin_dart g l c) item.place_is)))
+    (inl (same ∙ sym (ap (λ (b : ℕ). begin_dart g l b
+    (position_or_len (λ (y : ℕ). y == slice_index (cluster_list l c) k) (cluster_list l b))) cross.is
+    ∙ ap (begin_dart g l c) item.place_is)))
 stands_at g l is ar x (finishes_border c k above lt within same) =
-    let item : IsItem g l c (place_after (length (cluster_list l c)) k) (slice_index (cluster_list l c) (place_after (length (cluster_list l c)) k)) =
-    item_at g l ar c (place_after (length (cluster_list l c)) k) above lt (place_after-lt (length (cluster_list l c)) k within) in
-    let cross = crossing_of g is (slice_index (cluster_list l c) (place_after (length (cluster_list l c)) k)) c item.edge lt item.left in
-    at_border (slice_index (cluster_list l c) (place_after (length (cluster_list l c)) k)) (position_or_len (λ y. y == c) (crossings g (slice_index (cluster_list l c) (place_after (length (cluster_list l c)) k)))) item.edge cross.within
+    let item : IsItem g l c (place_after (length (cluster_list l c)) k)
+    (slice_index (cluster_list l c) (place_after (length (cluster_list l c)) k)) =
+    item_at g l ar c (place_after (length (cluster_list l c)) k) above lt
+    (place_after-lt (length (cluster_list l c)) k within) in
+    let cross = crossing_of g is (slice_index (cluster_list l c) (place_after (length (cluster_list l c)) k)) c
+    item.edge lt item.left in
+    at_border (slice_index (cluster_list l c) (place_after (length (cluster_list l c)) k))
+    (position_or_len (λ y. y == c)
+    (crossings g (slice_index (cluster_list l c) (place_after (length (cluster_list l c)) k)))) item.edge
+    cross.within
     (sym (ap (slice_index (borders g l).at) same ∙ stands_finish g l c k above lt within))
-    (inr (inr (inl (same ∙ sym (ap (λ (b : ℕ). finish_dart g l b (place_before (length (cluster_list l b)) (position_or_len (λ (y : ℕ). y == slice_index (cluster_list l c) (place_after (length (cluster_list l c)) k)) (cluster_list l b)))) cross.is ∙ ap (λ (m : ℕ). finish_dart g l c (place_before (length (cluster_list l c)) m)) item.place_is ∙ ap (finish_dart g l c) (place_before_after (length (cluster_list l c)) k within))))))
+    (inr (inr (inl (same ∙ sym
+    (ap (λ (b : ℕ). finish_dart g l b (place_before (length (cluster_list l b))
+    (position_or_len (λ (y : ℕ). y == slice_index (cluster_list l c) (place_after (length (cluster_list l c)) k))
+    (cluster_list l b)))) cross.is
+    ∙ ap (λ (m : ℕ). finish_dart g l c (place_before (length (cluster_list l c)) m)) item.place_is
+    ∙ ap (finish_dart g l c) (place_before_after (length (cluster_list l c)) k within))))))
 
 -- border vertices come behind the nodes
 pub border_vertex-lt : (g : Clustered) (e i : ℕ) → e < edges g → i < crossed g e →
@@ -74,41 +96,58 @@ border_vertex-lt g e i lt within = omega (arith, before_within (crossed g) e i (
 node_arranged : (g : Clustered) (l : Layout) → IsClustered g → IsArranged g l → (v : ℕ) → v < nodes g →
     Arranges (borders g l).at v (map (end_dart g) (node_list l v))
 node_arranged g l is ar v lt =
-    Exactly-map (2 * edges g) (length (borders g l).at) (λ d. node_of g d == v) (λ d. slice_index (borders g l).at d == v) (end_dart g) (node_list l v) ((ar.nodes_right v).present lt).1
+    Exactly-map (2 * edges g) (length (borders g l).at) (λ d. node_of g d == v)
+    (λ d. slice_index (borders g l).at d == v) (end_dart g) (node_list l v) ((ar.nodes_right v).present lt).1
     (λ d within passes. (end_dart-lt g l d within, ap (λ (w : ℕ). w == v) (end_dart_stands g l d within) ∙ passes))
     (λ d b ltd ltb same. end_dart-apart g d b same)
-    (λ x within passes. found x (eqb-true (slice_index (borders g l).at x) v passes) (stands_at g l is ar x (dart_is g l x within)))
+    (λ x within passes. found x (eqb-true (slice_index (borders g l).at x) v passes)
+    (stands_at g l is ar x (dart_is g l x within)))
   where
-    found : (x : ℕ) → slice_index (borders g l).at x ≡ v → StandsAt g l x (slice_index (borders g l).at x) → (d : ℕ) × (d < 2 * edges g) × ((node_of g d == v) ≡ true) × (end_dart g d ≡ x)
+    -- each dart at a vertex of a node is the end of a dart of the node
+    found : (x : ℕ) → slice_index (borders g l).at x ≡ v → StandsAt g l x (slice_index (borders g l).at x)
+        → (d : ℕ) × (d < 2 * edges g) × ((node_of g d == v) ≡ true) × (end_dart g d ≡ x)
     found x stands (at_node d within same node) = (d, within, eq-eqb (node_of g d) v (node ∙ stands), same)
     found x stands (at_border e i lte within vertex four) = absurd (omega arith)
 
 -- the four darts at a border vertex
 pub begin_dart-lt : (g : Clustered) (l : Layout) (c k : ℕ) → 0 < c → c < clusters g → k < length (cluster_list l c) →
-    (segments g ≤ first_border_edge g l c + k) × (first_border_edge g l c + k < segments g + before (border_length l) (length g.parents))
+    (segments g ≤ first_border_edge g l c + k) × (first_border_edge g l c + k < segments g + before (border_length l)
+    (length g.parents))
 begin_dart-lt g l c k above lt within =
-    let same : border_length l (c - 1) ≡ length (cluster_list l c) = ap (λ (m : ℕ). length (cluster_list l m)) (let h : c - 1 + 1 ≡ c = omega arith in h) in
-    let inside : before (border_length l) (c - 1) + k < before (border_length l) (length g.parents) = before_within (border_length l) (c - 1) k (length g.parents) (omega arith) (omega arith) in
+    let same : border_length l (c - 1) ≡ length (cluster_list l c) =
+    ap (λ (m : ℕ). length (cluster_list l m)) (let h : c - 1 + 1 ≡ c = omega arith in h) in
+    let inside : before (border_length l) (c - 1) + k < before (border_length l) (length g.parents) =
+    before_within (border_length l) (c - 1) k (length g.parents) (omega arith) (omega arith) in
     (omega arith, omega arith)
 
 -- where no other dart stands at a border vertex, its four darts are exactly those that stand there
 border_four : (g : Clustered) (l : Layout) → IsClustered g → IsArranged g l → (e i c k : ℕ) → e < edges g →
     IsCrossing g e i c → IsItem g l c k e →
-    ((x : ℕ) → x < length (borders g l).at → slice_index (borders g l).at x ≡ first_border g e + i → (x ≡ begin_dart g l c k) ⊎ ((x ≡ toward_source g e i) ⊎ ((x ≡ finish_dart g l c (place_before (length (cluster_list l c)) k)) ⊎ (x ≡ toward_target g e i)))) →
-    IsFour (length (borders g l).at) (λ d. slice_index (borders g l).at d == (first_border g e + i)) (begin_dart g l c k) (toward_source g e i) (finish_dart g l c (place_before (length (cluster_list l c)) k)) (toward_target g e i)
+    ((x : ℕ) → x < length (borders g l).at → slice_index (borders g l).at x ≡ first_border g e + i
+    → (x ≡ begin_dart g l c k)
+    ⊎ ((x ≡ toward_source g e i) ⊎ ((x ≡ finish_dart g l c (place_before (length (cluster_list l c)) k))
+    ⊎ (x ≡ toward_target g e i)))) →
+    IsFour (length (borders g l).at) (λ d. slice_index (borders g l).at d == (first_border g e + i))
+    (begin_dart g l c k) (toward_source g e i) (finish_dart g l c (place_before (length (cluster_list l c)) k))
+    (toward_target g e i)
 border_four g l is ar e i c k lt cross item others =
-    let before_within_list : place_before (length (cluster_list l c)) k < length (cluster_list l c) = place_before-lt (length (cluster_list l c)) k item.within in
+    let before_within_list : place_before (length (cluster_list l c)) k < length (cluster_list l c) =
+    place_before-lt (length (cluster_list l c)) k item.within in
     let begin_range = begin_dart-lt g l c k cross.above cross.cluster item.within in
-    let finish_range = begin_dart-lt g l c (place_before (length (cluster_list l c)) k) cross.above cross.cluster before_within_list in
+    let finish_range = begin_dart-lt g l c (place_before (length (cluster_list l c)) k) cross.above cross.cluster
+    before_within_list in
     let source_range : first_segment g e + i < segments g = first_segment-le g e i lt (omega (arith, cross.within)) in
-    let target_range : first_segment g e + (i + 1) < segments g = first_segment-le g e (i + 1) lt (omega (arith, cross.within)) in
+    let target_range : first_segment g e + (i + 1) < segments g =
+    first_segment-le g e (i + 1) lt (omega (arith, cross.within)) in
     let size = length-borders_at g l in
     let vertex : border_vertex g e c ≡ first_border g e + i = ap (λ (m : ℕ). first_border g e + m) cross.place_is in
     let begins : slice_index (borders g l).at (begin_dart g l c k) ≡ first_border g e + i =
     stands_begin g l c k cross.above cross.cluster item.within ∙ ap (λ (m : ℕ). border_vertex g m c) item.is ∙ vertex in
-    let finishes : slice_index (borders g l).at (finish_dart g l c (place_before (length (cluster_list l c)) k)) ≡ first_border g e + i =
+    let finishes : slice_index (borders g l).at (finish_dart g l c (place_before (length (cluster_list l c)) k))
+    ≡ first_border g e + i =
     stands_finish g l c (place_before (length (cluster_list l c)) k) cross.above cross.cluster before_within_list
-    ∙ ap (λ (m : ℕ). border_vertex g (slice_index (cluster_list l c) m) c) (place_after_before (length (cluster_list l c)) k item.within)
+    ∙ ap (λ (m : ℕ). border_vertex g (slice_index (cluster_list l c) m) c)
+    (place_after_before (length (cluster_list l c)) k item.within)
     ∙ ap (λ (m : ℕ). border_vertex g m c) item.is ∙ vertex in
     record {
       first = (omega (arith, begin_range.0, begin_range.1), eq-eqb _ _ begins);
@@ -121,14 +160,16 @@ border_four g l is ar e i c k lt cross item others =
       second_third = λ same. omega (arith, finish_range.0);
       second_fourth = λ same. omega arith;
       third_fourth = λ same. omega arith;
-      no_other = λ x within passes. others x within (eqb-true (slice_index (borders g l).at x) (first_border g e + i) passes);
+      no_other = λ x within passes. others x within (eqb-true (slice_index (borders g l).at x) (first_border g e + i)
+          passes);
     }
 
 -- no other dart stands there
 border_others : (g : Clustered) (l : Layout) → IsClustered g → IsArranged g l → (e i : ℕ) → e < edges g →
     i < crossed g e → (x : ℕ) → slice_index (borders g l).at x ≡ first_border g e + i →
     StandsAt g l x (slice_index (borders g l).at x) → IsAtBorder g l e i x
-border_others g l is ar e i lt within x stands (at_node d ltd same node) = let h : node_of g d < nodes g = node_of-is_node g is d ltd in absurd (omega arith)
+border_others g l is ar e i lt within x stands (at_node d ltd same node) = let h : node_of g d < nodes g =
+    node_of-is_node g is d ltd in absurd (omega arith)
 border_others g l is ar e i lt within x stands (at_border b j ltb within_b vertex four) =
     let same : (b ≡ e) × (j ≡ i) = before_apart (crossed g) b j e i within_b within (omega arith) in
     subst (λ (m : ℕ). IsAtBorder g l m i x) same.0 (subst (λ (m : ℕ). IsAtBorder g l b m x) same.1 four)
@@ -138,12 +179,17 @@ border_arranged : (g : Clustered) (l : Layout) → IsClustered g → IsArranged 
     i < crossed g e → Arranges (borders g l).at (first_border g e + i) (border_list g l e i)
 border_arranged g l is ar e i lt within =
     let cross : IsCrossing g e i (slice_index (crossings g e) i) = crossing_at g is e i lt within in
-    let item : IsItem g l (slice_index (crossings g e) i) (place_on_border g l e i) e = item_of g l ar (slice_index (crossings g e) i) e cross.above cross.cluster lt cross.left in
+    let item : IsItem g l (slice_index (crossings g e) i) (place_on_border g l e i) e =
+    item_of g l ar (slice_index (crossings g e) i) e cross.above cross.cluster lt cross.left in
     let four = border_four g l is ar e i (slice_index (crossings g e) i) (place_on_border g l e i) lt cross item
     (λ x below stands. border_others g l is ar e i lt within x stands (stands_at g l is ar x (dart_is g l x below))) in
-    cond_both (contains g (slice_index (crossings g e) i) (source g e)) _ _ (Arranges (borders g l).at (first_border g e + i))
-    (λ inside. Exactly-four (length (borders g l).at) (λ d. slice_index (borders g l).at d == (first_border g e + i)) _ _ _ _ four)
-    (λ outside. Exactly-four (length (borders g l).at) (λ d. slice_index (borders g l).at d == (first_border g e + i)) _ _ _ _ (IsFour-turned (length (borders g l).at) (λ d. slice_index (borders g l).at d == (first_border g e + i)) _ _ _ _ four))
+    cond_both (contains g (slice_index (crossings g e) i) (source g e)) _ _
+    (Arranges (borders g l).at (first_border g e + i))
+    (λ inside. Exactly-four (length (borders g l).at) (λ d. slice_index (borders g l).at d == (first_border g e + i)) _
+    _ _ _ four)
+    (λ outside. Exactly-four (length (borders g l).at) (λ d. slice_index (borders g l).at d == (first_border g e + i)) _
+    _ _ _ (IsFour-turned (length (borders g l).at) (λ d. slice_index (borders g l).at d == (first_border g e + i)) _
+    _ _ _ four))
 
 -- the border graph of an arranged layout is a rotation system
 pub IsRotation-borders : (g : Clustered) (l : Layout) → IsClustered g → IsArranged g l → IsRotation (borders g l)
@@ -158,11 +204,15 @@ IsRotation-borders g l is ar = record {
       let p : Place (crossed g) (edges g) (v - nodes g) = located (crossed g) (edges g) (v - nodes g) (omega arith) in
       let same : first_border g p.piece + p.place ≡ v = omega (arith, p.is) in
       subst (λ w. Arranges (borders g l).at w (list_of (borders g l) w)) same
-      (subst (Arranges (borders g l).at (first_border g p.piece + p.place)) (sym (list_of_border g l ar p.piece p.place p.is_piece p.is_place)) (border_arranged g l is ar p.piece p.place p.is_piece p.is_place)))
+      (subst (Arranges (borders g l).at (first_border g p.piece + p.place))
+      (sym (list_of_border g l ar p.piece p.place p.is_piece p.is_place))
+      (border_arranged g l is ar p.piece p.place p.is_piece p.is_place)))
       (cases_lt v (nodes g));
 }
   where
-    placed : (d : ℕ) → StandsAt g l d (slice_index (borders g l).at d) → slice_index (borders g l).at d < first_border g (edges g)
+    -- the ends of an edge stand at vertices of nodes
+    placed : (d : ℕ) → StandsAt g l d (slice_index (borders g l).at d)
+        → slice_index (borders g l).at d < first_border g (edges g)
     placed d (at_node b ltb same node) = let h : node_of g b < nodes g = node_of-is_node g is b ltb in omega arith
     placed d (at_border e i lt within vertex four) = omega (arith, border_vertex-lt g e i lt within)
 
@@ -170,7 +220,9 @@ IsRotation-borders g l is ar = record {
 pub border_edges-vertices : (g : Clustered) (l : Layout) → IsClustered g → IsArranged g l →
     before (border_length l) (length g.parents) ≡ before (crossed g) (edges g)
 border_edges-vertices g l is ar =
-    before_agree (border_length l) (λ k. count (edges g) (leaves g (k + 1))) (length g.parents) (λ k lt. Exactly-length (edges g) (leaves g (k + 1)) (cluster_list l (k + 1)) ((ar.clusters_right (k + 1)).present (omega arith) (omega arith)).1)
+    before_agree (border_length l) (λ k. count (edges g) (leaves g (k + 1))) (length g.parents)
+    (λ k lt. Exactly-length (edges g) (leaves g (k + 1)) (cluster_list l (k + 1))
+    ((ar.clusters_right (k + 1)).present (omega arith) (omega arith)).1)
     ∙ counted_twice (λ k e. leaves g (k + 1) e) (length g.parents) (edges g)
     ∙ before_agree (λ e. count (length g.parents) (λ k. leaves g (k + 1) e)) (crossed g) (edges g) (λ e lt.
     sym (count_from_one (length g.parents) (λ c. leaves g c e) refl)

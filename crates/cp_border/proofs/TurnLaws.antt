@@ -38,18 +38,21 @@ turn_kept : (r : System) → IsRotation r → (v u : ℕ) (table after : List �
 turn_kept r is v u table after lt w had d within e =
     ⊎_elim
     (λ same. turned r is v table after lt w d within (e ∙ same))
-    (λ ne. w.others d (λ i lti item. ne (sym e ∙ ap (vertex_of r) (sym item) ∙ (item_stands r is v i lt lti).1)) ∙ had d within e)
+    (λ ne. w.others d (λ i lti item. ne (sym e ∙ ap (vertex_of r) (sym item) ∙ (item_stands r is v i lt lti).1))
+    ∙ had d within e)
     (cases_eq u v)
 
 -- the list by another name
 pub HasTurn-written : (r : System) → IsRotation r → (v : ℕ) (table after items : List ℕ) → v < r.vertices →
     items ≡ list_of r v → IsWritten items table after → HasTurn r after v
-HasTurn-written r is v table after items lt same w = turned r is v table after lt (subst (λ xs. IsWritten xs table after) same w)
+HasTurn-written r is v table after items lt same w =
+    turned r is v table after lt (subst (λ xs. IsWritten xs table after) same w)
 
 -- and what was written at another vertex stays
 pub HasTurn-kept : (r : System) → IsRotation r → (v u : ℕ) (table after items : List ℕ) → v < r.vertices →
     items ≡ list_of r v → IsWritten items table after → HasTurn r table u → HasTurn r after u
-HasTurn-kept r is v u table after items lt same w = turn_kept r is v u table after lt (subst (λ xs. IsWritten xs table after) same w)
+HasTurn-kept r is v u table after items lt same w =
+    turn_kept r is v u table after lt (subst (λ xs. IsWritten xs table after) same w)
 
 -- one vertex more, where vertices are taken by number
 pub turned_more : (r : System) → IsRotation r → (v : ℕ) (table after items : List ℕ) → v < r.vertices →
@@ -80,7 +83,8 @@ begin_kept : (g : Clustered) (l : Layout) (begins : List ℕ) (v w x : ℕ) → 
     slice_index (set begins (v - nodes g) x) (w - nodes g) ≡ slice_index (list_of (borders g l) w) 0
 begin_kept g l begins v w x low_v low_w lt is had =
     ⊎_elim
-    (λ e. ap (slice_index (set begins (v - nodes g) x)) e ∙ get_or-set_same begins (v - nodes g) x 0 lt ∙ is ∙ ap (λ (u : ℕ). slice_index (list_of (borders g l) u) 0) (let h : v ≡ w = omega arith in h))
+    (λ e. ap (slice_index (set begins (v - nodes g) x)) e ∙ get_or-set_same begins (v - nodes g) x 0 lt ∙ is
+    ∙ ap (λ (u : ℕ). slice_index (list_of (borders g l) u) 0) (let h : v ≡ w = omega arith in h))
     (λ ne. get_or-set_other begins (v - nodes g) (w - nodes g) x 0 ne ∙ had)
     (cases_eq (w - nodes g) (v - nodes g))
 
@@ -103,21 +107,26 @@ IsViewedUpto-more g l is ar c k table after begins items x above lt within room 
     let low : border_at g l c k < first_border g (edges g) = border_at-lt g l is ar c k above lt within in
     let slot : border_at g l c k - nodes g < length begins = omega arith in
     let list : items ≡ list_of (borders g l) (border_at g l c k) = same ∙ list_of_item g l is ar c k above lt within in
-    let head : x ≡ slice_index (list_of (borders g l) (border_at g l c k)) 0 = begin ∙ ap (λ (xs : List ℕ). slice_index xs 0) list in
-    let keep : (b j : ℕ) → IsViewed g l table begins (border_at g l b j) → IsViewed g l after (set begins (border_at g l c k - nodes g) x) (border_at g l b j) = λ b j had. record {
+    let head : x ≡ slice_index (list_of (borders g l) (border_at g l c k)) 0 = begin
+    ∙ ap (λ (xs : List ℕ). slice_index xs 0) list in
+    let keep : (b j : ℕ) → IsViewed g l table begins (border_at g l b j)
+    → IsViewed g l after (set begins (border_at g l c k - nodes g) x) (border_at g l b j) = λ b j had. record {
       turn = HasTurn-kept (borders g l) r (border_at g l c k) (border_at g l b j) table after items low list w had.turn;
-      begin = begin_kept g l begins (border_at g l c k) (border_at g l b j) x (omega arith) (omega arith) slot head had.begin;
+      begin = begin_kept g l begins (border_at g l c k) (border_at g l b j) x (omega arith) (omega arith) slot head
+          had.begin;
     } in
     let this : IsViewed g l after (set begins (border_at g l c k - nodes g) x) (border_at g l c k) = record {
       turn = HasTurn-written (borders g l) r (border_at g l c k) table after items low list w;
       begin = get_or-set_same begins (border_at g l c k - nodes g) x 0 slot ∙ head;
     } in
     record {
-      nodes_turned = λ v node. HasTurn-kept (borders g l) r (border_at g l c k) v table after items low list w (so.nodes_turned v node);
+      nodes_turned = λ v node. HasTurn-kept (borders g l) r (border_at g l c k) v table after items low list w
+          (so.nodes_turned v node);
       borders_viewed = record {
         earlier = λ b j ab lb lj. keep b j (so.borders_viewed.earlier b j ab lb lj);
         here = λ j lj. ⊎_elim
-            (λ e. subst (λ i. IsViewed g l after (set begins (border_at g l c k - nodes g) x) (border_at g l c i)) (sym e) this)
+            (λ e. subst (λ i. IsViewed g l after (set begins (border_at g l c k - nodes g) x) (border_at g l c i))
+            (sym e) this)
             (λ ne. keep c j (so.borders_viewed.here j (omega arith)))
             (cases_eq j k);
       };
@@ -130,7 +139,8 @@ IsViewedUpto-next g l c k table begins all so = record {
   nodes_turned = so.nodes_turned;
   borders_viewed = record {
     earlier = λ b j above lt within. ⊎_elim
-        (λ e. subst (λ i. IsViewed g l table begins (border_at g l i j)) (sym e) (so.borders_viewed.here j (omega (arith, ap (λ (i : ℕ). length (cluster_list l i)) e))))
+        (λ e. subst (λ i. IsViewed g l table begins (border_at g l i j)) (sym e)
+        (so.borders_viewed.here j (omega (arith, ap (λ (i : ℕ). length (cluster_list l i)) e))))
         (λ ne. so.borders_viewed.earlier b j above (omega arith) within)
         (cases_eq b c);
     here = λ j lt. absurd (omega arith);
@@ -146,8 +156,10 @@ viewed_at g l is ar table begins so e i lt within =
     let cross : IsCrossing g e i (slice_index (crossings g e) i) = crossing_at g is e i lt within in
     let item = item_of g l ar (slice_index (crossings g e) i) e cross.above cross.cluster lt cross.left in
     let vertex : border_at g l (slice_index (crossings g e) i) (place_on_border g l e i) ≡ first_border g e + i =
-    ap (λ (m : ℕ). border_vertex g m (slice_index (crossings g e) i)) item.is ∙ ap (λ (m : ℕ). first_border g e + m) cross.place_is in
-    subst (IsViewed g l table begins) vertex (so.borders_viewed.earlier (slice_index (crossings g e) i) (place_on_border g l e i) cross.above cross.cluster item.within)
+    ap (λ (m : ℕ). border_vertex g m (slice_index (crossings g e) i)) item.is
+    ∙ ap (λ (m : ℕ). first_border g e + m) cross.place_is in
+    subst (IsViewed g l table begins) vertex (so.borders_viewed.earlier (slice_index (crossings g e) i)
+    (place_on_border g l e i) cross.above cross.cluster item.within)
 
 -- so each border vertex is written
 pub viewed_vertex : (g : Clustered) (l : Layout) → IsClustered g → IsArranged g l → (table begins : List ℕ) →
@@ -165,7 +177,8 @@ pub next_told : (g : Clustered) (l : Layout) → IsClustered g → IsArranged g 
 next_told g l is ar table begins so d lt =
     ⊎_elim
     (λ node. so.nodes_turned (vertex_of (borders g l) d) node d lt refl)
-    (λ border. (viewed_vertex g l is ar table begins so (vertex_of (borders g l) d) border ((IsRotation-borders g l is ar).placed d lt)).turn d lt refl)
+    (λ border. (viewed_vertex g l is ar table begins so (vertex_of (borders g l) d) border
+    ((IsRotation-borders g l is ar).placed d lt)).turn d lt refl)
     (cases_lt (vertex_of (borders g l) d) (nodes g))
 
 -- a node is a vertex

@@ -37,6 +37,7 @@ IsRightNode-prop g l v a b = λ i. record {
   expected = λ lt. le_prop (a.expected lt) (b.expected lt) i;
 }
 
+-- that a cluster line is right has one proof at most
 IsRightCluster-prop : (g : Clustered) (l : Layout) (k : ℕ) → IsProp (IsRightCluster g l k)
 IsRightCluster-prop g l k a b = λ i. record {
   present = λ above lt. ×_prop le_prop (Exactly-prop _ _ _) (a.present above lt) (b.present above lt) i;

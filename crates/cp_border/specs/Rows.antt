@@ -8,9 +8,11 @@ use Rattle.cp_border.specs.Borders.{borders}
 abbrev pub leaving : Clustered
 leaving = record { ids = pos 1 ∷ pos 2 ∷ []; ends = (0, 1) ∷ []; parents = 0 ∷ []; homes = 1 ∷ 0 ∷ [] }
 
+-- a layout of an edge that leaves a cluster
 abbrev pub leaving_layout : Layout
 leaving_layout = record { nodes = (0 ∷ []) ∷ (1 ∷ []) ∷ []; clusters = (0 ∷ []) ∷ [] }
 
+-- its border graph
 leaving_borders : borders leaving leaving_layout ≡ record {
   vertices = 3;
   at = 0 ∷ 2 ∷ 2 ∷ 1 ∷ 2 ∷ 2 ∷ [];
@@ -22,9 +24,11 @@ leaving_borders = refl
 abbrev pub entering : Clustered
 entering = record { ids = pos 1 ∷ pos 2 ∷ []; ends = (1, 0) ∷ []; parents = 0 ∷ []; homes = 1 ∷ 0 ∷ [] }
 
+-- a layout of an edge that enters a cluster
 abbrev pub entering_layout : Layout
 entering_layout = record { nodes = (1 ∷ []) ∷ (0 ∷ []) ∷ []; clusters = (0 ∷ []) ∷ [] }
 
+-- its border graph
 entering_borders : borders entering entering_layout ≡ record {
   vertices = 3;
   at = 1 ∷ 2 ∷ 2 ∷ 0 ∷ 2 ∷ 2 ∷ [];
@@ -34,8 +38,15 @@ entering_borders = refl
 
 -- a loop and two parallel edges from a node two clusters deep to one outside
 abbrev pub nested : Clustered
-nested = record { ids = pos 1 ∷ pos 2 ∷ []; ends = (0, 0) ∷ (0, 1) ∷ (0, 1) ∷ []; parents = 0 ∷ 1 ∷ []; homes = 2 ∷ 0 ∷ [] }
+nested = record {
+  ids = pos 1 ∷ pos 2 ∷ [];
+  ends = (0, 0) ∷ (0, 1) ∷ (0, 1) ∷ [];
+  parents = 0 ∷ 1 ∷ [];
+  homes =
+      2 ∷ 0 ∷ [];
+}
 
+-- a layout of two nested clusters
 abbrev pub nested_layout : Layout
 nested_layout = record { nodes = (0 ∷ 1 ∷ 2 ∷ 4 ∷ []) ∷ (3 ∷ 5 ∷ []) ∷ []; clusters = (1 ∷ 2 ∷ []) ∷ (1 ∷ 2 ∷ []) ∷ [] }
 
@@ -43,7 +54,8 @@ nested_layout = record { nodes = (0 ∷ 1 ∷ 2 ∷ 4 ∷ []) ∷ (3 ∷ 5 ∷ [
 nested_borders : borders nested nested_layout ≡ record {
   vertices = 6;
   at = 0 ∷ 0 ∷ 0 ∷ 2 ∷ 2 ∷ 3 ∷ 3 ∷ 1 ∷ 0 ∷ 4 ∷ 4 ∷ 5 ∷ 5 ∷ 1 ∷ 3 ∷ 5 ∷ 5 ∷ 3 ∷ 2 ∷ 4 ∷ 4 ∷ 2 ∷ [];
-  lists = (0 ∷ 1 ∷ 2 ∷ 8 ∷ []) ∷ (7 ∷ 13 ∷ []) ∷ (18 ∷ 3 ∷ 21 ∷ 4 ∷ []) ∷ (14 ∷ 5 ∷ 17 ∷ 6 ∷ []) ∷ (20 ∷ 9 ∷ 19 ∷ 10 ∷ []) ∷ (16 ∷ 11 ∷ 15 ∷ 12 ∷ []) ∷ [];
+  lists = (0 ∷ 1 ∷ 2 ∷ 8 ∷ []) ∷ (7 ∷ 13 ∷ []) ∷ (18 ∷ 3 ∷ 21 ∷ 4 ∷ []) ∷ (14 ∷ 5 ∷ 17 ∷ 6 ∷ [])
+      ∷ (20 ∷ 9 ∷ 19 ∷ 10 ∷ []) ∷ (16 ∷ 11 ∷ 15 ∷ 12 ∷ []) ∷ [];
 }
 nested_borders = refl
 
@@ -51,5 +63,7 @@ nested_borders = refl
 abbrev pub isolated : Clustered
 isolated = record { ids = pos 1 ∷ pos 2 ∷ pos 3 ∷ []; ends = []; parents = 0 ∷ []; homes = 0 ∷ 0 ∷ 0 ∷ [] }
 
-isolated_borders : borders isolated record { nodes = [] ∷ [] ∷ [] ∷ []; clusters = [] ∷ [] } ≡ record { vertices = 3; at = []; lists = [] ∷ [] ∷ [] ∷ [] }
+-- nodes without edges, and an empty cluster
+isolated_borders : borders isolated record { nodes = [] ∷ [] ∷ [] ∷ []; clusters = [] ∷ [] }
+    ≡ record { vertices = 3; at = []; lists = [] ∷ [] ∷ [] ∷ [] }
 isolated_borders = refl

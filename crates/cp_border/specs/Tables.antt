@@ -7,7 +7,7 @@ use Rattle.cp_cgraph.specs.declared.layout.Layout.{Layout}
 use Rattle.cp_border.specs.Borders.{before, crossed, border_vertex, segment_ends, cluster_list, border_list}
 
 -- the first n places of the list hold the first n values of f
-pub record IsTable (n : ℕ) (xs : List ℕ) (f : ℕ → ℕ) : Type 0 where
+pub record HoldsTable (n : ℕ) (xs : List ℕ) (f : ℕ → ℕ) : Type 0 where
   pub size : n ≤ length xs
   pub told : (i : ℕ) → i < n → slice_index xs i ≡ f i
 
@@ -39,7 +39,8 @@ segment_vertices g = flat_map (segment_ends g) (range_with_len 0 (edges g))
 
 -- the list of the border vertex of the edge at place k of the list of cluster c
 abbrev pub list_at : Clustered → Layout → ℕ → ℕ → List ℕ
-list_at g l c k = let e = slice_index (cluster_list l c) k in border_list g l e (position_or_len (λ x. x == c) (crossings g e))
+list_at g l c k = let e = slice_index (cluster_list l c) k in border_list g l e
+    (position_or_len (λ x. x == c) (crossings g e))
 
 -- the border vertex of the edge at place k of the list of cluster c
 abbrev pub border_at : Clustered → Layout → ℕ → ℕ → ℕ

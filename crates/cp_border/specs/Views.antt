@@ -5,7 +5,7 @@ use Rattle.cp_cgraph.specs.declared.layout.Layout.{Layout}
 use Rattle.cp_rot.specs.Systems.{System, darts, list_of, next, vertex_of}
 use Rattle.cp_border.specs.Borders.{borders, before, cluster_list, crossed, first_border}
 use Rattle.cp_border.specs.Good.{IsArranged}
-use Rattle.cp_border.specs.Tables.{Tables, IsTable, HasPlacesFor, border_at}
+use Rattle.cp_border.specs.Tables.{Tables, HoldsTable, HasPlacesFor, border_at}
 
 -- the table tells the next dart of each dart that stands at vertex v
 abbrev pub HasTurn : System → List ℕ → ℕ → Type 0
@@ -37,7 +37,8 @@ pub record IsTold (g : Clustered) (l : Layout) (t : Tables) : Type 0 where
   pub clustered : IsClustered g
   pub arranged : IsArranged g l
   pub places : HasPlacesFor g t
-  pub first_told : IsTable (edges g + 1) t.first (before (crossed g))
-  pub at_told : IsTable (darts (borders g l)) t.at (vertex_of (borders g l))
-  pub next_told : IsTable (darts (borders g l)) t.following (next (borders g l))
-  pub begins_told : (v : ℕ) → nodes g ≤ v → v < first_border g (edges g) → slice_index t.begins (v - nodes g) ≡ slice_index (list_of (borders g l) v) 0
+  pub first_told : HoldsTable (edges g + 1) t.first (before (crossed g))
+  pub at_told : HoldsTable (darts (borders g l)) t.at (vertex_of (borders g l))
+  pub next_told : HoldsTable (darts (borders g l)) t.following (next (borders g l))
+  pub begins_told : (v : ℕ) → nodes g ≤ v → v < first_border g (edges g)
+      → slice_index t.begins (v - nodes g) ≡ slice_index (list_of (borders g l) v) 0

@@ -7,7 +7,7 @@ ghost use Rattle.cp_rot.specs.Systems.{darts, place_after};
 ghost use Rattle.cp_border.specs.Borders.{borders, before, border_vertex, cluster_list, crossed, end_dart, first_border, first_border_edge, first_segment, node_list, place_before};
 ghost use Rattle.cp_border.specs.Good.{IsArranged};
 ghost use Rattle.cp_border.specs.ArrangedFacts.{IsArranged-prop};
-ghost use Rattle.cp_border.specs.Tables.{IsTable, list_at};
+ghost use Rattle.cp_border.specs.Tables.{HoldsTable, list_at};
 
 use cp_cgraph::{CGraph, Layout};
 
@@ -22,7 +22,7 @@ pub(crate) struct Arranged<'a> {
     ghost arranged: { IsArranged graph.now layout.now } by { IsArranged-prop graph.now layout.now },
     ghost few_vertices: { first_border graph.now (edges graph.now) < 2 ^ 59 },
     ghost few_edges: { edges graph.now + 2 * before (crossed graph.now) (edges graph.now) < 2 ^ 59 },
-    ghost first_told: { IsTable (edges graph.now + 1) first.now (before (crossed graph.now)) },
+    ghost first_told: { HoldsTable (edges graph.now + 1) first.now (before (crossed graph.now)) },
 }
 
 // The place behind place `k` in a cyclic list of `count` items.

@@ -3,7 +3,7 @@ ghost use Rattle.std.specs.Prelude.{◌≡◌, ◌+◌, ◌*◌, ◌^◌, ◌<�
 ghost use Rattle.cp_cgraph.specs.Clustered.{nodes, edges};
 ghost use Rattle.cp_border.specs.Borders.{before, crossed};
 ghost use Rattle.cp_border.specs.Good.{IsArranged};
-ghost use Rattle.cp_border.specs.Tables.{HasPlaces, HasPlacesFor, IsTable};
+ghost use Rattle.cp_border.specs.Tables.{HasPlaces, HasPlacesFor, HoldsTable};
 ghost use Rattle.cp_border.specs.Views.{IsTold};
 
 use crate::arranged::Arranged;
@@ -92,7 +92,7 @@ impl BorderTables {
 fn write_first(g: &CGraph, first: &mut [usize])
     requires room { edges g.now + 1 ≤ length first.old }
     requires size { before (crossed g.now) (edges g.now) < 2 ^ 60 }
-    ensures { IsTable (edges g.now + 1) first.new (before (crossed g.now)) }
+    ensures { HoldsTable (edges g.now + 1) first.new (before (crossed g.now)) }
 {
     first[0] = 0;
     for e in 0..g.edges() {

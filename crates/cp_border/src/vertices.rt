@@ -4,7 +4,7 @@ ghost use Rattle.std.specs.Prelude.{◌≡◌, ◌+◌, ◌*◌, ◌<◌, ◌≤
 ghost use Rattle.cp_cgraph.specs.Clustered.{edges, clusters};
 ghost use Rattle.cp_rot.specs.Systems.{darts, vertex_of};
 ghost use Rattle.cp_border.specs.Borders.{borders, cluster_list, first_border_edge, first_segment, segments};
-ghost use Rattle.cp_border.specs.Tables.{IsTable, segment_vertices};
+ghost use Rattle.cp_border.specs.Tables.{HoldsTable, segment_vertices};
 
 use crate::arranged::{Arranged, place_behind};
 
@@ -13,8 +13,8 @@ impl<'a> Arranged<'a> {
     fn write_edge(&self, e: usize, at: &mut [usize])
         requires edge { e < edges self.now.graph.now }
         requires room { 2 * segments self.now.graph.now ≤ length at.old }
-        requires done { IsTable (2 * first_segment self.now.graph.now e) at.old (slice_index (segment_vertices self.now.graph.now)) }
-        ensures { IsTable (2 * first_segment self.now.graph.now (e + 1)) at.new (slice_index (segment_vertices self.now.graph.now)) }
+        requires done { HoldsTable (2 * first_segment self.now.graph.now e) at.old (slice_index (segment_vertices self.now.graph.now)) }
+        ensures { HoldsTable (2 * first_segment self.now.graph.now (e + 1)) at.new (slice_index (segment_vertices self.now.graph.now)) }
     {
         let (source, target) = self.graph.ends(e);
         let border = self.graph.nodes() + self.first[e];
@@ -31,7 +31,7 @@ impl<'a> Arranged<'a> {
     // Writes where the darts of all segments stand.
     fn write_segments(&self, at: &mut [usize])
         requires { 2 * segments self.now.graph.now ≤ length at.old }
-        ensures { IsTable (2 * segments self.now.graph.now) at.new (slice_index (segment_vertices self.now.graph.now)) }
+        ensures { HoldsTable (2 * segments self.now.graph.now) at.new (slice_index (segment_vertices self.now.graph.now)) }
     {
         for e in 0..self.graph.edges() {
             self.write_edge(e, at);
@@ -44,8 +44,8 @@ impl<'a> Arranged<'a> {
         requires cluster { c < clusters self.now.graph.now }
         requires room { darts (borders self.now.graph.now self.now.layout.now) ≤ length at.old }
         requires start { start ≡ 2 * first_border_edge self.now.graph.now self.now.layout.now c }
-        requires done { IsTable start at.old (vertex_of (borders self.now.graph.now self.now.layout.now)) }
-        ensures { IsTable (start + 2 * length (cluster_list self.now.layout.now c)) at.new (vertex_of (borders self.now.graph.now self.now.layout.now)) }
+        requires done { HoldsTable start at.old (vertex_of (borders self.now.graph.now self.now.layout.now)) }
+        ensures { HoldsTable (start + 2 * length (cluster_list self.now.layout.now c)) at.new (vertex_of (borders self.now.graph.now self.now.layout.now)) }
     {
         let count = self.border_items(c).len();
         for k in 0..count {
@@ -57,7 +57,7 @@ impl<'a> Arranged<'a> {
     // Writes for each dart of the border graph the vertex at which it stands.
     pub(crate) fn write_at(&self, at: &mut [usize])
         requires { darts (borders self.now.graph.now self.now.layout.now) ≤ length at.old }
-        ensures { IsTable (darts (borders self.now.graph.now self.now.layout.now)) at.new (vertex_of (borders self.now.graph.now self.now.layout.now)) }
+        ensures { HoldsTable (darts (borders self.now.graph.now self.now.layout.now)) at.new (vertex_of (borders self.now.graph.now self.now.layout.now)) }
     {
         self.write_segments(at);
         let mut start = 2 * (self.graph.edges() + self.first[self.graph.edges()]);

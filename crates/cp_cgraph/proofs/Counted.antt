@@ -19,10 +19,22 @@ pub record HasCounted (g : Clustered) (e outer inner left entered : ℕ) : Type 
   pub entered_length : length entered_list ≡ entered
   pub fallen : left + entered + outer + inner ≤ home g (source g e) + home g (target g e)
 
-pub HasCounted-start : (g : Clustered) (e : ℕ) → home g (source g e) < clusters g → home g (target g e) < clusters g → HasCounted g e (home g (source g e)) (home g (target g e)) 0 0
-HasCounted-start g e s t = record { left_list = []; entered_list = []; between = IsBetween-start g e s t; left_length = refl; entered_length = refl; fallen = omega arith }
+-- at the two homes nothing is counted yet
+pub HasCounted-start : (g : Clustered) (e : ℕ) → home g (source g e) < clusters g → home g (target g e) < clusters g
+    → HasCounted g e (home g (source g e)) (home g (target g e)) 0 0
+HasCounted-start g e s t = record {
+  left_list = [];
+  entered_list = [];
+  between = IsBetween-start g e s t;
+  left_length =
+      refl;
+  entered_length = refl;
+  fallen = omega arith;
+}
 
-pub HasCounted-left : (g : Clustered) → IsClustered g → (e outer inner left entered : ℕ) → HasCounted g e outer inner left entered → inner < outer → HasCounted g e (parent g outer) inner (left + 1) entered
+-- one more cluster is left
+pub HasCounted-left : (g : Clustered) → IsClustered g → (e outer inner left entered : ℕ)
+    → HasCounted g e outer inner left entered → inner < outer → HasCounted g e (parent g outer) inner (left + 1) entered
 HasCounted-left g is e outer inner left entered so lt =
     let less : parent g outer < outer = (IsLower-clustered g is).lower outer (omega arith) in
     record {
@@ -34,7 +46,9 @@ HasCounted-left g is e outer inner left entered so lt =
       fallen = omega (arith, so.fallen);
     }
 
-pub HasCounted-entered : (g : Clustered) → IsClustered g → (e outer inner left entered : ℕ) → HasCounted g e outer inner left entered → outer < inner → HasCounted g e outer (parent g inner) left (entered + 1)
+-- one more cluster is entered
+pub HasCounted-entered : (g : Clustered) → IsClustered g → (e outer inner left entered : ℕ)
+    → HasCounted g e outer inner left entered → outer < inner → HasCounted g e outer (parent g inner) left (entered + 1)
 HasCounted-entered g is e outer inner left entered so lt =
     let less : parent g inner < inner = (IsLower-clustered g is).lower inner (omega arith) in
     record {
@@ -47,26 +61,33 @@ HasCounted-entered g is e outer inner left entered so lt =
     }
 
 -- where the walks meet, the borders are counted
-pub HasCounted-end : (g : Clustered) → IsClustered g → (e outer inner left entered : ℕ) → HasCounted g e outer inner left entered → outer ≡ inner → left + entered ≡ length (crossings g e)
+pub HasCounted-end : (g : Clustered) → IsClustered g → (e outer inner left entered : ℕ)
+    → HasCounted g e outer inner left entered → outer ≡ inner → left + entered ≡ length (crossings g e)
 HasCounted-end g is e outer inner left entered so met =
     ap₂ (λ (a b : ℕ). a + b) (sym so.left_length) (sym so.entered_length ∙ sym (length-reverse so.entered_list))
     ∙ sym (length-append so.left_list (reverse so.entered_list))
     ∙ ap length (IsBetween-end g is e outer inner so.left_list so.entered_list so.between met)
 
 -- the place of an item of the first list, in that list and another
-pub place_front : (xs ys front rest : List ℕ) (x k : ℕ) → EachOnce (xs ++ ys) → xs ≡ front ++ x ∷ rest → length front ≡ k → position_or_len (λ y. y == x) (xs ++ ys) ≡ k
+pub place_front : (xs ys front rest : List ℕ) (x k : ℕ) → EachOnce (xs ++ ys) → xs ≡ front ++ x ∷ rest
+    → length front ≡ k → position_or_len (λ y. y == x) (xs ++ ys) ≡ k
 place_front xs ys front rest x k once split long =
     let size : length xs ≡ length front + suc (length rest) = ap length split ∙ length-append front (x ∷ rest) in
-    let stands : slice_index (xs ++ ys) k ≡ x = get_or_append_left xs ys 0 k (omega arith) ∙ ap (λ (zs : List ℕ). slice_index zs k) split ∙ get_or_at front x rest 0 k long in
+    let stands : slice_index (xs ++ ys) k ≡ x = get_or_append_left xs ys 0 k (omega arith)
+    ∙ ap (λ (zs : List ℕ). slice_index zs k) split ∙ get_or_at front x rest 0 k long in
     place_is (xs ++ ys) k x once (omega (arith, length-append xs ys)) stands
 
 -- the place of an item of the second list, behind the first and read from its end
-pub place_back : (xs ys front rest : List ℕ) (x k : ℕ) → EachOnce (xs ++ reverse ys) → ys ≡ front ++ x ∷ rest → length front ≡ k → (k < length (xs ++ reverse ys)) × (position_or_len (λ y. y == x) (xs ++ reverse ys) ≡ length (xs ++ reverse ys) - 1 - k)
+pub place_back : (xs ys front rest : List ℕ) (x k : ℕ) → EachOnce (xs ++ reverse ys) → ys ≡ front ++ x ∷ rest
+    → length front ≡ k → (k < length (xs ++ reverse ys))
+    × (position_or_len (λ y. y == x) (xs ++ reverse ys) ≡ length (xs ++ reverse ys) - 1 - k)
 place_back xs ys front rest x k once split long =
     let size : length ys ≡ length front + suc (length rest) = ap length split ∙ length-append front (x ∷ rest) in
-    let whole : length (xs ++ reverse ys) ≡ length xs + length ys = length-append xs (reverse ys) ∙ ap (λ (n : ℕ). length xs + n) (length-reverse ys) in
+    let whole : length (xs ++ reverse ys) ≡ length xs + length ys = length-append xs (reverse ys)
+    ∙ ap (λ (n : ℕ). length xs + n) (length-reverse ys) in
     let stands : slice_index (xs ++ reverse ys) (length (xs ++ reverse ys) - 1 - k) ≡ x =
-    ap (slice_index (xs ++ reverse ys)) (let e : length (xs ++ reverse ys) - 1 - k ≡ length xs + (length ys - 1 - k) = omega arith in e)
+    ap (slice_index (xs ++ reverse ys)) (let e : length (xs ++ reverse ys) - 1 - k ≡ length xs + (length ys - 1 - k) =
+    omega arith in e)
     ∙ get_or-append-add xs (reverse ys) (length ys - 1 - k) 0
     ∙ get_or-reverse ys (length ys - 1 - k) 0 (omega arith)
     ∙ ap (slice_index ys) (let e : length ys - 1 - (length ys - 1 - k) ≡ k = omega arith in e)

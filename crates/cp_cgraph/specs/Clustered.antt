@@ -9,9 +9,11 @@ pub record Clustered : Type 0 where
   pub parents : List ℕ
   pub homes : List ℕ
 
+-- the number of nodes
 abbrev pub nodes : Clustered → ℕ
 nodes g = length g.ids
 
+-- the number of edges
 abbrev pub edges : Clustered → ℕ
 edges g = length g.ends
 
@@ -19,9 +21,11 @@ edges g = length g.ends
 abbrev pub clusters : Clustered → ℕ
 clusters g = length g.parents + 1
 
+-- the first end of an edge
 abbrev pub source : Clustered → ℕ → ℕ
 source g e = (slice_index_or g.ends e (0, 0)).0
 
+-- the second end of an edge
 abbrev pub target : Clustered → ℕ → ℕ
 target g e = (slice_index_or g.ends e (0, 0)).1
 
@@ -29,6 +33,7 @@ target g e = (slice_index_or g.ends e (0, 0)).1
 abbrev pub parent : Clustered → ℕ → ℕ
 parent g c = slice_index g.parents (c - 1)
 
+-- the innermost cluster of a node
 abbrev pub home : Clustered → ℕ → ℕ
 home g v = slice_index g.homes v
 

@@ -1,5 +1,5 @@
 -- Which clusters contain a node, which edges leave a cluster, and the borders along an edge.
-use Rattle.std.specs.Prelude.{ℕ, zero, suc, ◌-◌, ◌<◌, ◌==◌, ◌||◌, Bool, not, cond, List, [], ◌∷◌, ◌++◌, reverse, filter, slice_index}
+use Rattle.std.specs.Prelude.{ℕ, zero, suc, ◌-◌, ◌<◌, ◌==◌, ◌||◌, Bool, not, cond, List, [], ◌∷◌, ◌++◌, length, reverse, filter, slice_index}
 use Rattle.std.specs.List.{list_any}
 use Rattle.cp_cgraph.specs.Clustered.{Clustered, source, target, parent, home}
 
@@ -22,7 +22,12 @@ leaves g c e = cond (contains g c (source g e)) (not (contains g c (target g e))
 
 -- the clusters that edge e leaves, in the order in which it crosses their borders from its source on
 abbrev pub crossings : Clustered → ℕ → List ℕ
-crossings g e = filter (λ c. not (contains g c (target g e))) (around g (source g e)) ++ reverse (filter (λ c. not (contains g c (source g e))) (around g (target g e)))
+crossings g e = filter (λ c. not (contains g c (target g e))) (around g (source g e)) ++ reverse
+    (filter (λ c. not (contains g c (source g e))) (around g (target g e)))
+
+-- the number of clusters that edge e leaves, so of borders that it crosses
+abbrev pub crossed : Clustered → ℕ → ℕ
+crossed g e = length (crossings g e)
 
 -- cluster c is the cluster b or lies round it
 pub data IsWithin (g : Clustered) (c : ℕ) : ℕ → Type 0 where

@@ -8,6 +8,7 @@ use Rattle.cp_gml.specs.declared.tree.GmlValue.{GmlValue}
 use Rattle.cp_gml.specs.declared.tree.GmlValue.TheVariants.{Int, Number, Str, List as Nested}
 use Rattle.cp_gml.specs.declared.tree.GmlList.{out-GmlList}
 
+-- the entry has this key
 abbrev pub has_key : List ℕ → Entry → Bool
 has_key key e = bytes_eq e.key key
 

@@ -4,6 +4,9 @@ use Rattle.std.specs.Prelude.{◌≡◌, ℕ, ℤ, ◌<◌, ◌≤◌, ◌⊎◌
 use Rattle.std.specs.List.{All, position, flat_map}
 use Rattle.std.specs.Option.{is_some}
 use Rattle.std.specs.Ordering.{int_eq}
+use Rattle.cp_cgraph.specs.declared.kind.GraphKind.TheVariants.{NoGraph, SecondGraph, NotAList, MissingId, RepeatedKey, BadId, DuplicateNode, UnknownEnd, SecondRoot, UnknownVertex, VertexTwice, MissingEnd}
+use Rattle.cp_cgraph.specs.declared.kind.GraphKind.{GraphKind}
+use Rattle.cp_cgraph.specs.Kinds.{graph_number}
 use Rattle.cp_gml.specs.declared.tree.Entry.{Entry}
 use Rattle.cp_gml.specs.Trees.{Tree, tree}
 use Rattle.cp_cgraph.specs.Entries.{keyed, has_key, inner, first_id}
@@ -12,12 +15,12 @@ use Rattle.cp_cgraph.specs.declared.clusters.Name.{Name}
 use Rattle.cp_cgraph.specs.declared.fault.GraphFault.{GraphFault}
 use Rattle.cp_cgraph.specs.declared.fault.GraphFault.TheVariants.{Graph, Memory}
 
--- an offset and the number of a kind
+-- an offset and a kind
 abbrev pub Fault : Type 0
-Fault = ℕ × ℕ
+Fault = ℕ × GraphKind
 
 -- some entries that stand after the first of their key
-abbrev pub later : ℕ → List Entry → List Fault
+abbrev pub later : GraphKind → List Entry → List Fault
 later kind es = map (λ e. (e.key_at, kind)) es
 
 -- the entries of the value of the first of some entries
@@ -41,38 +44,38 @@ spliced (e ∷ es) =
 abbrev pub roots : List Entry → List Entry
 roots es = keyed (codes "rootcluster") (spliced es)
 
--- no list: 12
+-- no list
 abbrev pub unlisted : Entry → List Fault
-unlisted e = elim (inner e.value) [ None ↦ (e.value_at, 12) ∷ [] | Some es ↦ [] ]
+unlisted e = elim (inner e.value) [ None ↦ (e.value_at, NotAList) ∷ [] | Some es ↦ [] ]
 
--- no `graph` entry: 10; a second or later one: 11
+-- no `graph` entry; a second or later one
 abbrev pub graph_faults : ℕ → List Entry → List Fault
-graph_faults end [] = (end, 10) ∷ []
-graph_faults end (first ∷ rest) = unlisted first ++ later 11 rest
+graph_faults end [] = (end, NoGraph) ∷ []
+graph_faults end (first ∷ rest) = unlisted first ++ later SecondGraph rest
 
--- the value of the first is no id: 15
+-- the value of the first is no id
 abbrev pub bad_id : Option (ℤ × ℕ) → ℕ → List Fault
-bad_id None at = (at, 15) ∷ []
+bad_id None at = (at, BadId) ∷ []
 bad_id (Some id) at = []
 
 -- the entries of one key, of which there should be one, with an id
 abbrev pub id_faults : Fault → List Entry → List Fault
 id_faults missing [] = missing ∷ []
-id_faults missing (first ∷ rest) = bad_id (first_id (first ∷ rest)) first.value_at ++ later 14 rest
+id_faults missing (first ∷ rest) = bad_id (first_id (first ∷ rest)) first.value_at ++ later RepeatedKey rest
 
 -- one of the ids is n
 abbrev pub is_known : List ℤ → ℤ → Bool
 is_known ids n = is_some (position (int_eq n) ids)
 
--- the id of an earlier node: 16
+-- the id of an earlier node
 abbrev pub duplicate : List ℤ → Option (ℤ × ℕ) → List Fault
 duplicate earlier None = []
-duplicate earlier (Some (n, at)) = if is_known earlier n then (at, 16) ∷ [] else []
+duplicate earlier (Some (n, at)) = if is_known earlier n then (at, DuplicateNode) ∷ [] else []
 
--- an id that no node has: 17
+-- an id that no node has
 abbrev pub unknown_end : List ℤ → Option (ℤ × ℕ) → List Fault
 unknown_end ids None = []
-unknown_end ids (Some (n, at)) = if is_known ids n then [] else (at, 17) ∷ []
+unknown_end ids (Some (n, at)) = if is_known ids n then [] else (at, UnknownEnd) ∷ []
 
 -- the `id` entries of a node
 abbrev pub node_ids : Entry → List Entry
@@ -82,11 +85,12 @@ node_ids e = elim (inner e.value) [ None ↦ [] | Some es ↦ keyed (codes "id")
 abbrev pub ids_of_node : Entry → List ℤ
 ids_of_node e = elim (first_id (node_ids e)) [ None ↦ [] | Some id ↦ id.0 ∷ [] ]
 
--- a node whose value is no list: 12; no `id` entry: 13
+-- a node whose value is no list; no `id` entry
 abbrev pub node_faults : List ℤ → Entry → List Fault
 node_faults earlier e = elim (inner e.value) [
-  | None ↦ (e.value_at, 12) ∷ []
-  | Some es ↦ id_faults (e.value_at, 13) (keyed (codes "id") es) ++ duplicate earlier (first_id (keyed (codes "id") es))
+  | None ↦ (e.value_at, NotAList) ∷ []
+  | Some es ↦ id_faults (e.value_at, MissingId) (keyed (codes "id") es) ++ duplicate earlier
+      (first_id (keyed (codes "id") es))
 ]
 
 -- of some nodes after those with the earlier ids
@@ -102,36 +106,37 @@ node_entries es = keyed (codes "node") (graph_list es)
 abbrev pub known_ids : List Entry → List ℤ
 known_ids es = flat_map ids_of_node (node_entries es)
 
--- one end of an edge: no entry 21
+-- one end of an edge: no entry
 abbrev pub end_faults : List ℤ → ℕ → List Entry → List Fault
-end_faults ids at es = id_faults (at, 21) es ++ unknown_end ids (first_id es)
+end_faults ids at es = id_faults (at, MissingEnd) es ++ unknown_end ids (first_id es)
 
--- an edge whose value is no list: 12
+-- an edge whose value is no list
 abbrev pub edge_faults : List ℤ → Entry → List Fault
 edge_faults ids e = elim (inner e.value) [
-  | None ↦ (e.value_at, 12) ∷ []
-  | Some es ↦ end_faults ids e.value_at (keyed (codes "source") es) ++ end_faults ids e.value_at (keyed (codes "target") es)
+  | None ↦ (e.value_at, NotAList) ∷ []
+  | Some es ↦ end_faults ids e.value_at (keyed (codes "source") es) ++ end_faults ids e.value_at
+      (keyed (codes "target") es)
 ]
 
 -- the `edge` entries of the graph list
 abbrev pub edge_entries : List Entry → List Entry
 edge_entries es = keyed (codes "edge") (graph_list es)
 
--- a second or later `rootcluster` entry: 18
+-- a second or later `rootcluster` entry
 abbrev pub root_faults : List Entry → List Fault
 root_faults [] = []
-root_faults (first ∷ rest) = later 18 rest ++ unlisted first
+root_faults (first ∷ rest) = later SecondRoot rest ++ unlisted first
 
 -- the root list
 abbrev pub root_tree : List Entry → Tree
 root_tree es = tree (list_of_first (roots es))
 
--- a `vertex` entry that names no node: 19; one that names a node which an earlier one names: 20
+-- a `vertex` entry that names no node; one that names a node which an earlier one names
 abbrev pub name_faults : List ℤ → List ℤ → ℤ → ℕ → List Fault
 name_faults ids earlier n at =
     if is_known ids n
-    then (if is_known earlier n then (at, 20) ∷ [] else [])
-    else (at, 19) ∷ []
+    then (if is_known earlier n then (at, VertexTwice) ∷ [] else [])
+    else (at, UnknownVertex) ∷ []
 
 -- of some `vertex` entries after those with the earlier ids
 abbrev pub names_faults : List ℤ → List ℤ → List Name → List Fault
@@ -150,7 +155,7 @@ faults end es =
 
 -- f does not stand behind g
 abbrev pub IsUpTo : Fault → Fault → Type 0
-IsUpTo f g = (f.0 < g.0) ⊎ ((f.0 ≡ g.0) × (f.1 ≤ g.1))
+IsUpTo f g = (f.0 < g.0) ⊎ ((f.0 ≡ g.0) × (graph_number f.1 ≤ graph_number g.1))
 
 -- the fault of least offset, and among these of least kind
 pub record IsFirst (fs : List Fault) (f : Fault) : Type 0 where
@@ -158,10 +163,10 @@ pub record IsFirst (fs : List Fault) (f : Fault) : Type 0 where
   pub least : All (IsUpTo f) fs
 
 -- the first fault of a list that ends at this offset
-abbrev pub IsFaultOf : ℕ → List Entry → ℕ → ℕ → Type 0
+abbrev pub IsFaultOf : ℕ → List Entry → GraphKind → ℕ → Type 0
 IsFaultOf end es kind at = IsFirst (faults end es) (at, kind)
 
--- the number and the offset of a fault in the list have some property
-abbrev pub IfGraph : GraphFault → (ℕ → ℕ → Type 0) → Type 0
-IfGraph (Graph kind at) P = P kind at
+-- the number is that of a kind, which with the offset has some property
+abbrev pub IfGraph : GraphFault → (GraphKind → ℕ → Type 0) → Type 0
+IfGraph (Graph number at) P = (kind : GraphKind) × (number ≡ graph_number kind) × P kind at
 IfGraph Memory P = Unit {0}

@@ -24,7 +24,8 @@ both (Some v) (Some w) = (v, w) ∷ []
 abbrev pub ends_of_edge : List ℤ → Entry → List (ℕ × ℕ)
 ends_of_edge ids e = elim (inner e.value) [
   | None ↦ []
-  | Some es ↦ both (node_of_id ids (first_id (keyed (codes "source") es))) (node_of_id ids (first_id (keyed (codes "target") es)))
+  | Some es ↦ both (node_of_id ids (first_id (keyed (codes "source") es)))
+      (node_of_id ids (first_id (keyed (codes "target") es)))
 ]
 
 -- the cluster of the first entry that names the node with the id, or 0 where none does

@@ -6,6 +6,7 @@ use Rattle.cp_gml.specs.Trees.{tree}
 use Rattle.cp_gml.specs.declared.tree.Entry.{Entry}
 use Rattle.cp_gml.specs.declared.tree.GmlList.{GmlList, out-GmlList}
 use Rattle.cp_cgraph.specs.Clustered.{Clustered}
+use Rattle.cp_cgraph.specs.declared.kind.GraphKind.{GraphKind}
 use Rattle.cp_cgraph.specs.GraphFaults as graphs
 use Rattle.cp_cgraph.specs.GraphOf.{IsGraphOf}
 use Rattle.cp_cgraph.specs.declared.graph_text.TextFault.{TextFault}
@@ -18,7 +19,7 @@ pub record IsGraphText (text : List ℕ) (g : Clustered) : Type 0 where
   pub graph : IsGraphOf (length text) entries g
 
 -- the text is a list, whose first fault as a graph this is
-pub record IsGraphFault (text : List ℕ) (kind at : ℕ) : Type 0 where
+pub record IsGraphFault (text : List ℕ) (kind : GraphKind) (at : ℕ) : Type 0 where
   pub entries : List Entry
   pub list : lists.IsListOf text (tree entries)
   pub fault : graphs.IsFaultOf (length text) entries kind at

@@ -2,6 +2,7 @@
 pub mod Clustered
 pub mod Crossings
 pub mod Entries
+pub mod Kinds
 pub mod Nested
 pub mod GraphFaults
 pub mod GraphOf

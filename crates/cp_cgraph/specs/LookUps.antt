@@ -1,7 +1,7 @@
 -- Tables that tell at once how the clusters of a clustered graph are nested and what its edges cross.
 use Rattle.std.specs.Prelude.{◌≡◌, ℕ, ◌-◌, ◌<◌, ◌≤◌, List, length, slice_index}
 use Rattle.cp_cgraph.specs.Clustered.{Clustered, edges, clusters, parent}
-use Rattle.cp_cgraph.specs.Crossings.{outward, crossings, IsWithin}
+use Rattle.cp_cgraph.specs.Crossings.{crossed, outward, IsWithin}
 
 -- when a cluster was opened, its parent was the one opened before it, or lay round that
 abbrev pub IsNested : Clustered → Type 0
@@ -21,10 +21,6 @@ pub record AreLasts (g : Clustered) (lasts : List ℕ) : Type 0 where
 -- the number of clusters round cluster c, with itself and without the root
 abbrev pub depth : Clustered → ℕ → ℕ
 depth g c = length (outward g.parents c c)
-
--- the number of clusters that edge e leaves
-abbrev pub crossed : Clustered → ℕ → ℕ
-crossed g e = length (crossings g e)
 
 -- the first n values of a function
 pub record IsTable (n : ℕ) (xs : List ℕ) (f : ℕ → ℕ) : Type 0 where

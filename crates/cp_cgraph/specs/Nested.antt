@@ -2,14 +2,18 @@
 -- names nodes in them.
 use Rattle.std.specs.Prelude.{ℕ, ℤ, ◌+◌, Bool, if◌then◌else◌, List, [], ◌∷◌, ◌++◌, Option, Some, None, codes}
 use Rattle.std.specs.Str.{bytes_eq}
+use Rattle.cp_cgraph.specs.declared.kind.GraphKind.{GraphKind}
+use Rattle.cp_cgraph.specs.declared.kind.GraphKind.TheVariants.{NotAList, BadId}
 use Rattle.cp_gml.specs.Tokens.{Leaf, Chars, Whole, Other}
 use Rattle.cp_gml.specs.Trees.{Tree, nil, leaf, node}
 use Rattle.cp_cgraph.specs.Entries.{spelled_id}
 use Rattle.cp_cgraph.specs.declared.clusters.Name.{Name}
 
+-- the key opens a cluster
 abbrev pub is_cluster : List ℕ → Bool
 is_cluster key = bytes_eq key (codes "cluster")
 
+-- the key names a node
 abbrev pub is_vertex : List ℕ → Bool
 is_vertex key = bytes_eq key (codes "vertex")
 
@@ -35,6 +39,7 @@ parents c next (node key key_at at inner end t) =
     then c ∷ parents next (next + 1) inner ++ parents c (next + (1 + opened inner)) t
     else parents c next t
 
+-- a `vertex` entry of the list of cluster c that has an id
 abbrev pub name_of : ℕ → Option ℤ → ℕ → List Name
 name_of c None at = []
 name_of c (Some n) at = record { cluster = c; id = n; at = at } ∷ []
@@ -49,14 +54,17 @@ names c next (node key key_at at inner end t) =
     then names next (next + 1) inner ++ names c (next + (1 + opened inner)) t
     else names c next t
 
-abbrev pub bad_name : Option ℤ → ℕ → List (ℕ × ℕ)
-bad_name None at = (at, 15) ∷ []
+-- a name that is no id
+abbrev pub bad_name : Option ℤ → ℕ → List (ℕ × GraphKind)
+bad_name None at = (at, BadId) ∷ []
 bad_name (Some n) at = []
 
--- a cluster that is no list: 12; a `vertex` entry that has no id: 15
-abbrev pub wrong_entries : Tree → List (ℕ × ℕ)
+-- a cluster that is no list; a `vertex` entry that has no id
+abbrev pub wrong_entries : Tree → List (ℕ × GraphKind)
 wrong_entries nil = []
 wrong_entries (leaf key key_at value at t) =
-    (if is_cluster key then (at, 12) ∷ [] else (if is_vertex key then bad_name (leaf_id value) at else [])) ++ wrong_entries t
+    (if is_cluster key then (at, NotAList) ∷ [] else (if is_vertex key then bad_name (leaf_id value) at else []))
+    ++ wrong_entries t
 wrong_entries (node key key_at at inner end t) =
-    (if is_cluster key then wrong_entries inner else (if is_vertex key then (at, 15) ∷ [] else [])) ++ wrong_entries t
+    (if is_cluster key then wrong_entries inner else (if is_vertex key then (at, BadId) ∷ [] else [])) ++ wrong_entries
+    t

@@ -7,6 +7,7 @@ ghost use Rattle.cp_cgraph.specs.Entries.{vertex_id};
 
 use crate::entries::{has_key, vertex_id};
 use crate::fault::Fault;
+use crate::kind::GraphKind;
 use cp_base::{Items, Memory};
 use cp_gml::{Entry, GmlList, GmlValue};
 
@@ -37,7 +38,7 @@ fn read_entry(entry: &Entry, cluster: usize, out: &mut Clusters) -> Result<(), M
             out.parents.push(cluster)?;
             read_list(list, out.parents.len(), out)?;
         } else {
-            out.faults.push((entry.value_at, 12))?;
+            out.faults.push((entry.value_at, GraphKind::NotAList))?;
         }
     } else if has_key(entry, b"vertex") {
         read_name(entry, cluster, out)?;
@@ -66,6 +67,6 @@ fn read_name(entry: &Entry, cluster: usize, out: &mut Clusters) -> Result<(), Me
             id,
             at: entry.value_at,
         }),
-        None => out.faults.push((entry.value_at, 15)),
+        None => out.faults.push((entry.value_at, GraphKind::BadId)),
     }
 }

@@ -9,6 +9,7 @@ ghost use Rattle.cp_cgraph.specs.GraphOf.{node_of_id, ends_of_edge};
 use crate::entries::has_key;
 use crate::fault::Fault;
 use crate::ids::Ids;
+use crate::kind::GraphKind;
 use crate::nodes::read_id;
 use cp_base::{Items, Memory};
 use cp_gml::{Entry, GmlValue};
@@ -26,7 +27,7 @@ fn read_end(
     ensures end { IfOk result (λ node. node ≡ node_of_id ids.now (first_id (keyed key.now entries.now))) }
     ensures faults { OnOk result (faults.new ≡ faults.old ++ end_faults ids.now at (keyed key.now entries.now)) }
 {
-    match read_id(entries, key, (at, 21), faults)? {
+    match read_id(entries, key, (at, GraphKind::MissingEnd), faults)? {
         None => Ok(None),
         Some((id, id_at)) => find_node(id, id_at, ids, faults),
     }
@@ -44,7 +45,7 @@ fn find_node(
 {
     let node = ids.place(id);
     if node.is_none() {
-        faults.push((at, 17))?;
+        faults.push((at, GraphKind::UnknownEnd))?;
     }
     Ok(node)
 }
@@ -60,7 +61,7 @@ fn read_edge(
     ensures faults { OnOk result (faults.new ≡ faults.old ++ edge_faults ids.now entry.now) }
 {
     let GmlValue::List(list) = &entry.value else {
-        faults.push((entry.value_at, 12))?;
+        faults.push((entry.value_at, GraphKind::NotAList))?;
         return Ok(());
     };
     let entries = list.entries.items();

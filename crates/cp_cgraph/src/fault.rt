@@ -4,6 +4,7 @@ ghost use Rattle.cp_cgraph.specs.Entries.{keyed};
 ghost use Rattle.cp_cgraph.specs.GraphFaults.{IsFirst, later};
 
 use crate::entries::has_key;
+use crate::kind::GraphKind;
 use cp_base::{Items, Memory};
 use cp_gml::Entry;
 use thiserror::Error;
@@ -11,7 +12,7 @@ use thiserror::Error;
 /// Why `build` gives no graph.
 #[derive(Clone, Copy, Debug, PartialEq, Eq, Error)]
 pub enum GraphFault {
-    /// The list says no clustered graph. `kind` is
+    /// The list says no clustered graph. `kind` is the number of a `GraphKind`:
     ///
     /// 10. no `graph` entry at depth 0, at the end of the list,
     /// 11. a second or later `graph` entry at depth 0, at its key,
@@ -46,14 +47,14 @@ impl From<Memory> for GraphFault {
     }
 }
 
-// An offset and the number of a kind.
-pub(crate) type Fault = (usize, u8);
+// An offset and a kind.
+pub(crate) type Fault = (usize, GraphKind);
 
 // Notes a fault of this kind at the key of each entry with the key.
 pub(crate) fn note_later(
     entries: &[Entry],
     key: &[u8],
-    kind: u8,
+    kind: GraphKind,
     faults: &mut Items<Fault>,
 ) -> Result<(), Memory>
     ensures { OnOk result (faults.new ≡ faults.old ++ later kind (keyed key.now entries.now)) }
@@ -70,7 +71,7 @@ pub(crate) fn note_later(
 fn sooner(first: Fault, second: Fault) -> Fault
     ensures { IsFirst (first ∷ second ∷ []) result }
 {
-    if second.0 < first.0 || (second.0 == first.0 && second.1 < first.1) {
+    if second.0 < first.0 || (second.0 == first.0 && second.1.number() < first.1.number()) {
         second
     } else {
         first

@@ -2,22 +2,23 @@
 ghost use Rattle.std.specs.Prelude.{IfErr, IfOk};
 ghost use Rattle.cp_cgraph.specs.GraphTexts.{IsGraphText, IsListText, IsTextFault};
 
-use crate::fault::GraphFault;
 use crate::graph::CGraph;
-use crate::reader::build;
-use cp_gml::{GmlFault, GmlList, parse};
+use crate::kind::GraphKind;
+use crate::reader::graph_or_fault;
+use cp_base::Memory;
+use cp_gml::{GmlList, GrammarKind, ListFault, read_list};
 use std::alloc::Global;
 use thiserror::Error;
 
 /// Why a text says no clustered graph: a kind, and an offset in bytes, counted from the first one of the text.
 #[derive(Clone, Copy, Debug, PartialEq, Eq, Error)]
 pub enum TextFault {
-    /// The text is no list of keys and values: a fault of kind 1 to 8, as `GmlFault` has it.
+    /// The text is no list of keys and values.
     #[error("grammar fault {kind} at byte {at}")]
-    Grammar { kind: u8, at: usize },
-    /// The list says no clustered graph: a fault of kind 10 to 21, as `GraphFault` has it.
+    Grammar { kind: GrammarKind, at: usize },
+    /// The list says no clustered graph.
     #[error("graph fault {kind} at byte {at}")]
-    Graph { kind: u8, at: usize },
+    Graph { kind: GraphKind, at: usize },
     /// An allocation failed.
     #[error("out of memory")]
     Memory,
@@ -28,10 +29,10 @@ fn list_of(alloc: Global, text: &[u8]) -> Result<GmlList, TextFault>
     ensures list { IfOk result (λ list. IsListText text.now list) }
     ensures fault { IfErr result (IsTextFault text.now) }
 {
-    match parse(alloc, text) {
+    match read_list(alloc, text) {
         Ok(list) => Ok(list),
-        Err(GmlFault::Grammar { kind, at }) => Err(TextFault::Grammar { kind, at }),
-        Err(GmlFault::Memory) => Err(TextFault::Memory),
+        Err(ListFault::Grammar { kind, at }) => Err(TextFault::Grammar { kind, at }),
+        Err(ListFault::Memory) => Err(TextFault::Memory),
     }
 }
 
@@ -46,9 +47,9 @@ pub fn read_graph(alloc: Global, text: &[u8]) -> Result<CGraph, TextFault>
     ensures fault { IfErr result (IsTextFault text.now) }
 {
     let list = list_of(alloc, text)?;
-    match build(alloc, &list) {
-        Ok(graph) => Ok(graph),
-        Err(GraphFault::Graph { kind, at }) => Err(TextFault::Graph { kind, at }),
-        Err(GraphFault::Memory) => Err(TextFault::Memory),
+    match graph_or_fault(alloc, &list) {
+        Ok(Ok(graph)) => Ok(graph),
+        Ok(Err((at, kind))) => Err(TextFault::Graph { kind, at }),
+        Err(Memory) => Err(TextFault::Memory),
     }
 }

@@ -2,7 +2,8 @@
 // are opened, so those within one have numbers that follow one another.
 ghost use Rattle.std.specs.Prelude.{IfOk};
 ghost use Rattle.cp_cgraph.specs.Clustered.{edges, clusters};
-ghost use Rattle.cp_cgraph.specs.LookUps.{IsNested, AreLasts, IsTable, depth, crossed};
+ghost use Rattle.cp_cgraph.specs.LookUps.{IsNested, AreLasts, IsTable, depth};
+ghost use Rattle.cp_cgraph.specs.Crossings.{crossed};
 
 use crate::stored::Stored;
 use crate::walks::crossing_count;

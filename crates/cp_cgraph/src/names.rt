@@ -7,6 +7,7 @@ use crate::clusters::Name;
 use crate::fault::Fault;
 use crate::hashes::digest_of_names;
 use crate::ids::Ids;
+use crate::kind::GraphKind;
 use cp_base::{Items, Memory};
 use std::alloc::Global;
 
@@ -28,9 +29,9 @@ fn check_name(
     ensures { OnOk result (faults.new ≡ faults.old ++ name_faults ids.now named.now id at) }
 {
     if ids.place(id).is_none() {
-        faults.push((at, 19))?;
+        faults.push((at, GraphKind::UnknownVertex))?;
     } else if named.place(id).is_some() {
-        faults.push((at, 20))?;
+        faults.push((at, GraphKind::VertexTwice))?;
     }
     Ok(())
 }

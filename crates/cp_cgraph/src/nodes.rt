@@ -7,6 +7,7 @@ ghost use Rattle.cp_cgraph.specs.GraphFaults.{id_faults, bad_id, node_faults, no
 use crate::entries::{from_first, has_key, id_value};
 use crate::fault::{Fault, note_later};
 use crate::ids::Ids;
+use crate::kind::GraphKind;
 use cp_base::{Items, Memory};
 use cp_gml::{Entry, GmlValue};
 
@@ -30,7 +31,7 @@ pub(crate) fn read_id(
         }
         [first, rest @ ..] => {
             let id = read_value(first, faults)?;
-            note_later(rest, key, 14, faults)?;
+            note_later(rest, key, GraphKind::RepeatedKey, faults)?;
             Ok(id)
         }
     }
@@ -44,7 +45,7 @@ fn read_value(entry: &Entry, faults: &mut Items<Fault>) -> Result<Option<Placed>
     match id_value(&entry.value) {
         Some(n) => Ok(Some((n, entry.value_at))),
         None => {
-            faults.push((entry.value_at, 15))?;
+            faults.push((entry.value_at, GraphKind::BadId))?;
             Ok(None)
         }
     }
@@ -56,15 +57,15 @@ fn read_node(entry: &Entry, ids: Ids, faults: &mut Items<Fault>) -> Result<Ids, 
     ensures faults { OnOk result (faults.new ≡ faults.old ++ node_faults ids entry.now) }
 {
     let GmlValue::List(list) = &entry.value else {
-        faults.push((entry.value_at, 12))?;
+        faults.push((entry.value_at, GraphKind::NotAList))?;
         return Ok(ids);
     };
-    let missing = (entry.value_at, 13);
+    let missing = (entry.value_at, GraphKind::MissingId);
     match read_id(list.entries.items(), b"id", missing, faults)? {
         None => Ok(ids),
         Some((id, at)) => {
             if ids.place(id).is_some() {
-                faults.push((at, 16))?;
+                faults.push((at, GraphKind::DuplicateNode))?;
             }
             ids.with(id)
         }

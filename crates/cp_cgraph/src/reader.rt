@@ -76,6 +76,19 @@ fn graph(alloc: Global, parts: &Parts, end: usize, entries: &[Entry]) -> Result<
     CGraph::from_stored(alloc, stored)
 }
 
+// The clustered graph that a list says, or its first fault.
+pub(crate) fn graph_or_fault(alloc: Global, list: &GmlList) -> Result<Result<CGraph, Fault>, Memory>
+    ensures graph { IfOk result (λ said. IfOk said (IsGraphOf (out-GmlList list.now).end (out-GmlList list.now).entries)) }
+    ensures fault { IfOk result (λ said. IfErr said (λ f. IsFaultOf (out-GmlList list.now).end (out-GmlList list.now).entries f.1 f.0)) }
+{
+    let entries = list.entries.items();
+    let parts = read_parts(alloc, entries, list.end)?;
+    match first_fault(parts.faults.items()) {
+        Some(fault) => Ok(Err(fault)),
+        None => Ok(Ok(graph(alloc, &parts, list.end, entries)?)),
+    }
+}
+
 /// The clustered graph that a list of keys and values says (the format is Himsolt's GML, with clusters
 /// in nested lists of their own), or its first fault. Memory linear in the number of entries, and time
 /// linear in that number and the number of times that an edge leaves a cluster, on average; a call inside
@@ -97,11 +110,11 @@ pub fn build(alloc: Global, list: &GmlList) -> Result<CGraph, GraphFault>
     ensures graph { IfOk result (IsGraphOf (out-GmlList list.now).end (out-GmlList list.now).entries) }
     ensures fault { IfErr result (λ e. IfGraph e (IsFaultOf (out-GmlList list.now).end (out-GmlList list.now).entries)) }
 {
-    let entries = list.entries.items();
-    let parts = read_parts(alloc, entries, list.end)?;
-    if let Some((at, kind)) = first_fault(parts.faults.items()) {
-        return Err(GraphFault::Graph { kind, at });
+    match graph_or_fault(alloc, list)? {
+        Ok(graph) => Ok(graph),
+        Err((at, kind)) => Err(GraphFault::Graph {
+            kind: kind.number(),
+            at,
+        }),
     }
-    let found = graph(alloc, &parts, list.end, entries)?;
-    Ok(found)
 }

@@ -9,6 +9,7 @@ ghost use Rattle.cp_cgraph.specs.Passes.{first_of, later_of, unlisted_of, list_i
 use crate::clusters::{Clusters, read_list};
 use crate::entries::{from_first, until};
 use crate::fault::{Fault, note_later};
+use crate::kind::GraphKind;
 use cp_base::{Items, Memory};
 use cp_gml::{Entry, GmlValue};
 use std::alloc::Global;
@@ -21,7 +22,7 @@ fn list_of<'a>(entry: &'a Entry, faults: &mut Items<Fault>) -> Result<&'a [Entry
     match &entry.value {
         GmlValue::List(list) => Ok(list.entries.items()),
         _ => {
-            faults.push((entry.value_at, 12))?;
+            faults.push((entry.value_at, GraphKind::NotAList))?;
             Ok(&[])
         }
     }
@@ -38,12 +39,12 @@ pub(crate) fn graph_list<'a>(
 {
     match from_first(entries, b"graph") {
         [] => {
-            faults.push((end, 10))?;
+            faults.push((end, GraphKind::NoGraph))?;
             Ok(&[])
         }
         [first, rest @ ..] => {
             let list = list_of(first, faults)?;
-            note_later(rest, b"graph", 11, faults)?;
+            note_later(rest, b"graph", GraphKind::SecondGraph, faults)?;
             Ok(list)
         }
     }
@@ -59,13 +60,13 @@ fn first_root<'a>(
     ensures faults { OnOk result (faults.new ≡ faults.old ++ later_of (option_copied found.entry) (keyed (codes "rootcluster") entries.now)) }
 {
     if found.is_some() {
-        note_later(entries, b"rootcluster", 18, faults)?;
+        note_later(entries, b"rootcluster", GraphKind::SecondRoot, faults)?;
         return Ok(found);
     }
     match from_first(entries, b"rootcluster") {
         [] => Ok(None),
         [first, rest @ ..] => {
-            note_later(rest, b"rootcluster", 18, faults)?;
+            note_later(rest, b"rootcluster", GraphKind::SecondRoot, faults)?;
             Ok(Some(first))
         }
     }
@@ -85,7 +86,7 @@ fn read_root(alloc: Global, root: Option<&Entry>, faults: Items<Fault>) -> Resul
     };
     match &entry.value {
         GmlValue::List(list) => read_list(list, 0, &mut out)?,
-        _ => out.faults.push((entry.value_at, 12))?,
+        _ => out.faults.push((entry.value_at, GraphKind::NotAList))?,
     }
     Ok(out)
 }

@@ -26,4 +26,5 @@ layout_told g l r is arranged None zero = record { arranged = arranged; flat = s
 layout_told g l r is arranged (Some NoLayout) why = why
 layout_told g l r is arranged (Some (NodeLine i)) why = absurd why
 layout_told g l r is arranged (Some (ClusterLine k)) why = absurd why
-layout_told g l r is arranged (Some (Genus v e f c)) why = record { arranged = arranged; counts = subst (λ s. HasWrongGenus s v e f c) is why }
+layout_told g l r is arranged (Some (Genus v e f c)) why =
+    record { arranged = arranged; counts = subst (λ s. HasWrongGenus s v e f c) is why }

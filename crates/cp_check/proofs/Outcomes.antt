@@ -64,30 +64,52 @@ some_genus r not_zero none =
     (λ same. not_zero record {
       faces = faces;
       components = components;
-      face_count = record { least_darts = least_darts; bare_vertices = bare_vertices; least = least; bare = bare; sum = refl };
+      face_count = record {
+        least_darts = least_darts;
+        bare_vertices = bare_vertices;
+        least = least;
+        bare = bare;
+        sum =
+            refl;
+      };
       component_count = connected;
       euler = same;
     })
     (λ other. none r.vertices (edges r) faces components record {
       vertices = refl;
       edges = refl;
-      faces = record { least_darts = least_darts; bare_vertices = bare_vertices; least = least; bare = bare; sum = refl };
+      faces = record {
+        least_darts = least_darts;
+        bare_vertices = bare_vertices;
+        least = least;
+        bare = bare;
+        sum =
+            refl;
+      };
       components = connected;
       not_zero = other;
     })
     (cases_eq (r.vertices + faces) (edges r + 2 * components)))))
 
 -- a layout that is not good has a first reason against it
-some_layout_reason : (g : Clustered) (l : Layout) → ¬ IsGood g l → ((reason : Reject) → IsLayoutReason g l reason → ⊥) → ⊥
+some_layout_reason : (g : Clustered) (l : Layout) → ¬ IsGood g l → ((reason : Reject) → IsLayoutReason g l reason → ⊥)
+    → ⊥
 some_layout_reason g l not_good none =
     first_wrong (IsRightNode g l) (nodes g + length l.nodes) (right_node_above g l)
     (λ nodes_right.
     first_wrong (IsRightCluster g l) (clusters g + length l.clusters + 1) (right_cluster_above g l)
     (λ clusters_right.
     some_genus (borders g l)
-    (λ zero. not_good record { arranged = record { nodes_right = nodes_right; clusters_right = clusters_right }; flat = zero })
+    (λ zero. not_good record {
+      arranged = record { nodes_right = nodes_right; clusters_right = clusters_right };
+      flat =
+          zero;
+    })
     (λ v e f c wrong.
-    none (Genus v e f c) record { arranged = record { nodes_right = nodes_right; clusters_right = clusters_right }; counts = wrong }))
+    none (Genus v e f c) record {
+      arranged = record { nodes_right = nodes_right; clusters_right = clusters_right };
+      counts = wrong;
+    }))
     (λ k wrong before. none (ClusterLine k) record { nodes_right = nodes_right; wrong = wrong; right_before = before }))
     (λ i wrong before. none (NodeLine i) record { wrong = wrong; right_before = before })
 

@@ -24,7 +24,8 @@ zero_not_wrong r v e f c zero wrong =
     wrong.not_zero (omega (arith, wrong.vertices, wrong.edges, faces, components, zero.euler))
 
 -- a system has one set of counts
-pub one_genus : (r : System) (v e f c v' e' f' c' : ℕ) → HasWrongGenus r v e f c → HasWrongGenus r v' e' f' c' → Genus v e f c ≡ Genus v' e' f' c'
+pub one_genus : (r : System) (v e f c v' e' f' c' : ℕ) → HasWrongGenus r v e f c → HasWrongGenus r v' e' f' c'
+    → Genus v e f c ≡ Genus v' e' f' c'
 one_genus r v e f c v' e' f' c' a b =
     let p : v ≡ v' = a.vertices ∙ sym b.vertices in
     let q : e ≡ e' = a.edges ∙ sym b.edges in
@@ -33,10 +34,12 @@ one_genus r v e f c v' e' f' c' a b =
     cc
 
 -- the least number at which something is wrong is one
-pub one_first : (Right : ℕ → Type 0) (i j : ℕ) → ¬ Right i → ((k : ℕ) → k < i → Right k) → ¬ Right j → ((k : ℕ) → k < j → Right k) → i ≡ j
+pub one_first : (Right : ℕ → Type 0) (i j : ℕ) → ¬ Right i → ((k : ℕ) → k < i → Right k) → ¬ Right j
+    → ((k : ℕ) → k < j → Right k) → i ≡ j
 one_first Right i j wrong_i before_i wrong_j before_j =
     ⊎_elim (λ below. absurd (wrong_i (before_j i below)))
-    (λ above. ⊎_elim (λ below. absurd (wrong_j (before_i j below))) (λ above_too. omega (arith, above, above_too)) (cases_lt j i))
+    (λ above. ⊎_elim (λ below. absurd (wrong_j (before_i j below))) (λ above_too. omega (arith, above, above_too))
+    (cases_lt j i))
     (cases_lt i j)
 
 -- a layout that is good has no reason against it
@@ -46,6 +49,7 @@ layout_no_reason g l (NodeLine i) good is = is.wrong (good.arranged.nodes_right 
 layout_no_reason g l (ClusterLine k) good is = is.wrong (good.arranged.clusters_right k)
 layout_no_reason g l (Genus v e f c) good is = zero_not_wrong (borders g l) v e f c good.flat is.counts
 
+-- a report that is good has no reason against it
 pub good_no_reason : (g : Clustered) (r : Report) (reason : Reject) → IsGoodReport g r → IsReason g r reason → ⊥
 good_no_reason g No reason good is = good
 good_no_reason g (Yes l) reason good is = layout_no_reason g l reason good is
@@ -54,18 +58,22 @@ good_no_reason g (Yes l) reason good is = layout_no_reason g l reason good is
 layout_reason : (g : Clustered) (l : Layout) (a b : Reject) → IsLayoutReason g l a → IsLayoutReason g l b → a ≡ b
 layout_reason g l NoLayout b is other = absurd is
 layout_reason g l (NodeLine i) NoLayout is other = absurd other
-layout_reason g l (NodeLine i) (NodeLine j) is other = ap NodeLine (one_first (IsRightNode g l) i j is.wrong is.right_before other.wrong other.right_before)
+layout_reason g l (NodeLine i) (NodeLine j) is other =
+    ap NodeLine (one_first (IsRightNode g l) i j is.wrong is.right_before other.wrong other.right_before)
 layout_reason g l (NodeLine i) (ClusterLine k) is other = absurd (is.wrong (other.nodes_right i))
 layout_reason g l (NodeLine i) (Genus v e f c) is other = absurd (is.wrong (other.arranged.nodes_right i))
 layout_reason g l (ClusterLine k) NoLayout is other = absurd other
 layout_reason g l (ClusterLine k) (NodeLine j) is other = absurd (other.wrong (is.nodes_right j))
-layout_reason g l (ClusterLine k) (ClusterLine m) is other = ap ClusterLine (one_first (IsRightCluster g l) k m is.wrong is.right_before other.wrong other.right_before)
+layout_reason g l (ClusterLine k) (ClusterLine m) is other =
+    ap ClusterLine (one_first (IsRightCluster g l) k m is.wrong is.right_before other.wrong other.right_before)
 layout_reason g l (ClusterLine k) (Genus v e f c) is other = absurd (is.wrong (other.arranged.clusters_right k))
 layout_reason g l (Genus v e f c) NoLayout is other = absurd other
 layout_reason g l (Genus v e f c) (NodeLine j) is other = absurd (other.wrong (is.arranged.nodes_right j))
 layout_reason g l (Genus v e f c) (ClusterLine k) is other = absurd (other.wrong (is.arranged.clusters_right k))
-layout_reason g l (Genus v e f c) (Genus v' e' f' c') is other = one_genus (borders g l) v e f c v' e' f' c' is.counts other.counts
+layout_reason g l (Genus v e f c) (Genus v' e' f' c') is other =
+    one_genus (borders g l) v e f c v' e' f' c' is.counts other.counts
 
+-- a report has one first reason against it
 pub one_reason : (g : Clustered) (r : Report) (a b : Reject) → IsReason g r a → IsReason g r b → a ≡ b
 one_reason g No a b is other = is ∙ sym other
 one_reason g (Yes l) a b is other = layout_reason g l a b is other
@@ -73,7 +81,11 @@ one_reason g (Yes l) a b is other = layout_reason g l a b is other
 -- a verdict accepts exactly the reports that have a good layout
 pub accepted_exactly : (g : Clustered) (r : Report) (v : Verdict) → IsVerdict g r v → (v ≡ Accepted) ↔ IsGoodReport g r
 accepted_exactly g r Accepted is = (λ same. is, λ good. refl)
-accepted_exactly g r (Rejected reason) is = (λ same. let impossible : Rejected reason ≡ Accepted = same in cc, λ good. absurd (good_no_reason g r reason good is))
+accepted_exactly g r (Rejected reason) is = (
+  λ same. let impossible : Rejected reason ≡ Accepted =
+      same in cc,
+  λ good. absurd (good_no_reason g r reason good is),
+)
 
 -- and a report has one verdict
 pub one_verdict : (g : Clustered) (r : Report) (v w : Verdict) → IsVerdict g r v → IsVerdict g r w → v ≡ w

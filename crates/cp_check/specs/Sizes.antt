@@ -22,10 +22,11 @@ pub record Fits (s : Sizes) (g : Clustered) : Type 0 where
   pub clusters_fit : s.clusters ≡ clusters g
   pub borders_fit : s.borders ≡ border_vertices g
 
--- vertices and darts of the border graph of a graph with these numbers
+-- the number of vertices of the border graph of a graph with these numbers
 abbrev pub vertex_number : Sizes → ℕ
 vertex_number s = s.nodes + s.borders
 
+-- the number of darts of the border graph
 abbrev pub dart_number : Sizes → ℕ
 dart_number s = 2 * (s.edges + 2 * s.borders)
 

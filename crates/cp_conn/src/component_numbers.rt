@@ -25,7 +25,7 @@ fn numbers_of_components(
 }
 
 // The edges that touch no removed vertex.
-fn edges_left(
+fn edges_without_removed(
     alloc: Global,
     ends: &[(usize, usize)],
     removed: &[bool],
@@ -57,6 +57,6 @@ pub fn components_without(alloc: Global, g: &Graph, removed: &[bool]) -> Result<
     requires { length removed.now ≡ g.now.vertices }
     ensures { IfOk result (λ numbers. AreNumbered (Connected (without_removed removed.now g.now.ends)) g.now.vertices numbers.items) }
 {
-    let left = edges_left(alloc, g.ends(), removed)?;
+    let left = edges_without_removed(alloc, g.ends(), removed)?;
     numbers_of_components(alloc, g.vertices(), left.as_slice())
 }

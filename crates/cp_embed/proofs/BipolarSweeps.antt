@@ -34,7 +34,7 @@ take_whole [] = refl
 take_whole (x ∷ xs) = ap (λ ys. x ∷ ys) (take_whole xs)
 
 -- an item in front of place k
-Has-take : (xs : List ℕ) (j k : ℕ) → j < k → j < length xs → Has (slice_index xs j) (take k xs)
+pub Has-take : (xs : List ℕ) (j k : ℕ) → j < k → j < length xs → Has (slice_index xs j) (take k xs)
 Has-take [] j k less lt = absurd (omega arith)
 Has-take (x ∷ xs) j zero less lt = absurd (omega arith)
 Has-take (x ∷ xs) zero (suc k) less lt = inl refl
@@ -79,11 +79,11 @@ module _ (g : PlainGraph) (within : AreWithin g.vertices g.ends) (none : HaveNoL
       (cases_eq (d % 2) 0)
 
   -- the order has each vertex once
-  order_once : Distinct order
+  pub order_once : Distinct order
   order_once = Exactly-Distinct g.vertices (λ v. true) order bipolar.each_once
 
   -- and no other
-  order_all : (v : ℕ) → Has v order ↔ (v < g.vertices)
+  pub order_all : (v : ℕ) → Has v order ↔ (v < g.vertices)
   order_all v = (
     λ h. ((Exactly-Has g.vertices (λ u. true) order bipolar.each_once v).0 h).0,
     λ lt. (Exactly-Has g.vertices (λ u. true) order bipolar.each_once v).1 (lt, refl),
@@ -139,7 +139,7 @@ module _ (g : PlainGraph) (within : AreWithin g.vertices g.ends) (none : HaveNoL
       }
 
   -- the vertices up to the next place
-  upto_more : (k : ℕ) → k < length order → upto (suc k) ≡ slice_index order k ∷ upto k
+  pub upto_more : (k : ℕ) → k < length order → upto (suc k) ≡ slice_index order k ∷ upto k
   upto_more k lt = ap (λ xs. reverse xs) (take_more order k lt)
       ∙ reverse-append (take k order) (slice_index order k ∷ [])
 

@@ -10,7 +10,7 @@ use Rattle.cp_maps.proofs.ListFacts.{has_yes, has_no, has_true}
 use Rattle.cp_embed.specs.Sweeps.{darts_at, leads_into, ins_of, outs_of}
 
 -- the items of a range
-range-Has : (d a n : ℕ) → Has d (range_with_len a n) ↔ ((a ≤ d) × (d < a + n))
+pub range-Has : (d a n : ℕ) → Has d (range_with_len a n) ↔ ((a ≤ d) × (d < a + n))
 range-Has d a zero = ((λ h. absurd h), (λ h. absurd (omega (arith, h.0, h.1))))
 range-Has d a (suc n) = (
   λ h. ⊎_elim (λ e. (omega arith, omega arith))
@@ -20,7 +20,7 @@ range-Has d a (suc n) = (
 )
 
 -- a range has each item once
-range-Distinct : (a n : ℕ) → Distinct (range_with_len a n)
+pub range-Distinct : (a n : ℕ) → Distinct (range_with_len a n)
 range-Distinct a zero = tt
 range-Distinct a (suc n) = (
   Lacks-from a (range_with_len (a + 1) n) (λ h. let w = (range-Has a (a + 1) n).0 h in omega (arith, w.0)),

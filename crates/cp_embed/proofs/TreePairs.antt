@@ -14,7 +14,7 @@ use Rattle.cp_embed.specs.Pairs.{HasTogether, HasRun, SamePairs}
 use Rattle.cp_embed.specs.TreePairs.{pairs_of}
 
 -- an item inside a set is one of it
-inside-Has : (set : List ℕ) (d : ℕ) → inside set d ≡ true → Has d set
+pub inside-Has : (set : List ℕ) (d : ℕ) → inside set d ≡ true → Has d set
 inside-Has [] d t = absurd (false≢true t)
 inside-Has (x ∷ set) d t = ⊎_elim
     (λ h. inl (eqb-true x d h))
@@ -22,7 +22,7 @@ inside-Has (x ∷ set) d t = ⊎_elim
     (or_cases (eqb x d) (inside set d) t)
 
 -- and back
-Has-inside : (set : List ℕ) (d : ℕ) → Has d set → inside set d ≡ true
+pub Has-inside : (set : List ℕ) (d : ℕ) → Has d set → inside set d ≡ true
 Has-inside [] d h = absurd h
 Has-inside (x ∷ set) d h = ⊎_elim
     (λ k. or_left (eqb x d) (inside set d) (eq-eqb x d k))
@@ -41,7 +41,7 @@ list_all-Has p (x ∷ xs) d t h = ⊎_elim
     (cases_Bool (p x))
 
 -- and back
-Has-list_all : (p : ℕ → Bool) (xs : List ℕ) → ((d : ℕ) → Has d xs → p d ≡ true) → list_all p xs ≡ true
+pub Has-list_all : (p : ℕ → Bool) (xs : List ℕ) → ((d : ℕ) → Has d xs → p d ≡ true) → list_all p xs ≡ true
 Has-list_all p [] each = refl
 Has-list_all p (x ∷ xs) each =
     ap (λ b. b && list_all p xs) (each x (inl refl)) ∙ Has-list_all p xs (λ d h. each d (inr h))
@@ -51,7 +51,7 @@ outside-Lacks : (set : List ℕ) (d : ℕ) → outside set d ≡ true → Has d 
 outside-Lacks set d t h = false≢true (ap not (sym (Has-inside set d h)) ∙ t)
 
 -- and back
-Lacks-outside : (set : List ℕ) (d : ℕ) → (Has d set → ⊥) → outside set d ≡ true
+pub Lacks-outside : (set : List ℕ) (d : ℕ) → (Has d set → ⊥) → outside set d ≡ true
 Lacks-outside set d none = ⊎_elim
     (λ t. absurd (none (inside-Has set d t)))
     (λ f. ap not f)

@@ -78,11 +78,11 @@ module _ (at : ℕ → ℕ) (e r : ℕ) (psi : ℕ → Option (List ℕ))
   outs = map edge_of (outs_of at e (y ∷ others) x)
 
   -- r leads into what is taken
-  root_leads : LeadsInto at e (y ∷ others) r
+  pub root_leads : LeadsInto at e (y ∷ others) r
   root_leads = let w = IsSweep-root at e r (y ∷ others) sweep.1 in record { within = lt_r; outside = w.0; into = w.1 }
 
   -- no word of a pair has an edge twice, nor that of r
-  old_once : (word : List ℕ) (bit : ℕ → Bool) → pairs_of n old word bit → Distinct (old.root ∷ word)
+  pub old_once : (word : List ℕ) (bit : ℕ → Bool) → pairs_of n old word bit → Distinct (old.root ∷ word)
   old_once word bit q =
       let p = (same word bit).0 q in
       subst (λ k. Distinct (k ∷ word)) (sym root) (subst (λ ws. Distinct (edge_of r ∷ ws)) (sym p.word_is)
@@ -90,7 +90,7 @@ module _ (at : ℕ → ℕ) (e r : ℕ) (psi : ℕ → Option (List ℕ))
       (λ c d hc hd. LeadsInto-edge at e r (y ∷ others) c d ((p.all c).0 hc) ((p.all d).0 hd)) p.once))
 
   -- each has all edges of x to what is taken
-  old_all : (word : List ℕ) (bit : ℕ → Bool) → pairs_of n old word bit → (k : ℕ) → Has k ins → Has k word
+  pub old_all : (word : List ℕ) (bit : ℕ → Bool) → pairs_of n old word bit → (k : ℕ) → Has k ins → Has k word
   old_all word bit q k h =
       let p = (same word bit).0 q in
       let c = map_on-Has edge_of k (ins_of at e (y ∷ others) x) h in
@@ -101,7 +101,7 @@ module _ (at : ℕ → ℕ) (e r : ℕ) (psi : ℕ → Option (List ℕ))
       ((p.all c.0).1 (ins-LeadsInto at e r no_loop (y ∷ others) x sweep.0.new c.0 c.1))
 
   -- the edge of r is no edge of x to what is taken
-  root_not_in : Has old.root ins → ⊥
+  pub root_not_in : Has old.root ins → ⊥
   root_not_in h =
       let c = map_on-Has edge_of old.root (ins_of at e (y ∷ others) x) h in
       let w = (ins_of-Has at e (y ∷ others) x c.0).0 c.1 in
@@ -109,7 +109,7 @@ module _ (at : ℕ → ℕ) (e r : ℕ) (psi : ℕ → Option (List ℕ))
       (ins-LeadsInto at e r no_loop (y ∷ others) x sweep.0.new c.0 c.1) root_leads (c.2 ∙ root))) ∙ w.1)
 
   -- nor one of its others
-  root_not_out : Has old.root outs → ⊥
+  pub root_not_out : Has old.root outs → ⊥
   root_not_out h =
       let c = map_on-Has edge_of old.root (outs_of at e (y ∷ others) x) h in
       let w = (outs_of-Has at e (y ∷ others) x c.0).0 c.1 in

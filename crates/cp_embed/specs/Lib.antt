@@ -1,11 +1,17 @@
 -- what contracts rest on
 pub mod Directions
 pub mod Realisations
--- what functions inside promise each other
 pub mod Arrangements
+pub mod ListedBlocks
+pub mod TreePairs
+pub mod Pairs
+pub mod Embeddings
+-- what functions inside promise each other
 pub mod Steps
 pub mod Stages
 pub mod Sweeps
-pub mod Pairs
 pub mod Splits
-pub mod TreePairs
+pub mod VertexOrders
+pub mod BuiltTrees
+pub mod Cuts
+pub mod TreeSteps

@@ -1,4 +1,16 @@
 //! Embeddings of a block: the cyclic orders that one of its vertices has in the plane, when vertices with a list keep
-//! it in either direction. The crate has no code yet: its definitions stand in `specs/`, and its lemmas in `proofs/`
-//! are cited by the crates above.
+//! it in either direction.
 #![tactic(auto)]
+
+mod block;
+mod edge_lists;
+mod embedding;
+mod fault;
+mod first_tree;
+mod nodes;
+mod taking;
+mod vertex_order;
+
+pub use block::{PsiList, QBlock};
+pub use embedding::{Embedded, embed};
+pub use fault::EmbedFault;

@@ -1,8 +1,9 @@
 pub mod Shapes
 pub mod Owners
 pub mod ShapeReadings
+pub mod PartWords
 mod NodeLayers
-mod Words
+pub mod Words
 mod PermutedRows
 mod RisingRows
 mod Results

@@ -80,8 +80,7 @@ abbrev pub HasOneBit : (ℕ → Bool → Bool) → Type 0
 HasOneBit may = (v : ℕ) (a b : Bool) → may v a ≡ true → may v b ≡ true → a ≡ b
 
 -- a part with the readings K, in whose place the readings J are put: K reads the row in a direction exactly by the
--- ties,
--- and J reads the row in the direction of var alone. G tells the ways in which the place may be read
+-- ties, and J reads the row in the direction of var alone. G tells the ways in which the place may be read
 pub record IsTiedPart (may : ℕ → Bool → Bool) (var : ℕ) (row : List ℕ) (ties : List (ℕ × Bool)) (G : Bool → Type 0)
     (K J : Bool → List ℕ → Type 0) : Type 0 where
   pub same_leaves : (way : Bool) (u : List ℕ) → K way u → IsPermutation row u

@@ -60,7 +60,7 @@ unfolding words_by
 words_by-none bits = refl
 
 -- where the bits read each node of a row, they read the row
-ReadsAll-words : (bits : List Bool) (may : ℕ → Bool → Bool) (row : List Node)
+pub ReadsAll-words : (bits : List Bool) (may : ℕ → Bool → Bool) (row : List Node)
     → AllByRecursion (λ n. Reads may n (word_by bits n)) row → ReadsAll may row (words_by bits row)
 unfolding words_by
 ReadsAll-words bits may [] all = none
@@ -92,7 +92,7 @@ Reads-turned may var kids true xs may_be all = backward var kids xs may_be all
 Reads-turned may var kids false xs may_be all = forward var kids xs may_be all
 
 -- what holds of a row holds of it turned
-all-turned : (M : Node → Type 0) (b : Bool) (row : List Node) → AllByRecursion M row
+pub all-turned : (M : Node → Type 0) (b : Bool) (row : List Node) → AllByRecursion M row
     → AllByRecursion M (turned_row b row)
 all-turned M true row all = all-reverse M row all
 all-turned M false row all = all

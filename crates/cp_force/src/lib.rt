@@ -16,7 +16,7 @@ pub use fault::ForceFault;
 pub use forcing::force;
 pub use order_tree::OrderTree;
 pub use ownership::owner_of;
-pub use reading::order_of;
+pub use reading::{order_of, push_part};
 pub use shaping::shape_of;
 
 #[cfg(test)]

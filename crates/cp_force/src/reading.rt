@@ -1,12 +1,12 @@
 // Orders that order trees have by given bits.
-ghost use Rattle.std.specs.Prelude.{◌≡◌, ◌+◌, ◌-◌, ◌<◌, ◌++◌, Bool, cond, length, reverse, IfOk, OnOk};
+ghost use Rattle.std.specs.Prelude.{◌≡◌, ◌+◌, ◌-◌, ◌<◌, ◌++◌, Bool, Option, cond, length, reverse, IfOk, OnOk};
 ghost use Rattle.std.specs.List.{AllByRecursion};
 ghost use Rattle.cp_pq.specs.Bits.{bit_of, IsMet};
 ghost use Rattle.cp_pq.specs.Trees.{IsPair};
-ghost use Rattle.cp_force.specs.Words.{word_by, words_by, turned_row};
+ghost use Rattle.cp_force.specs.Words.{word_by, words_by, turned_row, is_read_back, part_word};
 
 use cp_base::{CycList, Memory};
-use cp_pq::{Node, Tree};
+use cp_pq::{Node, Part, Tree};
 use std::alloc::Global;
 
 // The bit of a var.
@@ -59,6 +59,26 @@ fn push_words(
     for i in 0..nodes.len() {
         push_word(&nodes[place(nodes.len(), turned, i)], bits, word)?;
     }
+    Ok(())
+}
+
+// Whether the kids of a part with this var are read from the end.
+fn is_back(bits: &[bool], var: Option<usize>) -> bool
+    ensures { result ≡ is_read_back bits.now var }
+{
+    match var {
+        None => false,
+        Some(var) => bit(bits, var),
+    }
+}
+
+/// Appends the leaves of a part that was taken out of a tree, as the bits read it: a reading of the part wherever the
+/// part has one by these bits or by the first of them. A P-node reads its kids as they stand. Linear in the size of the
+/// part.
+pub fn push_part(part: &Part, bits: &[bool], word: &mut Vec<usize>) -> Result<(), Memory>
+    ensures { OnOk result (word.new.items ≡ word.old.items ++ part_word bits.now part.now) }
+{
+    push_words(part.kids.items(), is_back(bits, part.var), bits, word)?;
     Ok(())
 }
 

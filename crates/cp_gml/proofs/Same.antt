@@ -28,7 +28,8 @@ module _ (k l : List ℕ) (ka la a b : ℕ) (r s : Tree) where
   same_leaf v w e = record { keys = cc; key_ats = cc; values = cc; ats = cc; rests = cc }
 
   -- two values whose trees are leaves agree where the leaves do
-  leaf_entry : (v w : GmlValue) (x y : Leaf) → (x ≡ y → v ≡ w) → leaf k ka x a r ≡ leaf l la y b s → SameEntry k l ka la v w a b r s
+  leaf_entry : (v w : GmlValue) (x y : Leaf) → (x ≡ y → v ≡ w) → leaf k ka x a r ≡ leaf l la y b s
+      → SameEntry k l ka la v w a b r s
   leaf_entry v w x y f e =
       let h = same_leaf x y e in
       record { keys = h.keys; key_ats = h.key_ats; values = f h.values; ats = h.ats; rests = h.rests }
@@ -52,6 +53,7 @@ value_some k ka Number a r e = cc
 value_some k ka (Str text) a r e = cc
 value_some k ka (Nested m) a r e = list_some k ka m a r e
 
+-- a row of entries of some length
 abbrev SomeRow : Type 0
 SomeRow = (n : Count) × Row_of-Entry n
 
@@ -59,6 +61,7 @@ SomeRow = (n : Count) × Row_of-Entry n
 abbrev row_of : GmlList → SomeRow
 row_of (GmlList' n row end) = (_, row)
 
+-- the offset at which a list ends
 abbrev end_of : GmlList → ℕ
 end_of (GmlList' n row end) = end
 
@@ -80,14 +83,19 @@ same_list l m e f =
     sym (roll-out-GmlList l) ∙ (λ i. roll-GmlList (record { entries = entries i; end = ends i })) ∙ roll-out-GmlList m
 
 -- rows that begin alike and go on alike are one
-same_more : (k l : List ℕ) (ka la : ℕ) (v w : GmlValue) (a b : ℕ) (m n : Count) (row : Row_of-Entry m) (row' : Row_of-Entry n)
-    → k ≡ l → ka ≡ la → v ≡ w → a ≡ b → ◌≡◌ {A = SomeRow} (m, row) (n, row') → ◌≡◌ {A = SomeRow} (one_more m, more_of-Entry k ka v a row) (one_more n, more_of-Entry l la w b row')
-same_more k l ka la v w a b m n row row' keys key_ats values ats rows = λ i. (one_more (rows i).0, more_of-Entry (keys i) (key_ats i) (values i) (ats i) (rows i).1)
+same_more : (k l : List ℕ) (ka la : ℕ) (v w : GmlValue) (a b : ℕ) (m n : Count) (row : Row_of-Entry m) (row' :
+    Row_of-Entry n)
+    → k ≡ l → ka ≡ la → v ≡ w → a ≡ b → ◌≡◌ {A = SomeRow} (m, row) (n, row')
+    → ◌≡◌ {A = SomeRow} (one_more m, more_of-Entry k ka v a row) (one_more n, more_of-Entry l la w b row')
+same_more k l ka la v w a b m n row row' keys key_ats values ats rows =
+    λ i. (one_more (rows i).0, more_of-Entry (keys i) (key_ats i) (values i) (ats i) (rows i).1)
 
 mutual
   -- a value with its key and its rest is determined by the tree
-  same_value : (v w : GmlValue) (k l : List ℕ) (ka la a b : ℕ) (r s : Tree) → with_value k ka v a r ≡ with_value l la w b s → SameEntry k l ka la v w a b r s
-  same_value (Int n) (Int m) k l ka la a b r s e = leaf_entry k l ka la a b r s (Int n) (Int m) (Whole n) (Whole m) (λ f. let g : n ≡ m = cc in ap Int g) e
+  same_value : (v w : GmlValue) (k l : List ℕ) (ka la a b : ℕ) (r s : Tree)
+      → with_value k ka v a r ≡ with_value l la w b s → SameEntry k l ka la v w a b r s
+  same_value (Int n) (Int m) k l ka la a b r s e =
+      leaf_entry k l ka la a b r s (Int n) (Int m) (Whole n) (Whole m) (λ f. let g : n ≡ m = cc in ap Int g) e
   same_value (Int n) Number k l ka la a b r s e = cc
   same_value (Int n) (Str text) k l ka la a b r s e = cc
   same_value (Int n) (Nested m) k l ka la a b r s e = absurd (leaf_no_list k l ka la a b r s (Whole n) m e)
@@ -98,7 +106,8 @@ mutual
   same_value (Str text) (Int m) k l ka la a b r s e = cc
   same_value (Str text) Number k l ka la a b r s e = cc
   same_value (Str text) (Str other) k l ka la a b r s e =
-      leaf_entry k l ka la a b r s (Str text) (Str other) (Chars text) (Chars other) (λ f. let g : text ≡ other = cc in ap Str g) e
+      leaf_entry k l ka la a b r s (Str text) (Str other) (Chars text) (Chars other)
+      (λ f. let g : text ≡ other = cc in ap Str g) e
   same_value (Str text) (Nested m) k l ka la a b r s e = absurd (leaf_no_list k l ka la a b r s (Chars text) m e)
   same_value (Nested m) (Int n) k l ka la a b r s e = absurd (list_no_leaf k l ka la a b r s m (Whole n) e)
   same_value (Nested m) Number k l ka la a b r s e = absurd (list_no_leaf k l ka la a b r s m Other e)
@@ -108,14 +117,23 @@ mutual
       record { keys = h.keys; key_ats = h.key_ats; values = ap Nested h.values; ats = h.ats; rests = h.rests }
 
   -- so is a list with its key and its rest
-  same_with_list : (m n : GmlList) (k l : List ℕ) (ka la a b : ℕ) (r s : Tree) → with_list k ka m a r ≡ with_list l la n b s → SameEntry k l ka la m n a b r s
+  same_with_list : (m n : GmlList) (k l : List ℕ) (ka la a b : ℕ) (r s : Tree)
+      → with_list k ka m a r ≡ with_list l la n b s → SameEntry k l ka la m n a b r s
   same_with_list (GmlList' c row end) (GmlList' d row' end') k l ka la a b r s e =
       let inner : tree_of_row row ≡ tree_of_row row' = cc in
       let ends : end ≡ end' = cc in
-      record { keys = cc; key_ats = cc; values = same_list (GmlList' c row end) (GmlList' d row' end') (same_row row row' inner) ends; ats = cc; rests = cc }
+      record {
+        keys = cc;
+        key_ats = cc;
+        values =
+            same_list (GmlList' c row end) (GmlList' d row' end') (same_row row row' inner) ends;
+        ats = cc;
+        rests = cc;
+      }
 
   -- a row of entries is determined by its tree
-  same_row : {c d : Count} (row : Row_of-Entry c) (row' : Row_of-Entry d) → tree_of_row row ≡ tree_of_row row' → ◌≡◌ {A = SomeRow} (c, row) (d, row')
+  same_row : {c d : Count} (row : Row_of-Entry c) (row' : Row_of-Entry d) → tree_of_row row ≡ tree_of_row row'
+      → ◌≡◌ {A = SomeRow} (c, row) (d, row')
   same_row end_of-Entry end_of-Entry e = refl
   same_row end_of-Entry (more_of-Entry l la w b row') e = absurd (value_some l la w b (tree_of_row row') (sym e))
   same_row (more_of-Entry k ka v a row) end_of-Entry e = absurd (value_some k ka v a (tree_of_row row) e)

@@ -1,6 +1,7 @@
 -- what contracts rest on
 pub mod Bytes
 pub mod Numbers
+pub mod Kinds
 pub mod Tokens
 pub mod Rows
 pub mod Trees

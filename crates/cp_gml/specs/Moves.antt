@@ -27,6 +27,7 @@ pub record EndsList (text : List ℕ) (from level at : ℕ) : Type 0 where
   pub forward : from ≤ at
   pub within : 0 < level → at < length text
 
+-- what stands where a key is due
 abbrev pub IsKeyMove : List ℕ → ℕ → ℕ → KeyMove → Type 0
 IsKeyMove text from level (Key at behind) = IsKey text from at behind
 IsKeyMove text from level (End at) = EndsList text from level at
@@ -48,6 +49,7 @@ pub record OpensList (text : List ℕ) (from level at : ℕ) : Type 0 where
   pub forward : from ≤ at
   pub within : at < length text
 
+-- what stands where a value is due
 abbrev pub IsValueMove : List ℕ → ℕ → ℕ → ValueMove → Type 0
 IsValueMove text from level (Leaf at behind plain) = IsLeaf text from at behind plain
 IsValueMove text from level (Opens at) = OpensList text from level at

@@ -21,7 +21,8 @@ IsLineEnd (b ∷ bs) = is_line_end b ≡ true
 pub data IsGap (rest : List ℕ) : List ℕ → Type 0 where
   none : IsGap rest []
   blank : (b : ℕ) (gap : List ℕ) → is_blank b ≡ true → IsGap rest gap → IsGap rest (b ∷ gap)
-  comment : (body gap : List ℕ) → list_all (λ b. not (is_line_end b)) body ≡ true → IsLineEnd (gap ++ rest) → IsGap rest gap
+  comment : (body gap : List ℕ) → list_all (λ b. not (is_line_end b)) body ≡ true → IsLineEnd (gap ++ rest)
+      → IsGap rest gap
       → IsGap rest (35 ∷ body ++ gap)
 
 -- a run of bytes of numbers

@@ -6,11 +6,13 @@ use Rattle.cp_gml.specs.declared.scan.Scan.{Scan}
 use Rattle.cp_gml.specs.declared.scan.Scan.TheVariants.{Opening, Closing, Name, Valued, Wrong, Over}
 use Rattle.cp_gml.specs.Tokens.{Leaf, Open, Close, Word, Value, Chars, Whole, Other, Piece, Found, Stops, Ends}
 
+-- the leaf that the code tells of, over the bytes that begin with it
 abbrev pub leaf_over : Plain → List ℕ → Leaf
 leaf_over (Quoted len) bs = Chars (take len (drop 1 bs))
 leaf_over (Integer n) bs = Whole n
 leaf_over Real bs = Other
 
+-- the piece that the code tells of
 abbrev pub piece_of : Scan → List ℕ → Piece
 piece_of Opening bs = Found Open 1
 piece_of Closing bs = Found Close 1

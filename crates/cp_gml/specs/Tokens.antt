@@ -2,6 +2,8 @@
 -- between them.
 use Rattle.std.specs.Prelude.{◌≡◌, ℕ, suc, ◌+◌, Bool, true, false, ◌==◌, ◌&&◌, if◌then◌else◌, List, [], ◌∷◌, drop, length, ℤ, Option, Some, None}
 use Rattle.std.specs.List.{prefix_len, take_while}
+use Rattle.cp_gml.specs.declared.kind.GrammarKind.{GrammarKind}
+use Rattle.cp_gml.specs.declared.kind.GrammarKind.TheVariants.{BadByte, OpenString, BadNumber}
 use Rattle.cp_gml.specs.Bytes.{is_blank, is_line_end, is_word_start, is_word_byte, is_number_start, is_number_byte, is_string_byte}
 use Rattle.cp_gml.specs.Numbers.{is_integer, is_real, integer_value}
 
@@ -26,6 +28,7 @@ pub record Token : Type 0 where
   pub sign : Sign
   pub at : ℕ
 
+-- a token that stands at an offset
 abbrev pub token : Sign → ℕ → Token
 token sign at = record { sign = sign; at = at }
 
@@ -36,18 +39,18 @@ gap inside [] = 0
 gap true (b ∷ bs) = if is_line_end b then suc (gap false bs) else suc (gap true bs)
 gap false (b ∷ bs) = if b == 35 then suc (gap true bs) else (if is_blank b then suc (gap false bs) else 0)
 
--- what stands where a token may begin: a token of some length, a byte or a run that is none, by the
--- number of its fault, or the end of the text
+-- what stands where a token may begin: a token of some length, a byte or a run that is none, with what is
+-- wrong with it, or the end of the text
 pub data Piece : Type 0 where
   Found : Sign → ℕ → Piece
-  Stops : ℕ → Piece
+  Stops : GrammarKind → Piece
   Ends : Piece
 
 -- a string, behind its first quote
 abbrev pub string_piece : List ℕ → Piece
 string_piece bs =
     if prefix_len is_string_byte bs == length bs
-    then Stops 2
+    then Stops OpenString
     else Found (Value (Chars (take_while is_string_byte bs))) (prefix_len is_string_byte bs + 2)
 
 -- the leaf of an integer
@@ -60,12 +63,13 @@ abbrev pub number_of : List ℕ → ℕ → Piece
 number_of run len =
     if is_integer run
     then Found (Value (leaf_of (integer_value run))) len
-    else (if is_real run then Found (Value Other) len else Stops 3)
+    else (if is_real run then Found (Value Other) len else Stops BadNumber)
 
 -- a word and a number are as long as they can be
 abbrev pub word_piece : List ℕ → Piece
 word_piece bs = Found (Word (take_while is_word_byte bs)) (prefix_len is_word_byte bs)
 
+-- of bytes of numbers
 abbrev pub number_piece : List ℕ → Piece
 number_piece bs = number_of (take_while is_number_byte bs) (prefix_len is_number_byte bs)
 
@@ -77,7 +81,7 @@ piece (b ∷ bs) =
     if b == 93 then Found Close 1 else (
     if b == 34 then string_piece bs else (
     if is_word_start b then word_piece (b ∷ bs) else (
-    if is_number_start b then number_piece (b ∷ bs) else Stops 1))))
+    if is_number_start b then number_piece (b ∷ bs) else Stops BadByte))))
 
 -- where the first token may begin: behind the byte order mark EF BB BF, if the text begins with it
 abbrev pub start : List ℕ → ℕ
@@ -96,4 +100,5 @@ next text from = piece (drop (place text from) text)
 abbrev pub Front : List ℕ → ℕ → List Token → ℕ → Type 0
 Front text from [] to = from ≡ to
 Front text from (t ∷ ts) to =
-    (len : ℕ) × (t.at ≡ place text from) × (next text from ≡ Found t.sign len) × Front text (place text from + len) ts to
+    (len : ℕ) × (t.at ≡ place text from) × (next text from ≡ Found t.sign len) × Front text (place text from + len) ts
+    to

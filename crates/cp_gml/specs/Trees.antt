@@ -35,9 +35,11 @@ abbrev mutual
   with_value key key_at (Str text) at rest = leaf key key_at (Chars text) at rest
   with_value key key_at (Nested inner) at rest = with_list key key_at inner at rest
 
+  -- the tree of a list with its key, before a rest
   pub with_list : List ℕ → ℕ → GmlList → ℕ → Tree → Tree
   with_list key key_at (GmlList' n row end) at rest = node key key_at at (tree_of_row row) end rest
 
+  -- the tree of a row of entries
   pub tree_of_row : {m : _} → Row_of-Entry m → Tree
   tree_of_row end_of-Entry = nil
   tree_of_row (more_of-Entry key key_at value value_at rest) = with_value key key_at value value_at (tree_of_row rest)

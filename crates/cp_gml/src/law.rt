@@ -3,6 +3,7 @@ ghost use Rattle.std.specs.Prelude.{◌≡◌, ◌≤◌, ◌↔◌, ◌⊎◌, 
 ghost use Rattle.cp_gml.specs.Lists.{deepest, IsListOf, IsFaultOf};
 ghost use Rattle.cp_gml.specs.Rows.{IsGap, IsRow, IsRowUpTo};
 ghost use Rattle.cp_gml.specs.Tokens.{Front, Token, place, start};
+ghost use Rattle.cp_gml.specs.declared.kind.GrammarKind.{GrammarKind as AnyKind};
 ghost use Rattle.cp_gml.specs.declared.tree.Entry.{Entry};
 ghost use Rattle.cp_gml.specs.Trees.{Tree, spelled, depth, tree};
 
@@ -13,9 +14,9 @@ ghost use Rattle.cp_gml.specs.Trees.{Tree, spelled, depth, tree};
 pub fn one_answer()
     ensures lists { (text : List ℕ) (t u : Tree) → IsListOf text t → IsListOf text u → t ≡ u }
     ensures entries { (es fs : List Entry) → tree es ≡ tree fs → es ≡ fs }
-    ensures apart { (text : List ℕ) (t : Tree) (kind at : ℕ) → IsListOf text t → IsFaultOf text kind at → ⊥ }
-    ensures some { (text : List ℕ) → ((es : List Entry) × IsListOf text (tree es)) ⊎ ((kind : ℕ) × (at : ℕ) × IsFaultOf text kind at) }
-    ensures faults { (text : List ℕ) (k a l b : ℕ) → IsFaultOf text k a → IsFaultOf text l b → (k ≡ l) × (a ≡ b) }
+    ensures apart { (text : List ℕ) (t : Tree) (kind : AnyKind) (at : ℕ) → IsListOf text t → IsFaultOf text kind at → ⊥ }
+    ensures some { (text : List ℕ) → ((es : List Entry) × IsListOf text (tree es)) ⊎ ((kind : AnyKind) × (at : ℕ) × IsFaultOf text kind at) }
+    ensures faults { (text : List ℕ) (k : AnyKind) (a : ℕ) (l : AnyKind) (b : ℕ) → IsFaultOf text k a → IsFaultOf text l b → (k ≡ l) × (a ≡ b) }
 
     // The whole row of tokens, both ways.
     ensures laid_out { (text : List ℕ) (t : Tree) → IsListOf text t →

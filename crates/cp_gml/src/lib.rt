@@ -5,6 +5,7 @@
 mod bytes;
 mod equal;
 mod fault;
+mod kind;
 mod law;
 mod number;
 mod reader;
@@ -13,8 +14,9 @@ mod scan;
 mod tests;
 mod tree;
 
-pub use fault::GmlFault;
+pub use fault::{GmlFault, ListFault};
+pub use kind::GrammarKind;
 pub use law::one_answer;
 pub use number::integer;
-pub use reader::parse;
+pub use reader::{parse, read_list};
 pub use tree::{Entries, Entry, GmlList, GmlValue, Text};

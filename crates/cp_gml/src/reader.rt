@@ -1,13 +1,14 @@
 // Reads the entries of a list one after the other.
 ghost use Rattle.std.specs.Prelude.{◌≡◌, ℕ, ◌+◌, ◌-◌, ◌<◌, ◌≤◌, List, length, true, false, IfOk, IfErr};
-ghost use Rattle.cp_gml.specs.Lists.{IfGrammar, IsListOf, IsFaultOf};
+ghost use Rattle.cp_gml.specs.Lists.{IfFault, IfGrammar, IsListOf, IsFaultOf};
 ghost use Rattle.cp_gml.specs.declared.tree.GmlList.{out-GmlList};
 ghost use Rattle.cp_gml.specs.Machine.{state, StopsHere, Faults};
 ghost use Rattle.cp_gml.specs.Moves.{IsKeyMove, IsValueMove, IsEntry, IsRead};
 ghost use Rattle.cp_gml.specs.Scans.{leaf_over, IsInside};
 ghost use Rattle.cp_gml.specs.Trees.{Tree, leaf, tree, with_value};
 
-use crate::fault::GmlFault;
+use crate::fault::{GmlFault, ListFault, with_number};
+use crate::kind::GrammarKind;
 use crate::scan::{self, Plain, Scan};
 use crate::tree::{Entry, GmlList, GmlValue, Text};
 use cp_base::{Items, Memory};
@@ -47,10 +48,10 @@ struct EntryRead {
     behind: usize,
 }
 
-fn key_move(text: &[u8], from: usize, level: usize) -> Result<KeyMove, GmlFault>
+fn key_move(text: &[u8], from: usize, level: usize) -> Result<KeyMove, ListFault>
     requires { from ≤ length text.now }
     ensures fits { IfOk result (IsKeyMove text.now from level) }
-    ensures fault { IfErr result (λ e. IfGrammar e (StopsHere text.now from (state level false))) }
+    ensures fault { IfErr result (λ e. IfFault e (StopsHere text.now from (state level false))) }
 {
     let at = from + scan::gap_len(&text[from..]);
     match scan::scan_piece(&text[at..]) {
@@ -60,20 +61,26 @@ fn key_move(text: &[u8], from: usize, level: usize) -> Result<KeyMove, GmlFault>
         }),
         Scan::Closing if level > 0 => Ok(KeyMove::End { at }),
         Scan::Over if level == 0 => Ok(KeyMove::End { at: text.len() }),
-        Scan::Closing => Err(GmlFault::Grammar { kind: 7, at }),
-        Scan::Over => Err(GmlFault::Grammar {
-            kind: 6,
+        Scan::Closing => Err(ListFault::Grammar {
+            kind: GrammarKind::StrayClose,
+            at,
+        }),
+        Scan::Over => Err(ListFault::Grammar {
+            kind: GrammarKind::ListOpen,
             at: text.len(),
         }),
-        Scan::Wrong(kind) => Err(GmlFault::Grammar { kind, at }),
-        Scan::Opening | Scan::Valued(_, _) => Err(GmlFault::Grammar { kind: 4, at }),
+        Scan::Wrong(kind) => Err(ListFault::Grammar { kind, at }),
+        Scan::Opening | Scan::Valued(_, _) => Err(ListFault::Grammar {
+            kind: GrammarKind::KeyExpected,
+            at,
+        }),
     }
 }
 
-fn value_move(text: &[u8], from: usize, level: usize) -> Result<ValueMove, GmlFault>
+fn value_move(text: &[u8], from: usize, level: usize) -> Result<ValueMove, ListFault>
     requires { from ≤ length text.now }
     ensures fits { IfOk result (IsValueMove text.now from level) }
-    ensures fault { IfErr result (λ e. IfGrammar e (StopsHere text.now from (state level true))) }
+    ensures fault { IfErr result (λ e. IfFault e (StopsHere text.now from (state level true))) }
 {
     let at = from + scan::gap_len(&text[from..]);
     match scan::scan_piece(&text[at..]) {
@@ -83,13 +90,19 @@ fn value_move(text: &[u8], from: usize, level: usize) -> Result<ValueMove, GmlFa
             plain,
         }),
         Scan::Opening if level < DEEPEST => Ok(ValueMove::Opens { at }),
-        Scan::Opening => Err(GmlFault::Grammar { kind: 8, at }),
-        Scan::Wrong(kind) => Err(GmlFault::Grammar { kind, at }),
-        Scan::Over => Err(GmlFault::Grammar {
-            kind: 5,
+        Scan::Opening => Err(ListFault::Grammar {
+            kind: GrammarKind::TooDeep,
+            at,
+        }),
+        Scan::Wrong(kind) => Err(ListFault::Grammar { kind, at }),
+        Scan::Over => Err(ListFault::Grammar {
+            kind: GrammarKind::ValueExpected,
             at: text.len(),
         }),
-        Scan::Name(_) | Scan::Closing => Err(GmlFault::Grammar { kind: 5, at }),
+        Scan::Name(_) | Scan::Closing => Err(ListFault::Grammar {
+            kind: GrammarKind::ValueExpected,
+            at,
+        }),
     }
 }
 
@@ -114,12 +127,12 @@ fn entry_at(
     key_at: usize,
     from: usize,
     level: usize,
-) -> Result<EntryRead, GmlFault>
+) -> Result<EntryRead, ListFault>
     requires order { key_at ≤ from }
     requires within { from ≤ length text.now }
     requires shallow { level ≤ DEEPEST }
     ensures entry { IfOk result (λ read. IsEntry text.now key_at from level read.entry read.behind) }
-    ensures fault { IfErr result (λ e. IfGrammar e (Faults text.now from (state level true))) }
+    ensures fault { IfErr result (λ e. IfFault e (Faults text.now from (state level true))) }
 {
     let key = Text::from_bytes(alloc, &text[key_at..from])?;
     match value_move(text, from, level)? {
@@ -153,11 +166,11 @@ fn entry_at(
 
 // Reads the entries of a list up to its end. `level` is the number of open brackets.
 #[cycle(reader)]
-fn entries_from(alloc: Global, text: &[u8], from: usize, level: usize) -> Result<GmlList, GmlFault>
+fn entries_from(alloc: Global, text: &[u8], from: usize, level: usize) -> Result<GmlList, ListFault>
     requires within { from ≤ length text.now }
     requires shallow { level ≤ DEEPEST }
     ensures list { IfOk result (IsRead text.now from level) }
-    ensures fault { IfErr result (λ e. IfGrammar e (Faults text.now from (state level false))) }
+    ensures fault { IfErr result (λ e. IfFault e (Faults text.now from (state level false))) }
 {
     let mut at = from;
     let mut entries = Items::new(alloc);
@@ -171,6 +184,20 @@ fn entries_from(alloc: Global, text: &[u8], from: usize, level: usize) -> Result
             }
         }
     }
+}
+
+/// The list of a text in GML, or its first fault with its kind. Costs what `parse` costs.
+///
+/// # Errors
+///
+/// `Grammar` exactly where the text is no such list, as `parse` has it. `Memory` where an allocation fails.
+pub fn read_list(alloc: Global, text: &[u8]) -> Result<GmlList, ListFault>
+    ensures list { IfOk result (λ list. IsListOf text.now (tree (out-GmlList list).entries)) }
+    ensures whole { IfOk result (λ list. (out-GmlList list).end ≡ length text.now) }
+    ensures fault { IfErr result (λ e. IfFault e (IsFaultOf text.now)) }
+{
+    let from = scan::start_of(text);
+    entries_from(alloc, text, from, 0)
 }
 
 /// The list of a text in GML, or its first fault. Linear in the length of the text, in time and in
@@ -189,6 +216,8 @@ pub fn parse(alloc: Global, text: &[u8]) -> Result<GmlList, GmlFault>
     ensures whole { IfOk result (λ list. (out-GmlList list).end ≡ length text.now) }
     ensures fault { IfErr result (λ e. IfGrammar e (IsFaultOf text.now)) }
 {
-    let from = scan::start_of(text);
-    entries_from(alloc, text, from, 0)
+    match read_list(alloc, text) {
+        Ok(list) => Ok(list),
+        Err(fault) => Err(with_number(fault)),
+    }
 }

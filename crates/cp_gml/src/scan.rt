@@ -5,6 +5,7 @@ ghost use Rattle.cp_gml.specs.Bytes.{is_word_byte, is_number_byte, is_string_byt
 ghost use Rattle.cp_gml.specs.Tokens.{gap, piece, start, string_piece, number_piece};
 ghost use Rattle.cp_gml.specs.Scans.{piece_of, IsWithin};
 
+use crate::kind::GrammarKind;
 use crate::{bytes, number};
 
 // A value that is no list, over the bytes that begin with it.
@@ -27,8 +28,8 @@ pub(crate) enum Scan {
     Name(usize),
     // A string or a number of so many bytes.
     Valued(Plain, usize),
-    // Nothing that is a token: the number of the fault.
-    Wrong(u8),
+    // Nothing that is a token.
+    Wrong(GrammarKind),
     // The end of the text.
     Over,
 }
@@ -99,7 +100,7 @@ fn scan_string(rest: &[u8]) -> Scan
 {
     let len = string_len(rest);
     if len == rest.len() {
-        Scan::Wrong(2)
+        Scan::Wrong(GrammarKind::OpenString)
     } else {
         Scan::Valued(Plain::Quoted(len), len + 2)
     }
@@ -121,7 +122,7 @@ fn scan_number(bytes: &[u8]) -> Scan
     } else if number::is_real(run) {
         Scan::Valued(Plain::Real, len)
     } else {
-        Scan::Wrong(3)
+        Scan::Wrong(GrammarKind::BadNumber)
     }
 }
 
@@ -139,6 +140,6 @@ pub(crate) fn scan_piece(bytes: &[u8]) -> Scan
         b'"' => scan_string(rest),
         byte if bytes::is_word_start(byte) => Scan::Name(word_len(bytes)),
         byte if bytes::is_number_start(byte) => scan_number(bytes),
-        _ => Scan::Wrong(1),
+        _ => Scan::Wrong(GrammarKind::BadByte),
     }
 }

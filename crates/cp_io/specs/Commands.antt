@@ -4,9 +4,11 @@ use Rattle.cp_io.specs.Answered.{WroteAnswer, WroteAnswerFront}
 use Rattle.cp_io.specs.Streams.{most_bytes}
 use Rattle.cp_io.specs.declared.command.Ends.{Ends}
 
+-- the line of a source that failed
 abbrev pub read_fault_line : List ℕ
 read_fault_line = codes "read fault" ++ 10 ∷ []
 
+-- the line of a source that gave too much
 abbrev pub too_long_line : List ℕ
 too_long_line = codes "input too long" ++ 10 ∷ []
 
@@ -35,9 +37,12 @@ pub record AreApart {E : Type 0} (ends : Ends E) : Type 0 where
 
 -- for these words and bytes a run may end so and write this text: the words ask for no command, or the bytes
 -- are too many, or the command that they ask for answers so
-pub data Answer {C E : Type 0} (asks : List (List ℕ) → C → Type 0) (answers : C → List ℕ → E → List ℕ → Type 0) (ends : Ends E) (usage_line : List ℕ)
+pub data Answer {C E : Type 0} (asks : List (List ℕ) → C → Type 0) (answers : C → List ℕ → E → List ℕ → Type 0)
+    (ends : Ends E) (usage_line : List ℕ)
     (words : List (List ℕ)) (bytes : List ℕ) : E → List ℕ → Type 0 where
   usage : ((command : C) → ¬ asks words command) → Answer asks answers ends usage_line words bytes ends.usage usage_line
-  too_long : (command : C) → asks words command → most_bytes < length bytes → Answer asks answers ends usage_line words bytes ends.too_long too_long_line
-  told : {end : E} {text : List ℕ} → (command : C) → asks words command → length bytes ≤ most_bytes → answers command bytes end text
+  too_long : (command : C) → asks words command → most_bytes < length bytes
+      → Answer asks answers ends usage_line words bytes ends.too_long too_long_line
+  told : {end : E} {text : List ℕ} → (command : C) → asks words command → length bytes ≤ most_bytes
+      → answers command bytes end text
       → Answer asks answers ends usage_line words bytes end text

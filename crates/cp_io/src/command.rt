@@ -1,4 +1,4 @@
-// A run of commands: words, read, decide, tell.
+// A run of commands: words, read, answer, tell.
 ghost use Rattle.std.specs.Prelude.{◌≡◌, ◌≢◌, ◌<◌, ◌≤◌, ◌⊎◌, ℕ, List, IfOk, IsTrue, MatchOption, length, map, string_bytes};
 ghost use Rattle.std.specs.Io.KnownBytes.{Appends, IsAtEnd};
 ghost use Rattle.cp_io.specs.Answered.{FailedReading, WroteAnswer, WroteAnswerFront};
@@ -47,7 +47,7 @@ pub trait Command: Copy {
         ensures { MatchOption result ((command : Self) → ¬ asks (map string_bytes words.now) command) (asks (map string_bytes words.now)) };
 
     /// The end and the text that answer the bytes.
-    fn decide(self, alloc: Global, bytes: &[u8]) -> Result<(Self::End, Vec<u8>), Memory>
+    fn answer(self, alloc: Global, bytes: &[u8]) -> Result<(Self::End, Vec<u8>), Memory>
         ensures { IfOk result (λ a. answers self bytes.now a.0 a.1.items) };
 }
 
@@ -81,7 +81,7 @@ pub fn run_command<C: Command, S: Source, K: Sink>(
         return tell(sink, usage, ends.usage, ends.write_fault);
     };
     match read_all(alloc, source) {
-        Ok(bytes) => match command.decide(alloc, &bytes) {
+        Ok(bytes) => match command.answer(alloc, &bytes) {
             Ok((end, text)) => tell(sink, &text, end, ends.write_fault),
             Err(Memory) => ends.memory,
         },

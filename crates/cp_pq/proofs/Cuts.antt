@@ -1,5 +1,7 @@
 -- Rows of compared nodes that are cut where they enter and leave a set.
-use Rattle.std.proofs.Common.{◌≡◌, ◌≢◌, ℕ, ◌≤◌, Bool, true, false, cond, not, ◌&&◌, ◌⊎◌, List, [], ◌∷◌, ◌++◌, length, length-append, map, filter, inl, inr, ⊎_elim, refl, sym, ap, ◌∙◌, subst, append_assoc, append-nil, arith}
+use Rattle.std.proofs.Common.{◌≡◌, ◌≢◌, ℕ, ◌≤◌, Bool, true, false, cond, not, ◌&&◌, ◌⊎◌, List, [], ◌∷◌, ◌++◌, length}
+use Rattle.std.proofs.Common.{length-append, map, filter, inl, inr, ⊎_elim, refl, sym, ap, ◌∙◌, subst, append_assoc}
+use Rattle.std.proofs.Common.{append-nil, arith}
 use Rattle.std.specs.List.{list_all, AllZip}
 use Rattle.std.proofs.lemmas.Bool.{both_ways, true≢false, false≢true, and_parts, and_from}
 use Rattle.std.proofs.lemmas.List.Folds.{list_all-append}
@@ -20,9 +22,11 @@ module _ (q p : ℕ → Bool) where
   outs_found [] [] z h = refl
   outs_found [] (f ∷ fs) z h = absurd z
   outs_found (k ∷ ks) [] z h = absurd z
-  outs_found (k ∷ ks) (f ∷ fs) z h = let g = and_parts (has_all q k) (list_all (has_all q) ks) h in one f z.0 g.0 (outs_found ks fs z.1 g.1)
+  outs_found (k ∷ ks) (f ∷ fs) z h = let g = and_parts (has_all q k) (list_all (has_all q) ks) h in
+      one f z.0 g.0 (outs_found ks fs z.1 g.1)
     where
-      one : (f : Found) → IsGiven q p k f → has_all q k ≡ true → fs ≡ map Found.Out ks → f ∷ fs ≡ Found.Out k ∷ map Found.Out ks
+      one : (f : Found) → IsGiven q p k f → has_all q k ≡ true → fs ≡ map Found.Out ks
+          → f ∷ fs ≡ Found.Out k ∷ map Found.Out ks
       one (Found.Out m) g o e = let same : m ≡ k = g.2 in cc
       one (Found.In m) g o e = absurd (both_ways (has_all q k) g.0 o)
       one (Found.Line front back ties) g o e = absurd (both_ways (has_all q k) g.0 o)
@@ -34,9 +38,11 @@ module _ (q p : ℕ → Bool) where
   ins_found [] [] z h = refl
   ins_found [] (f ∷ fs) z h = absurd z
   ins_found (k ∷ ks) [] z h = absurd z
-  ins_found (k ∷ ks) (f ∷ fs) z h = let g = and_parts (has_all p k) (list_all (has_all p) ks) h in one f z.0 g.0 (ins_found ks fs z.1 g.1)
+  ins_found (k ∷ ks) (f ∷ fs) z h = let g = and_parts (has_all p k) (list_all (has_all p) ks) h in
+      one f z.0 g.0 (ins_found ks fs z.1 g.1)
     where
-      one : (f : Found) → IsGiven q p k f → has_all p k ≡ true → fs ≡ map Found.In ks → f ∷ fs ≡ Found.In k ∷ map Found.In ks
+      one : (f : Found) → IsGiven q p k f → has_all p k ≡ true → fs ≡ map Found.In ks
+          → f ∷ fs ≡ Found.In k ∷ map Found.In ks
       one (Found.In m) g o e = let same : m ≡ k = g.2 in cc
       one (Found.Out m) g o e = absurd (both_ways (has_all p k) g.1 o)
       one (Found.Line front back ties) g o e = absurd (both_ways (has_all p k) g.1 o)
@@ -47,7 +53,8 @@ module _ (q p : ℕ → Bool) where
       → (f g : List Found) × (fs ≡ f ++ g) × AllZip (IsGiven q p) xs f × AllZip (IsGiven q p) ys g
   zip_parts [] ys fs z = ([], fs, refl, tt, z)
   zip_parts (k ∷ xs) ys [] z = absurd z
-  zip_parts (k ∷ xs) ys (x ∷ fs) z = let h = zip_parts xs ys fs z.1 in (x ∷ h.0, h.1, ap (λ w. x ∷ w) h.2, (z.0, h.3), h.4)
+  zip_parts (k ∷ xs) ys (x ∷ fs) z = let h = zip_parts xs ys fs z.1 in
+      (x ∷ h.0, h.1, ap (λ w. x ∷ w) h.2, (z.0, h.3), h.4)
 
   -- a row of nodes outside, inside, outside was found as such
   pub cut_found : (ks : List Node) (fs : List Found) → AllZip (IsGiven q p) ks fs → (r : Run q p ks)
@@ -66,7 +73,8 @@ module _ (q p : ℕ → Bool) where
   zip_clear [] [] z = refl
   zip_clear [] (f ∷ fs) z = absurd z
   zip_clear (k ∷ ks) [] z = absurd z
-  zip_clear (k ∷ ks) (f ∷ fs) z = and_from (is_clear q p k) (list_all (is_clear q p) ks) (one f z.0) (zip_clear ks fs z.1)
+  zip_clear (k ∷ ks) (f ∷ fs) z =
+      and_from (is_clear q p k) (list_all (is_clear q p) ks) (one f z.0) (zip_clear ks fs z.1)
     where
       second : (a b : Bool) → b ≡ false → not (a && b) ≡ true
       second true b e = ap (λ c. not c) e
@@ -81,10 +89,14 @@ module _ (q p : ℕ → Bool) where
       one (Found.Line front back ties) g = first (has_all q k) (has_all p k) g.0
       one Found.Torn g = first (has_all q k) (has_all p k) g.0
 
+  -- some of the nodes are not more than all
   filter_short : (t : Node → Bool) (ks : List Node) → length (filter t ks) ≤ length ks
   filter_short t [] = omega arith
-  filter_short t (k ∷ ks) = let l = filter_short t ks in elim (t k) as (λ b. length (cond b (k ∷ filter t ks) (filter t ks)) ≤ length (k ∷ ks)) [ true ↦ omega (arith, l) | false ↦ omega (arith, l) ]
+  filter_short t (k ∷ ks) = let l = filter_short t ks in
+      elim (t k) as (λ b. length (cond b (k ∷ filter t ks) (filter t ks)) ≤ length (k ∷ ks))
+      [ true ↦ omega (arith, l) | false ↦ omega (arith, l) ]
 
+  -- no node outside is met
   none_met : (ks : List Node) → list_all (has_all q) ks ≡ true → filter (is_met q) ks ≡ []
   none_met [] h = refl
   none_met (k ∷ ks) h =
@@ -96,7 +108,8 @@ module _ (q p : ℕ → Bool) where
   run_long ks r two =
       let f = is_met q in
       let e : filter f ks ≡ filter f r.before ++ (filter f r.run ++ filter f r.after) =
-      ap (filter f) r.is ∙ filter-append f r.before (r.run ++ r.after) ∙ ap (λ z. filter f r.before ++ z) (filter-append f r.run r.after) in
+      ap (filter f) r.is ∙ filter-append f r.before (r.run ++ r.after)
+      ∙ ap (λ z. filter f r.before ++ z) (filter-append f r.run r.after) in
       let l = ap length e in
       let a = length-append (filter f r.before) (filter f r.run ++ filter f r.after) in
       let b = length-append (filter f r.run) (filter f r.after) in
@@ -106,11 +119,13 @@ module _ (q p : ℕ → Bool) where
       omega (arith, l, a, b, x, y, s, two)
 
   -- where not all is inside, something stands beside the run
-  pub run_beside : (ks : List Node) (r : Run q p ks) → list_all (has_all p) ks ≡ false → 1 ≤ length (r.before ++ r.after)
+  pub run_beside : (ks : List Node) (r : Run q p ks) → list_all (has_all p) ks ≡ false
+      → 1 ≤ length (r.before ++ r.after)
   run_beside ks r part = go r.before r.after r.is
     where
       go : (before after : List Node) → ks ≡ before ++ (r.run ++ after) → 1 ≤ length (before ++ after)
-      go [] [] e = absurd (both_ways (list_all (has_all p) ks) part (ap (list_all (has_all p)) e ∙ ap (list_all (has_all p)) (append-nil r.run) ∙ r.all_in))
+      go [] [] e = absurd (both_ways (list_all (has_all p) ks) part
+          (ap (list_all (has_all p)) e ∙ ap (list_all (has_all p)) (append-nil r.run) ∙ r.all_in))
       go [] (x ∷ after) e = omega arith
       go (x ∷ before) after e = omega arith
 
@@ -134,14 +149,17 @@ pub record IsAdded (b r a b2 r2 a2 : List Node) (f : Found) : Type 0 where
   pub not_yet_after : r ≡ [] → a2 ≡ a
   pub after : r ≢ [] → a2 ≡ a ++ out_node f
 
+-- a row is empty or not
 nil_or : (xs : List Node) → (xs ≡ []) ⊎ (xs ≢ [])
 nil_or [] = inl refl
 nil_or (x ∷ xs) = inr (λ e. cc)
 
 -- one more node is added where it belongs
 pub add_remains : (before run after b r a b2 r2 a2 : List Node) (f : Found) (left : List Found) → run ≢ []
-    → Remains before run after b r a (f ∷ left) → IsAdded b r a b2 r2 a2 f → (r ≡ [] → a ≡ []) → Remains before run after b2 r2 a2 left × (r2 ≡ [] → a2 ≡ [])
-add_remains before run after b r a b2 r2 a2 f left some m d none = go m.more_before m.more_run m.more_after m.left_is m.before_is m.run_is m.after_is m.entered m.out
+    → Remains before run after b r a (f ∷ left) → IsAdded b r a b2 r2 a2 f → (r ≡ [] → a ≡ [])
+    → Remains before run after b2 r2 a2 left × (r2 ≡ [] → a2 ≡ [])
+add_remains before run after b r a b2 r2 a2 f left some m d none =
+    go m.more_before m.more_run m.more_after m.left_is m.before_is m.run_is m.after_is m.entered m.out
   where
     go : (mb mr ma : List Node) → IsCut (f ∷ left) mb mr ma → before ≡ b ++ mb → run ≡ r ++ mr → after ≡ a ++ ma
         → (r ≢ [] → mb ≡ []) → (a ≢ [] → mr ≡ []) → Remains before run after b2 r2 a2 left × (r2 ≡ [] → a2 ≡ [])
@@ -170,8 +188,10 @@ add_remains before run after b r a b2 r2 a2 f left some m d none = go m.more_bef
         let t : left ≡ map Found.In mr ++ map Found.Out ma = cc in
         let r2_is : r2 ≡ r ++ x ∷ [] = d.run ∙ ap (λ z. r ++ in_node z) h in
         let none_behind : a ≡ [] = ⊎_elim (λ n. n) (λ n. let z : x ∷ mr ≡ [] = out n in absurd cc) (nil_or a) in
-        let b2_is : b2 ≡ b = ⊎_elim (λ n. d.before n ∙ ap (λ z. b ++ out_node z) h ∙ append-nil b) (λ n. d.no_more_before n) (nil_or r) in
-        let a2_is : a2 ≡ a = ⊎_elim (λ n. d.not_yet_after n) (λ n. d.after n ∙ ap (λ z. a ++ out_node z) h ∙ append-nil a) (nil_or r) in (
+        let b2_is : b2 ≡ b = ⊎_elim (λ n. d.before n ∙ ap (λ z. b ++ out_node z) h ∙ append-nil b)
+        (λ n. d.no_more_before n) (nil_or r) in
+        let a2_is : a2 ≡ a = ⊎_elim (λ n. d.not_yet_after n)
+        (λ n. d.after n ∙ ap (λ z. a ++ out_node z) h ∙ append-nil a) (nil_or r) in (
           record {
             more_before = [];
             more_run = mr;
@@ -210,12 +230,24 @@ add_remains before run after b r a b2 r2 a2 f left some m d none = go m.more_bef
 -- the whole row is left at the start
 pub all_remains : (before run after : List Node) (fs : List Found) → IsCut fs before run after
     → Remains before run after [] [] [] fs
-all_remains before run after fs c = record { more_before = before; more_run = run; more_after = after; left_is = c; before_is = refl; run_is = refl; after_is = refl; entered = λ n. absurd (n refl); out = λ n. absurd (n refl) }
+all_remains before run after fs c = record {
+  more_before = before;
+  more_run = run;
+  more_after = after;
+  left_is = c;
+  before_is = refl;
+  run_is = refl;
+  after_is = refl;
+  entered = λ n. absurd (n refl);
+  out = λ n. absurd (n refl);
+}
 
 -- where nothing is left the parts are whole
-pub none_remains : (before run after b r a : List Node) (left : List Found) → left ≡ [] → Remains before run after b r a left
+pub none_remains : (before run after b r a : List Node) (left : List Found) → left ≡ []
+    → Remains before run after b r a left
     → (b ≡ before) × (r ≡ run) × (a ≡ after)
-none_remains before run after b r a left nil m = go m.more_before m.more_run m.more_after m.left_is m.before_is m.run_is m.after_is
+none_remains before run after b r a left nil m =
+    go m.more_before m.more_run m.more_after m.left_is m.before_is m.run_is m.after_is
   where
     go : (mb mr ma : List Node) → IsCut left mb mr ma → before ≡ b ++ mb → run ≡ r ++ mr → after ≡ a ++ ma
         → (b ≡ before) × (r ≡ run) × (a ≡ after)

@@ -38,10 +38,12 @@ mod ReducedTrees
 mod SetInTrees
 mod SearchedSets
 mod SmallStars
+mod DeepTrees
 mod FilledRows
 mod SwappedOwners
 mod AlwaysTogether
 mod Cuts
+mod RisingLists
 mod TakenParts
 mod SomeReadings
 mod Replacements

@@ -1,10 +1,12 @@
 -- A tree whose part is replaced by a node: pairs, shape, leaves, owners and what makes it a tree.
-use Rattle.std.proofs.Common.{◌≡◌, ℕ, ◌<◌, ◌⊎◌, Bool, true, false, Option, Some, None, List, [], ◌∷◌, ◌++◌, length, reverse, inl, inr, ⊎_elim, refl, sym, ap, ◌∙◌, subst, IsPermutation}
+use Rattle.std.proofs.Common.{◌≡◌, ℕ, ◌<◌, ◌⊎◌, Bool, true, false, Option, Some, None, List, [], ◌∷◌, ◌++◌, length}
+use Rattle.std.proofs.Common.{reverse, inl, inr, ⊎_elim, refl, sym, ap, ◌∙◌, subst, IsPermutation}
 use Rattle.std.specs.List.{list_all}
 use Rattle.std.proofs.lemmas.Bool.{true≢false}
 use Rattle.std.proofs.lemmas.List.Sorted.{IsPermutation-sym, IsPermutation-trans, IsPermutation-append_left}
 use Rattle.cp_lists.specs.CyclicLists.{Has, Lacks, Distinct}
-use Rattle.cp_lists.proofs.DistinctLists.{Lacks-from, has_lacks, Has-append_cases, Has-append_right, Distinct-append, Distinct-append_right}
+use Rattle.cp_lists.proofs.DistinctLists.{Lacks-from, has_lacks, Has-append_cases, Has-append_right, Distinct-append}
+use Rattle.cp_lists.proofs.DistinctLists.{Distinct-append_right}
 use Rattle.cp_base.specs.declared.equation.Equation.{Equation}
 use Rattle.cp_pq.specs.declared.node.Node.{Node}
 use Rattle.cp_pq.specs.declared.node.Node.TheVariants.{Q}
@@ -27,7 +29,8 @@ use Rattle.cp_pq.proofs.ReadingLaws.{ReadsAll_one, one_ReadsAll, Reads_Q, read_l
 use Rattle.cp_pq.proofs.GivenBits.{given_parts, given_from}
 use Rattle.cp_pq.proofs.SomeReadings.{AllowsBelow, row_back, some_reading, some_row}
 use Rattle.cp_pq.proofs.Holes.{directed, filled_node, filled_run}
-use Rattle.cp_pq.proofs.FilledRows.{beside_leaves, filled_leaves, beside_outside, branching_part, below_part, below_inner}
+use Rattle.cp_pq.proofs.FilledRows.{beside_leaves, filled_leaves, beside_outside, branching_part, below_part}
+use Rattle.cp_pq.proofs.FilledRows.{below_inner}
 use Rattle.cp_pq.proofs.SwappedOwners.{owners_part}
 use Rattle.cp_pq.proofs.TakenParts.{all_has, outside_lacks}
 
@@ -36,17 +39,19 @@ abbrev HasOneBit : (ℕ → Bool → Bool) → Type 0
 HasOneBit may = (v : ℕ) (b c : Bool) → may v b ≡ true → may v c ≡ true → b ≡ c
 
 -- a reading of the old tree: words round a reading of the part
-record HasReading (may : ℕ → Bool → Bool) (var : Option ℕ) (kids : List Node) (n m j : Node) (word : List ℕ) : Type 0 where
-  before : List ℕ
-  run : List ℕ
-  after : List ℕ
-  is : word ≡ before ++ (run ++ after)
-  reads : reading_of may var kids run
-  again : (var ≡ None) ⊎ HasOneBit may → (u : List ℕ) → reading_of may var kids u → Reads may n (before ++ (u ++ after))
-  exchanged : (u : List ℕ) → Reads may j u → Reads may m (before ++ (u ++ after))
+record RoundPart (may : ℕ → Bool → Bool) (var : Option ℕ) (kids : List Node) (n m j : Node) (word : List ℕ) : Type 0
+  where
+    before : List ℕ
+    run : List ℕ
+    after : List ℕ
+    is : word ≡ before ++ (run ++ after)
+    reads : reading_of may var kids run
+    again : (var ≡ None) ⊎ HasOneBit may → (u : List ℕ) → reading_of may var kids u
+        → Reads may n (before ++ (u ++ after))
+    exchanged : (u : List ℕ) → Reads may j u → Reads may m (before ++ (u ++ after))
 
 -- a reading of the new tree: words round a reading of the node that was put in
-record HasNode (may : ℕ → Bool → Bool) (var : Option ℕ) (kids : List Node) (n j : Node) (word : List ℕ) : Type 0 where
+record RoundNode (may : ℕ → Bool → Bool) (var : Option ℕ) (kids : List Node) (n j : Node) (word : List ℕ) : Type 0 where
   before : List ℕ
   run : List ℕ
   after : List ℕ
@@ -74,14 +79,17 @@ module _ (may : ℕ → Bool → Bool) where
   one_from j u false r = ReadsAll_one may j u r
   one_from j u true r = ReadsAll_one may j u r
 
+  -- and back
   one_to : (j : Node) (u : List ℕ) (d : Bool) → Reads may j u → ReadsAll may (directed d (j ∷ [])) u
   one_to j u false r = one_ReadsAll may j u r
   one_to j u true r = one_ReadsAll may j u r
 
-  module _ (fs : List Frame) (kids : List Node) (n m j : Node) (e1 : n ∷ [] ≡ fill fs kids) (e2 : m ∷ [] ≡ fill fs (j ∷ [])) where
-    has_reading : (var : Option ℕ) → IsPartAt fs var kids → (word : List ℕ) → Reads may n word
-        → HasReading may var kids n m j word
-    has_reading None p word r =
+  module _ (fs : List Frame) (kids : List Node) (n m j : Node) (e1 : n ∷ [] ≡ fill fs kids)
+      (e2 : m ∷ [] ≡ fill fs (j ∷ [])) where
+    -- readings of the old tree
+    round_part : (var : Option ℕ) → IsPartAt fs var kids → (word : List ℕ) → Reads may n word
+        → RoundPart may var kids n m j word
+    round_part None p word r =
         let g = filled_node may fs p.0 j n m (e1 ∙ ap (fill fs) p.1) e2 word r in
         record {
           before = g.before;
@@ -89,10 +97,11 @@ module _ (may : ℕ → Bool → Bool) where
           after = g.after;
           is = g.is;
           reads = (p.0, p.1, g.reads);
-          again = λ free u h. let same : h.0 ∷ [] ≡ p.0 ∷ [] = sym h.1 ∙ p.1 in let a : h.0 ≡ p.0 = cc in g.again u (subst (λ z. Reads may z u) a h.2);
+          again = λ free u h. let same : h.0 ∷ [] ≡ p.0 ∷ [] = sym h.1 ∙ p.1 in let a : h.0 ≡ p.0 = cc in
+              g.again u (subst (λ z. Reads may z u) a h.2);
           exchanged = g.exchanged;
         }
-    has_reading (Some v) p word r =
+    round_part (Some v) p word r =
         let g = filled_run may v kids (j ∷ []) fs p.1 n m e1 e2 word r in
         record {
           before = g.before;
@@ -100,23 +109,40 @@ module _ (may : ℕ → Bool → Bool) where
           after = g.after;
           is = g.is;
           reads = Q_from v kids g.run g.d g.allowed g.reads;
-          again = λ free u h. ⊎_elim (λ e. absurd (some_none e)) (λ one. g.again u (Q_to one v kids u g.d g.allowed h)) free;
+          again = λ free u h. ⊎_elim (λ e. absurd (some_none e)) (λ one. g.again u (Q_to one v kids u g.d g.allowed h))
+              free;
           exchanged = λ u h. g.exchanged u (one_to j u g.d h);
         }
       where
         some_none : Some v ≡ None → ⊥
         some_none e = cc
 
-    has_node : (b : ℕ) → AllowsBelow b may → list_all (has_vars_below b) kids ≡ true → (var : Option ℕ)
-        → IsPartAt fs var kids → (word : List ℕ) → Reads may m word → HasNode may var kids n j word
-    has_node b allows low None p word r =
+    -- readings of the new tree
+    round_node : (b : ℕ) → AllowsBelow b may → list_all (has_vars_below b) kids ≡ true → (var : Option ℕ)
+        → IsPartAt fs var kids → (word : List ℕ) → Reads may m word → RoundNode may var kids n j word
+    round_node b allows low None p word r =
         let g = filled_node may fs j p.0 m n e2 (e1 ∙ ap (fill fs) p.1) word r in
-        let u = some_reading may b allows p.0 (sym (all_one (has_vars_below b) p.0) ∙ ap (list_all (has_vars_below b)) (sym p.1) ∙ low) in
-        record { before = g.before; run = g.run; after = g.after; is = g.is; reads = g.reads; taken = (u.0, (p.0, p.1, u.1), g.exchanged u.0 u.1) }
-    has_node b allows low (Some v) p word r =
+        let u = some_reading may b allows p.0
+        (sym (all_one (has_vars_below b) p.0) ∙ ap (list_all (has_vars_below b)) (sym p.1) ∙ low) in
+        record {
+          before = g.before;
+          run = g.run;
+          after = g.after;
+          is = g.is;
+          reads = g.reads;
+          taken = (u.0, (p.0, p.1, u.1), g.exchanged u.0 u.1);
+        }
+    round_node b allows low (Some v) p word r =
         let g = filled_run may v (j ∷ []) kids fs p.1 m n e2 e1 word r in
         let u = in_direction g.d in
-        record { before = g.before; run = g.run; after = g.after; is = g.is; reads = one_from j g.run g.d g.reads; taken = (u.0, Q_from v kids u.0 g.d g.allowed u.1, g.exchanged u.0 u.1) }
+        record {
+          before = g.before;
+          run = g.run;
+          after = g.after;
+          is = g.is;
+          reads = one_from j g.run g.d g.reads;
+          taken = (u.0, Q_from v kids u.0 g.d g.allowed u.1, g.exchanged u.0 u.1);
+        }
       where
         in_direction : (d : Bool) → (u : List ℕ) × ReadsAll may (directed d kids) u
         in_direction false = some_row may b allows kids low
@@ -125,8 +151,11 @@ module _ (may : ℕ → Bool → Bool) where
 -- a reading of the part has the leaves of its kids
 part_leaves : (may : ℕ → Bool → Bool) (var : Option ℕ) (kids : List Node) (u : List ℕ) → reading_of may var kids u
     → IsPermutation (all_leaves kids) u
-part_leaves may None kids u r = IsPermutation-trans _ _ _ (IsPermutation-same _ _ (ap all_leaves r.1 ∙ all_leaves_one r.0)) (read_leaves may r.0 u r.2)
-part_leaves may (Some v) kids u r = IsPermutation-trans _ _ _ (IsPermutation-same _ _ (sym (leaves_Q v kids))) (read_leaves may (Q v kids) u r)
+part_leaves may None kids u r =
+    IsPermutation-trans _ _ _ (IsPermutation-same _ _ (ap all_leaves r.1 ∙ all_leaves_one r.0))
+    (read_leaves may r.0 u r.2)
+part_leaves may (Some v) kids u r =
+    IsPermutation-trans _ _ _ (IsPermutation-same _ _ (sym (leaves_Q v kids))) (read_leaves may (Q v kids) u r)
 
 -- bits allow one bit of each var
 given_one : (bits : List Bool) → HasOneBit (given bits)
@@ -135,40 +164,58 @@ given_one bits v b c x y = (given_parts bits v b x).1 ∙ sym (given_parts bits 
 module _ (set : List ℕ) (old : PQTree) (wf : IsWellFormed old) (ls : IsLeafSet set old) (hole : Hole) (part : Part)
     (t : IsTakenOut set old hole part) (node : Node) (fresh : IsFreshNode set node old) (m : Node)
     (e2 : m ∷ [] ≡ fill hole.frames (node ∷ [])) where
+  -- the new tree
   abbrev new : PQTree
   new = make_tree old.root m old.vars old.equations
 
+  -- the leaves beside the hole
   abbrev rest : List ℕ
   rest = beside_leaves hole.frames
 
+  -- the old leaves
   old_are : IsPermutation (leaves old.body) (all_leaves part.kids ++ rest)
-  old_are = IsPermutation-trans _ _ _ (IsPermutation-same _ _ (sym (all_leaves_one old.body) ∙ ap all_leaves t.body_is)) (filled_leaves hole.frames part.kids)
+  old_are = IsPermutation-trans _ _ _ (IsPermutation-same _ _ (sym (all_leaves_one old.body) ∙ ap all_leaves t.body_is))
+      (filled_leaves hole.frames part.kids)
 
+  -- the new leaves
   new_are : IsPermutation (leaves m) (leaves node ++ rest)
   new_are = IsPermutation-trans _ _ _ (IsPermutation-same _ _ (sym (all_leaves_one m) ∙ ap all_leaves e2))
-      (IsPermutation-trans _ _ _ (filled_leaves hole.frames (node ∷ [])) (IsPermutation-same _ _ (ap (λ z. z ++ rest) (all_leaves_one node))))
+      (IsPermutation-trans _ _ _ (filled_leaves hole.frames (node ∷ []))
+      (IsPermutation-same _ _ (ap (λ z. z ++ rest) (all_leaves_one node))))
 
+  -- leaves beside the hole are leaves of the old body
   rest_in_body : (x : ℕ) → Has x rest → Has x (leaves old.body)
-  rest_in_body x h = Has-IsPermutation x _ _ (IsPermutation-sym _ _ old_are) (Has-append_right x (all_leaves part.kids) rest h)
+  rest_in_body x h = Has-IsPermutation x _ _ (IsPermutation-sym _ _ old_are)
+      (Has-append_right x (all_leaves part.kids) rest h)
 
+  -- and not in the set
   rest_not_set : (x : ℕ) → Has x rest → Has x set → ⊥
-  rest_not_set x h s = outside_lacks set x (all_has (outside set) rest x (beside_outside (outside set) hole.frames t.beside) h) s
+  rest_not_set x h s = outside_lacks set x
+      (all_has (outside set) rest x (beside_outside (outside set) hole.frames t.beside) h) s
 
+  -- and not in the node
   rest_not_node : (x : ℕ) → Has x rest → Has x (leaves node) → ⊥
   rest_not_node x h s = rest_not_set x h (fresh.fresh x s (inr (rest_in_body x h)))
 
   -- what makes it a tree
   pub replaced_formed : IsWellFormed new
   replaced_formed = record {
-    branching = branching_part hole.frames part.var part.kids t.part_is node old.body m t.body_is e2 wf.branching fresh.branching;
-    distinct = (Lacks-from old.root (leaves m) no_root, Distinct-IsPermutation _ _ (IsPermutation-sym _ _ new_are) once);
-    vars_below = below_part old.vars hole.frames part.var part.kids t.part_is node old.body m t.body_is e2 wf.vars_below fresh.vars_below;
+    branching = branching_part hole.frames part.var part.kids t.part_is node old.body m t.body_is e2 wf.branching
+        fresh.branching;
+    distinct = (
+      Lacks-from old.root (leaves m) no_root,
+      Distinct-IsPermutation _ _ (IsPermutation-sym _ _ new_are)
+          once,
+    );
+    vars_below = below_part old.vars hole.frames part.var part.kids t.part_is node old.body m t.body_is e2 wf.vars_below
+        fresh.vars_below;
     equations_below = wf.equations_below;
   }
     where
       no_root : Has old.root (leaves m) → ⊥
       no_root h = ⊎_elim
-          (λ x. has_lacks old.root (leaves old.body) (ls.leaves_of old.root (fresh.fresh old.root x (inl refl))) wf.distinct.0)
+          (λ x. has_lacks old.root (leaves old.body) (ls.leaves_of old.root (fresh.fresh old.root x (inl refl)))
+          wf.distinct.0)
           (λ x. has_lacks old.root (leaves old.body) (rest_in_body old.root x) wf.distinct.0)
           (Has-append_cases old.root (leaves node) rest (Has-IsPermutation old.root _ _ new_are h))
 
@@ -178,17 +225,22 @@ module _ (set : List ℕ) (old : PQTree) (wf : IsWellFormed old) (ls : IsLeafSet
           (λ d h. Lacks-from d rest (λ x. rest_not_node d x h))
 
   module _ (may : ℕ → Bool → Bool) where
-    read_old : (word : List ℕ) → Reads may old.body word → HasReading may part.var part.kids old.body m node word
-    read_old word r = has_reading may hole.frames part.kids old.body m node t.body_is e2 part.var t.part_is word r
+    -- readings of the old body
+    read_old : (word : List ℕ) → Reads may old.body word → RoundPart may part.var part.kids old.body m node word
+    read_old word r = round_part may hole.frames part.kids old.body m node t.body_is e2 part.var t.part_is word r
 
+    -- readings of the new body
     read_new : AllowsBelow old.vars may → (word : List ℕ) → Reads may m word
-        → HasNode may part.var part.kids old.body node word
+        → RoundNode may part.var part.kids old.body node word
     read_new allows word r =
-        has_node may hole.frames part.kids old.body m node t.body_is e2 old.vars allows (below_inner old.vars hole.frames part.kids old.body t.body_is wf.vars_below) part.var t.part_is word r
+        round_node may hole.frames part.kids old.body m node t.body_is e2 old.vars allows
+        (below_inner old.vars hole.frames part.kids old.body t.body_is wf.vars_below) part.var t.part_is word r
 
+    -- the run has the leaves of the set
     run_is : (u : List ℕ) → reading_of may part.var part.kids u → IsPermutation set u
     run_is u r = IsPermutation-trans _ _ _ t.set_is (part_leaves may part.var part.kids u r)
 
+  -- the part is replaced by the node
   pub replaced : IsReplaced set node old new part
   replaced = record {
     keeps = λ order bits h.
@@ -200,18 +252,41 @@ module _ (set : List ℕ) (old : PQTree) (wf : IsWellFormed old) (ls : IsLeafSet
           order_is = h.order_is ∙ ap (λ z. old.root ∷ z) g.is;
           run_is = run_is (given bits) g.run g.reads;
           reads = g.reads;
-          again = λ u r. record { word = g.before ++ (u ++ g.after); order_is = refl; bits_count = h.bits_count; reads = g.again (inr (given_one bits)) u r; met = h.met };
-          exchanged = λ u r. record { word = g.before ++ (u ++ g.after); order_is = refl; bits_count = h.bits_count; reads = g.exchanged u r; met = h.met };
+          again = λ u r. record {
+            word = g.before ++ (u ++ g.after);
+            order_is = refl;
+            bits_count = h.bits_count;
+            reads = g.again (inr (given_one bits)) u r;
+            met = h.met;
+          };
+          exchanged = λ u r. record {
+            word = g.before ++ (u ++ g.after);
+            order_is = refl;
+            bits_count = h.bits_count;
+            reads = g.exchanged u r;
+            met = h.met;
+          };
         };
     only = λ order bits h.
-        let g = read_new (given bits) (λ v lt. (bit_of bits v, given_from bits v (subst (λ z. v < z) (sym h.bits_count) lt))) h.word h.reads in
+        let g = read_new (given bits)
+        (λ v lt. (bit_of bits v, given_from bits v (subst (λ z. v < z) (sym h.bits_count) lt))) h.word h.reads in
         record {
           before = old.root ∷ g.before;
           run = g.run;
           after = g.after;
           order_is = h.order_is ∙ ap (λ z. old.root ∷ z) g.is;
           reads = g.reads;
-          taken = (g.taken.0, g.taken.1, record { word = g.before ++ (g.taken.0 ++ g.after); order_is = refl; bits_count = h.bits_count; reads = g.taken.2; met = h.met });
+          taken = (
+            g.taken.0,
+            g.taken.1,
+            record {
+              word = g.before ++ (g.taken.0 ++ g.after);
+              order_is = refl;
+              bits_count = h.bits_count;
+              reads = g.taken.2;
+              met = h.met;
+            },
+          );
         };
     shape_keeps = λ order h.
         let g = read_old any_bit h.0 h.2 in
@@ -263,14 +338,18 @@ module _ (set : List ℕ) (old : PQTree) (wf : IsWellFormed old) (ls : IsLeafSet
     (t : IsTakenOut set old hole part) (node : Node) (fresh : IsFreshNode set node old) (new : PQTree)
     (eb : new.body ∷ [] ≡ fill hole.frames (node ∷ [])) (er : new.root ≡ hole.root) (ev : new.vars ≡ hole.vars)
     (ee : new.equations ≡ hole.equations) where
+  -- the tree by its parts
   parts_are : new ≡ make_tree old.root new.body old.vars old.equations
   parts_are = ap (λ z. make_tree z new.body new.vars new.equations) (er ∙ t.root_is)
       ∙ ap (λ z. make_tree old.root new.body z new.equations) (ev ∙ t.vars_are)
       ∙ ap (λ (z : List Equation). make_tree old.root new.body old.vars z) (ee ∙ t.equations_are)
 
+  -- the part is replaced by the node
   pub replaced_tree : IsReplaced set node old new part
   replaced_tree =
-      subst (λ z. IsReplaced set node old z part) (sym parts_are) (replaced set old wf ls hole part t node fresh new.body eb)
+      subst (λ z. IsReplaced set node old z part) (sym parts_are)
+      (replaced set old wf ls hole part t node fresh new.body eb)
 
+  -- and it is a tree
   pub tree_formed : IsWellFormed new
   tree_formed = subst IsWellFormed (sym parts_are) (replaced_formed set old wf ls hole part t node fresh new.body eb)

@@ -14,7 +14,9 @@ use Rattle.cp_pq.specs.Steps.{count_in, IsStep, IsPlace}
 use Rattle.cp_pq.proofs.LeafSets.{lacks_outside, set_count}
 
 pub root_apart : (set : List ℕ) (tree : PQTree) → IsWellFormed tree → IsLeafSet set tree → outside set tree.root ≡ true
-root_apart set tree wf s = lacks_outside set tree.root (Lacks-from tree.root set (λ h. has_lacks tree.root (leaves tree.body) (s.leaves_of tree.root h) wf.distinct.0))
+root_apart set tree wf s =
+    lacks_outside set tree.root
+    (Lacks-from tree.root set (λ h. has_lacks tree.root (leaves tree.body) (s.leaves_of tree.root h) wf.distinct.0))
 
 pub whole_count : (set : List ℕ) (tree : PQTree) → IsWellFormed tree → IsLeafSet set tree
     → count_in (inside set) tree.body ≡ length set
@@ -28,7 +30,8 @@ some_items (x ∷ set) some = omega arith
 -- what the step on the body says
 pub step_is : (set : List ℕ) (tree : PQTree) (total : ℕ) (step : Step) → IsWellFormed tree → IsLeafSet set tree
     → total ≡ length set
-    → (IsStrictlyIncreasing set → is_branching tree.body ≡ true → 0 < total → count_in (inside set) tree.body ≤ total → IsStep (outside set) (inside set) total tree.body step)
+    → (IsStrictlyIncreasing set → is_branching tree.body ≡ true → 0 < total → count_in (inside set) tree.body ≤ total
+    → IsStep (outside set) (inside set) total tree.body step)
     → IsStep (outside set) (inside set) total tree.body step × (count_in (inside set) tree.body ≡ total)
 step_is set tree total step wf s e f =
     let a = whole_count set tree wf s in

@@ -25,13 +25,18 @@ module _ (may : ℕ → Bool → Bool) where
   row_back [] xs r = ([], none)
   row_back (k ∷ ks) xs r =
       let h = ReadsAll_cons may k ks xs r in
-      let g = row_back ks h.1 h.4 in
-      (g.0 ++ h.0, subst (λ z. ReadsAll may z (g.0 ++ h.0)) (sym (reverse-append (k ∷ []) ks)) (ReadsAll_join may (reverse ks) (k ∷ []) g.0 h.0 g.1 (one_ReadsAll may k h.0 h.3)))
+      let g = row_back ks h.1 h.4 in (
+        g.0 ++ h.0,
+        subst (λ z. ReadsAll may z (g.0 ++ h.0)) (sym (reverse-append (k ∷ []) ks))
+            (ReadsAll_join may (reverse ks) (k ∷ []) g.0 h.0 g.1 (one_ReadsAll may k h.0 h.3)),
+      )
 
   module _ (m : ℕ) (allows : AllowsBelow m may) where
+    -- a node with vars below m has a reading
     abbrev HasReading : Node → Type 0
     HasReading n = has_vars_below m n ≡ true → (xs : List ℕ) × Reads may n xs
 
+    -- kids with readings have one as a row
     kids_reading : (es : List ((n : Node) × HasReading n)) → list_all (has_vars_below m) (map (λ e. e.0) es) ≡ true
         → (xs : List ℕ) × ReadsAll may (map (λ e. e.0) es) xs
     kids_reading [] h = ([], none)
@@ -40,6 +45,7 @@ module _ (may : ℕ → Bool → Bool) where
         let a = e.1 g.0 in let b = kids_reading es g.1 in
         (a.0 ++ b.0, more e.0 (map (λ d. d.0) es) a.0 b.0 a.1 b.1)
 
+    -- each node with vars below m has a reading
     pub some_reading : (n : Node) → HasReading n
     some_reading = ind-Node HasReading step
       where
@@ -48,13 +54,16 @@ module _ (may : ℕ → Bool → Bool) where
         Q_reading v ks xs false e r = (xs, forward v ks xs e r)
         Q_reading v ks xs true e r = let g = row_back ks xs r in (g.0, backward v ks g.0 e g.1)
 
-        step : (x : Node-F Node) (y : Node-F ((n : Node) × HasReading n)) → map-Node ((n : Node) × HasReading n) Node (λ e. e.0) y ≡ x
+        step : (x : Node-F Node) (y : Node-F ((n : Node) × HasReading n))
+            → map-Node ((n : Node) × HasReading n) Node (λ e. e.0) y ≡ x
             → HasReading (roll-Node x)
-        step x (Node-F.Leaf v) e = subst (λ z. HasReading (roll-Node z)) e (subst HasReading (sym (rolls-Leaf v)) (λ h. (v ∷ [], leaf v)))
+        step x (Node-F.Leaf v) e =
+            subst (λ z. HasReading (roll-Node z)) e (subst HasReading (sym (rolls-Leaf v)) (λ h. (v ∷ [], leaf v)))
         step x (Node-F.P o es) e =
             let ks = map (λ d. d.0) es in
             subst (λ z. HasReading (roll-Node z)) e (subst HasReading (sym (rolls-P o ks))
-            (λ h. let g = kids_reading es (sym (below_P m o ks) ∙ h) in (g.0, any_order o ks ks g.0 (IsPermutation-refl ks) g.1)))
+            (λ h. let g = kids_reading es (sym (below_P m o ks) ∙ h) in
+            (g.0, any_order o ks ks g.0 (IsPermutation-refl ks) g.1)))
         step x (Node-F.Q v es) e =
             let ks = map (λ d. d.0) es in
             subst (λ z. HasReading (roll-Node z)) e (subst HasReading (sym (rolls-Q v ks))

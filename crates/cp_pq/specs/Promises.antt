@@ -140,8 +140,8 @@ pub record IsReplaced (set : List ℕ) (node : Node) (old new : PQTree) (part : 
   pub leaves_exchanged : ExchangesLeaves set (leaves node) (leaves old.body) (leaves new.body)
   pub owners : ExchangesOwners set node old.body new.body
 
--- a node that may be put into the tree in place of the set: its leaves are distinct and, but for those of the set, none of
--- them is in the tree; its vars are vars of the tree, and its inner nodes have at least two kids
+-- a node that may be put into the tree in place of the set: its leaves are distinct and, but for those of the set, none
+-- of them is in the tree; its vars are vars of the tree, and its inner nodes have at least two kids
 pub record IsFreshNode (set : List ℕ) (node : Node) (tree : PQTree) : Type 0 where
   pub branching : is_branching node ≡ true
   pub distinct : Distinct (leaves node)

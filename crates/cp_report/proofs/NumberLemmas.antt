@@ -14,33 +14,44 @@ use Rattle.cp_report.specs.Texts.{dart_text}
 use Rattle.cp_report.specs.Reading.{Lacks, IsPlain}
 use Rattle.cp_report.proofs.CutLemmas.{lacks-append}
 
+-- decimal digits are a model of numbers
 pub own : IsNumeralModel (AllDigits 10) (digits_value 10)
 own = numerals_by_value (AllDigits 10) tells_digits
 
+-- digits lack each byte that is no digit
 lacks_digits : (c : ℕ) (ds : List ℕ) → (c < 48) ⊎ (57 < c) → AllDigits 10 ds → Lacks c ds
 lacks_digits c [] h all = tt
 lacks_digits c (d ∷ ds) h all =
-    let range = digit_from_value d all.0 in
-    (elim h [ inl low ↦ λ e. absurd (omega (arith, range.0)) | inr high ↦ λ e. absurd (omega (arith, range.1)) ], lacks_digits c ds h all.1)
+    let range = digit_from_value d all.0 in (
+      elim h [ inl low ↦ λ e. absurd (omega (arith, range.0)) | inr high ↦ λ e. absurd (omega (arith, range.1)) ],
+      lacks_digits c ds h all.1,
+    )
 
 -- only digits stand in a decimal
 pub lacks-decimal : (c n : ℕ) → (c < 48) ⊎ (57 < c) → n < 2 ^ 64 → Lacks c (decimal n)
 lacks-decimal c n h small = lacks_digits c (decimal n) h (digits_decimal own n small)
 
+-- a number with a colon lacks each byte before the digits
 pub lacks-label : (c n : ℕ) → c < 48 → n < 2 ^ 64 → Lacks c (decimal n ++ 58 ∷ [])
-lacks-label c n low small = lacks-append c (decimal n) (58 ∷ []) (lacks-decimal c n (inl low) small) ((λ e. omega arith), tt)
+lacks-label c n low small = lacks-append c (decimal n) (58 ∷ []) (lacks-decimal c n (inl low) small)
+    ((λ e. omega arith), tt)
 
+-- the letter of an end is no byte before the digits
 letter_apart : (c : ℕ) (b : Bool) → c < 48 → cond b 115 116 ≢ c
 letter_apart c true low e = omega arith
 letter_apart c false low e = omega arith
 
+-- the text of a dart lacks each byte before the digits
 pub lacks-dart : (c dart : ℕ) → c < 48 → dart < 2 ^ 33 → Lacks c (dart_text dart)
 lacks-dart c dart low small =
-    lacks-append c (decimal (dart / 2)) _ (lacks-decimal c (dart / 2) (inl low) (omega arith)) (letter_apart c (eqb (dart % 2) 0) low, tt)
+    lacks-append c (decimal (dart / 2)) _ (lacks-decimal c (dart / 2) (inl low) (omega arith))
+    (letter_apart c (eqb (dart % 2) 0) low, tt)
 
+-- the letter of an end of an edge
 letter : ℕ → ℕ
 letter end = cond (eqb end 0) 115 116
 
+-- the letter tells the end
 letter_tells : (a b : ℕ) → a < 2 → b < 2 → letter a ≡ letter b → a ≡ b
 unfolding letter
 letter_tells a b la lb h = grind (arith, nat_tests)
@@ -54,6 +65,7 @@ dart_text_injective a b la lb h =
     let end = letter_tells (a % 2) (b % 2) (omega arith) (omega arith) same.1 in
     omega arith
 
+-- a number of two digits or more does not begin with a zero
 long_decimal : (n x y : ℕ) (ys : List ℕ) → n < 2 ^ 32 → x ∷ y ∷ ys ≡ decimal n → 48 < x
 long_decimal zero x y ys small h =
     let one : x ∷ y ∷ ys ≡ 48 ∷ [] = h ∙ decimal_digit 0 (omega arith) in
@@ -62,6 +74,7 @@ long_decimal (suc n) x y ys small h =
     let first = first_decimal (suc n) (omega arith) (omega arith) in
     omega (arith, first, ap (λ t. get_or t 0 0) h)
 
+-- a number begins with a digit
 first_in_range : (n x : ℕ) (xs : List ℕ) → n < 2 ^ 32 → x ∷ xs ≡ decimal n → (48 ≤ x) × (x ≤ 57)
 first_in_range n x xs small h =
     let all : AllDigits 10 (x ∷ xs) = subst (AllDigits 10) (sym h) (digits_decimal own n (omega arith)) in
@@ -73,40 +86,55 @@ plain-decimal n [] small h = absurd (omega (arith, decimal_nonempty n (omega ari
 plain-decimal n (x ∷ []) small h = first_in_range n x [] small h
 plain-decimal n (x ∷ y ∷ ys) small h = (long_decimal n x y ys small h, (first_in_range n x (y ∷ ys) small h).1)
 
+-- a plain number has no sign
 no_plus : (text : List ℕ) → IsPlain text → get_or text 0 0 ≢ 43
 no_plus [] plain e = plain
 no_plus (x ∷ []) plain e = omega arith
 no_plus (x ∷ y ∷ ys) plain e = omega arith
 
+-- a plain number that begins with a zero is zero
 lone_zero : (text : List ℕ) → IsPlain text → get_or text 0 0 ≡ 48 → length text ≡ 1
 lone_zero [] plain e = absurd plain
 lone_zero (x ∷ []) plain e = refl
 lone_zero (x ∷ y ∷ ys) plain e = absurd (omega arith)
 
 -- what is parsed of such a front is the number that is spelled
-pub number_read : {E : Type 0} (text : List ℕ) (r : Result ℕ E) → IsPlain text → ParsesUnsigned 32 10 text r → MatchOption (result_ok r) ((n : ℕ) → n < 2 ^ 32 → text ≡ decimal n → ⊥) (λ n. (n < 2 ^ 32) × (text ≡ decimal n))
+pub number_read : {E : Type 0} (text : List ℕ) (r : Result ℕ E) → IsPlain text → ParsesUnsigned 32 10 text r
+    → MatchOption (result_ok r) ((n : ℕ) → n < 2 ^ 32 → text ≡ decimal n → ⊥) (λ n. (n < 2 ^ 32) × (text ≡ decimal n))
 number_read {E} text (Ok x) plain h =
     let told = parse_plain own {E = E} 32 text (Ok x) h (no_plus text plain) in
-    let below : x < 2 ^ 32 = subst (λ n. n < 2 ^ 32) (sym told.1) told.0.2 in
-    (below, sym (ap decimal told.1 ∙ decimal-digits_value own text told.0.0 told.0.1 (lone_zero text plain) (omega (arith, told.0.2))))
-number_read text (Err e) plain h = λ n small spelled. let no = parse-decimal 32 n text (Err e) small (omega arith) spelled h in absurd cc
+    let below : x < 2 ^ 32 = subst (λ n. n < 2 ^ 32) (sym told.1) told.0.2 in (
+      below,
+      sym (ap decimal told.1
+          ∙ decimal-digits_value own text told.0.0 told.0.1 (lone_zero text plain) (omega (arith, told.0.2))),
+    )
+number_read text (Err e) plain h = λ n small spelled. let no =
+    parse-decimal 32 n text (Err e) small (omega arith) spelled h in absurd cc
 
 -- a decimal is a text
 pub utf8-decimal : (n : ℕ) (text : List ℕ) → n < 2 ^ 32 → text ≡ decimal n → IsUtf8 text
 utf8-decimal n text small h = subst IsUtf8 (sym h) (IsUtf8-from_ascii (decimal n) (IsAscii-decimal n (omega arith)))
 
-pub failed : {T E : Type 0} (r : Result T E) (P : T → Type 0) (Q : E → Type 0) → None ≡ result_ok r → MatchResult r P Q → (e : E) × Q e
+-- an answer that is none is an error with its cause
+pub failed : {T E : Type 0} (r : Result T E) (P : T → Type 0) (Q : E → Type 0) → None ≡ result_ok r → MatchResult r P Q
+    → (e : E) × Q e
 failed (Ok x) P Q h m = absurd cc
 failed (Err e) P Q h m = (e, m)
 
-pub went_well : {T E : Type 0} (r : Result T E) (x : T) (P : T → Type 0) (Q : E → Type 0) → Some x ≡ result_ok r → MatchResult r P Q → P x
+-- an answer that is some is that value
+pub went_well : {T E : Type 0} (r : Result T E) (x : T) (P : T → Type 0) (Q : E → Type 0) → Some x ≡ result_ok r
+    → MatchResult r P Q → P x
 went_well (Ok y) x P Q h m =
     let same : y ≡ x = cc in
     subst P same m
 went_well (Err e) x P Q h m = absurd cc
 
-pub label_tells : (found number : ℕ) (word : List ℕ) → (found < 2 ^ 32) × (word ≡ decimal found ++ 58 ∷ []) → (IsTrue (eqb found number) → (number < 2 ^ 32) × (word ≡ decimal number ++ 58 ∷ [])) × ((number < 2 ^ 32) × (word ≡ decimal number ++ 58 ∷ []) → IsTrue (eqb found number))
+-- the label of a line tells its number
+pub label_tells : (found number : ℕ) (word : List ℕ) → (found < 2 ^ 32) × (word ≡ decimal found ++ 58 ∷ [])
+    → (IsTrue (eqb found number) → (number < 2 ^ 32) × (word ≡ decimal number ++ 58 ∷ []))
+    × ((number < 2 ^ 32) × (word ≡ decimal number ++ 58 ∷ []) → IsTrue (eqb found number))
 label_tells found number word h = (
   λ same. subst (λ n. (n < 2 ^ 32) × (word ≡ decimal n ++ 58 ∷ [])) (eqb-true found number same) h,
-  λ k. eq-eqb found number (decimal_injective found number (omega (arith, h.0)) (omega (arith, k.0)) (same_from_push (decimal found) (decimal number) 58 58 (sym h.1 ∙ k.1)).0),
+  λ k. eq-eqb found number (decimal_injective found number (omega (arith, h.0)) (omega (arith, k.0))
+      (same_from_push (decimal found) (decimal number) 58 58 (sym h.1 ∙ k.1)).0),
 )

@@ -1,5 +1,6 @@
 -- what contracts rest on
 pub mod Texts
+pub mod Kinds
 pub mod Faults
 -- what functions inside promise each other
 pub mod Reading

@@ -2,6 +2,8 @@
 use Rattle.std.specs.Prelude.{◌≡◌, ◌≢◌, ℕ, ◌+◌, ◌^◌, ◌<◌, ◌≤◌, ◌==◌, codes, List, [], ◌∷◌, ◌++◌, length}
 use Rattle.std.specs.List.{AllByRecursion, slice_split}
 use Rattle.std.specs.Fmt.{decimal}
+use Rattle.cp_report.specs.declared.kind.ReportKind.{ReportKind}
+use Rattle.cp_report.specs.declared.kind.ReportKind.TheVariants.{WrongLine, NoLine}
 use Rattle.cp_report.specs.declared.row.Row.{Row}
 use Rattle.cp_report.specs.declared.row.Row.TheVariants.{Nodes, Clusters}
 use Rattle.cp_report.specs.Texts.{dart_text, list_line, numbered, text_of}
@@ -14,6 +16,7 @@ Lacks byte bytes = AllByRecursion (λ b. b ≢ byte) bytes
 unfoldable pub words : List ℕ → List (List ℕ)
 words bytes = slice_split (λ byte. byte == 32) bytes
 
+-- the first word of a line
 abbrev pub row_key : Row → List ℕ
 row_key Nodes = codes "node"
 row_key Clusters = codes "cluster"
@@ -28,6 +31,7 @@ abbrev pub row_limit : Row → ℕ
 row_limit Nodes = 2 ^ 33
 row_limit Clusters = 2 ^ 32
 
+-- the line of a list
 abbrev pub row_line : Row → ℕ → List ℕ → List ℕ
 row_line row = list_line (row_key row) (row_item row)
 
@@ -49,7 +53,8 @@ pub record AreListLines (row : Row) (first : ℕ) (text : List ℕ) (lists : Lis
 
 -- no line of this number stands at the front
 abbrev pub HasNoRow : Row → ℕ → List ℕ → Type 0
-HasNoRow row number text = (items after : List ℕ) → number < 2 ^ 32 → AreItems row items → text ≡ row_line row number items ++ 10 ∷ after → ⊥
+HasNoRow row number text = (items after : List ℕ) → number < 2 ^ 32 → AreItems row items
+    → text ≡ row_line row number items ++ 10 ∷ after → ⊥
 
 -- the front of a number: a zero alone, or another digit
 abbrev pub IsPlain : List ℕ → Type 0
@@ -57,17 +62,19 @@ IsPlain [] = ⊥
 IsPlain (first ∷ []) = (48 ≤ first) × (first ≤ 57)
 IsPlain (first ∷ second ∷ rest) = (49 ≤ first) × (first ≤ 57)
 
--- a line that is none of those due stands at the front (kind 3), or no whole line (kind 4)
-pub data IsLate (rest : List ℕ) (kind : ℕ) : Type 0 where
-  other_line : (line after : List ℕ) → Lacks 10 line → rest ≡ line ++ 10 ∷ after → kind ≡ 3 → IsLate rest kind
-  no_line : Lacks 10 rest → kind ≡ 4 → IsLate rest kind
+-- a line that is none of those due stands at the front, or no whole line
+pub data IsLate (rest : List ℕ) (kind : ReportKind) : Type 0 where
+  other_line : (line after : List ℕ) → Lacks 10 line → rest ≡ line ++ 10 ∷ after → kind ≡ WrongLine → IsLate rest kind
+  no_line : Lacks 10 rest → kind ≡ NoLine → IsLate rest kind
 
 -- the text behind the heading, and behind a verdict
 abbrev pub behind_heading : List ℕ → List ℕ
 behind_heading bytes = text_of (codes "cplan-report 1" ∷ []) ++ bytes
 
+-- the text behind the verdict `yes`
 abbrev pub behind_yes : List ℕ → List ℕ
 behind_yes bytes = text_of (codes "cplan-report 1" ∷ codes "yes" ∷ []) ++ bytes
 
+-- the text behind the verdict `no`
 abbrev pub behind_no : List ℕ → List ℕ
 behind_no bytes = text_of (codes "cplan-report 1" ∷ codes "no" ∷ []) ++ bytes

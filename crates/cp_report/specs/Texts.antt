@@ -29,7 +29,8 @@ numbered line number (items ∷ lists) = line number items ∷ numbered line (nu
 
 -- the lines of a report, without the line feeds that end them
 abbrev pub report_lines : Report → List (List ℕ)
-report_lines (Yes layout) = codes "cplan-report 1" ∷ codes "yes" ∷ numbered node_line 0 layout.nodes ++ numbered cluster_line 1 layout.clusters ++ codes "end" ∷ []
+report_lines (Yes layout) = codes "cplan-report 1" ∷ codes "yes" ∷ numbered node_line 0 layout.nodes ++ numbered
+    cluster_line 1 layout.clusters ++ codes "end" ∷ []
 report_lines No = codes "cplan-report 1" ∷ codes "no" ∷ codes "end" ∷ []
 
 -- each line, ended by a line feed
@@ -47,6 +48,7 @@ pub record IsLayoutWithinLimits (layout : Layout) : Type 0 where
   pub clusters : length layout.clusters < 2 ^ 32
   pub edges : AllByRecursion (AllByRecursion (λ edge. edge < 2 ^ 32)) layout.clusters
 
+-- each number that is printed is within the limits
 abbrev pub IsWithinLimits : Report → Type 0
 IsWithinLimits (Yes layout) = IsLayoutWithinLimits layout
 IsWithinLimits No = Unit {0}

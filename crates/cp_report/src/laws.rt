@@ -1,6 +1,7 @@
 // What holds of all texts of reports.
 ghost use Rattle.std.specs.Prelude.{◌≡◌, ◌⊎◌, ◌++◌, ℕ, List};
 ghost use Rattle.cp_report.specs.declared.report.Report.{Report as AnyReport};
+ghost use Rattle.cp_report.specs.declared.kind.ReportKind.{ReportKind as AnyKind};
 ghost use Rattle.cp_report.specs.Faults.{IsFaultOf};
 ghost use Rattle.cp_report.specs.Texts.{BeginsWith, IsWithinLimits, report_text};
 
@@ -10,7 +11,7 @@ ghost use Rattle.cp_report.specs.Texts.{BeginsWith, IsWithinLimits, report_text}
 /// at the front.
 pub fn one_reading()
     ensures reports { (r s : AnyReport) (a b : List ℕ) → IsWithinLimits r → IsWithinLimits s → report_text r ++ a ≡ report_text s ++ b → (r ≡ s) × (a ≡ b) }
-    ensures apart { (r : AnyReport) (a bytes : List ℕ) (kind line : ℕ) → IsWithinLimits r → bytes ≡ report_text r ++ a → IsFaultOf bytes kind line → ⊥ }
-    ensures some { (bytes : List ℕ) → ¬ (((r : AnyReport) × (n : ℕ) × BeginsWith bytes r n) ⊎ ((kind : ℕ) × (line : ℕ) × IsFaultOf bytes kind line)) → ⊥ }
-    ensures faults { (bytes : List ℕ) (k a l b : ℕ) → IsFaultOf bytes k a → IsFaultOf bytes l b → (k ≡ l) × (a ≡ b) }
+    ensures apart { (r : AnyReport) (a bytes : List ℕ) (kind : AnyKind) (line : ℕ) → IsWithinLimits r → bytes ≡ report_text r ++ a → IsFaultOf bytes kind line → ⊥ }
+    ensures some { (bytes : List ℕ) → ¬ (((r : AnyReport) × (n : ℕ) × BeginsWith bytes r n) ⊎ ((kind : AnyKind) × (line : ℕ) × IsFaultOf bytes kind line)) → ⊥ }
+    ensures faults { (bytes : List ℕ) (k : AnyKind) (a : ℕ) (l : AnyKind) (b : ℕ) → IsFaultOf bytes k a → IsFaultOf bytes l b → (k ≡ l) × (a ≡ b) }
 {}

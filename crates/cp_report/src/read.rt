@@ -5,6 +5,7 @@ ghost use Rattle.cp_report.specs.Faults.{IfBad, IsFaultOf};
 ghost use Rattle.cp_report.specs.Reading.{AreItems, row_item, row_key, IsListLine, AreListLines, HasNoRow, IsLate, behind_heading, behind_no, behind_yes};
 ghost use Rattle.cp_report.specs.Texts.{BeginsWith, IsWithinLimits, report_text};
 
+use crate::kind::ReportKind;
 use crate::number::{is_label, item_of};
 use crate::report::{Report, ReportFault};
 use crate::row::{Row, key_of};
@@ -74,12 +75,12 @@ fn read_rows(
 }
 
 /// The kind of the fault where a line is due that is not there: another whole line, or none.
-fn late_kind(bytes: &[u8]) -> u8
+fn late_kind(bytes: &[u8]) -> ReportKind
     ensures { IsLate bytes.now result }
 {
     match cut(bytes, b'\n') {
-        Some(_) => 3,
-        None => 4,
+        Some(_) => ReportKind::WrongLine,
+        None => ReportKind::NoLine,
     }
 }
 
@@ -93,7 +94,7 @@ fn read_layout(alloc: Global, bytes: &[u8]) -> Result<(Layout, &[u8]), ReportFau
     match after_line(rest, b"end") {
         Some(after) => Ok((Layout { nodes, clusters }, after)),
         None => Err(ReportFault::Bad {
-            kind: late_kind(rest),
+            kind: late_kind(rest).number(),
             line: nodes.len() + clusters.len() + 3,
         }),
     }
@@ -107,7 +108,7 @@ fn read_no(bytes: &[u8]) -> Result<&[u8], ReportFault>
     match after_line(bytes, b"end") {
         Some(rest) => Ok(rest),
         None => Err(ReportFault::Bad {
-            kind: late_kind(bytes),
+            kind: late_kind(bytes).number(),
             line: 3,
         }),
     }
@@ -129,7 +130,10 @@ fn read_verdict(alloc: Global, bytes: &[u8]) -> Result<(Report, &[u8]), ReportFa
             Ok(after) => Ok((Report::No, after)),
             Err(fault) => Err(fault),
         },
-        None => Err(ReportFault::Bad { kind: 2, line: 2 }),
+        None => Err(ReportFault::Bad {
+            kind: ReportKind::NoVerdict.number(),
+            line: 2,
+        }),
     }
 }
 
@@ -141,7 +145,10 @@ pub fn read_report(alloc: Global, bytes: &[u8]) -> Result<(Report, usize), Repor
     ensures fault { IfErr result (λ e. IfBad e (IsFaultOf bytes.now)) }
 {
     let Some(rest) = after_line(bytes, b"cplan-report 1") else {
-        return Err(ReportFault::Bad { kind: 1, line: 1 });
+        return Err(ReportFault::Bad {
+            kind: ReportKind::NoHeading.number(),
+            line: 1,
+        });
     };
     match read_verdict(alloc, rest) {
         Ok((report, after)) => Ok((report, bytes.len() - after.len())),

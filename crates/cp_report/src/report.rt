@@ -17,8 +17,9 @@ pub enum Report {
 #[derive(Clone, Copy, Debug, PartialEq, Eq, Error)]
 pub enum ReportFault {
     /// The text is wrong or cut off at the line `line`, where the first line of the bytes is line 1.
-    /// Kind 1: it is not the heading. Kind 2: it is neither `yes` nor `no`. Kind 3: it is a whole
-    /// line that cannot follow the lines before it. Kind 4: it is missing, or lacks its line feed.
+    /// `kind` is the number of a `ReportKind`. Kind 1: it is not the heading. Kind 2: it is neither `yes`
+    /// nor `no`. Kind 3: it is a whole line that cannot follow the lines before it. Kind 4: it is missing,
+    /// or lacks its line feed.
     #[error("bad report {kind} line {line}")]
     Bad { kind: u8, line: usize },
     /// An allocation failed.

@@ -67,6 +67,7 @@ fn reports_are_read_and_faults_told(rt: HostRuntime) -> Result<(), Fail> {
         let fault = read_report(rt.alloc(), text.as_bytes()).err();
         assert_eq!(rt; fault, Some(ReportFault::Bad { kind, line }), "at {text}");
     }
+    one_reading();
     Ok(())
 }
 

@@ -27,3 +27,8 @@ pub mod PermutedPoles
 pub mod PoleParts
 pub mod PermutedSystems
 pub mod PoleRows
+pub mod SideSteps
+pub mod SideMerging
+pub mod SideEnds
+pub mod SideCorners
+pub mod SideCode

@@ -40,7 +40,7 @@ two_removed n u v es ltu ltv =
     ∙ ap (without_vertex u) (one_removed n v es ltv)
 
 -- a dart and its twin are of one edge, and two darts of one edge are equal or twins
-half_cases : (d f : ℕ) → d / 2 ≡ f / 2 → (f ≡ d) ⊎ (f ≡ twin d)
+pub half_cases : (d f : ℕ) → d / 2 ≡ f / 2 → (f ≡ d) ⊎ (f ≡ twin d)
 half_cases d f same = ⊎_elim
     (λ even. ⊎_elim (λ e. inl (omega (arith, e, even, same)))
     (λ o. inr (omega (arith, o, even, same, twin_even d even)))

@@ -7,3 +7,5 @@ pub mod StarParts
 pub mod Restrictions
 pub mod Poles
 pub mod PoleClasses
+pub mod SideOrders
+pub mod SideStates

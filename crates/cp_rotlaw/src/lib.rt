@@ -17,6 +17,8 @@ mod tests_glue;
 #[cfg(test)]
 mod tests_merge;
 #[cfg(test)]
+mod tests_poles;
+#[cfg(test)]
 mod tests_star;
 #[cfg(test)]
 mod tests_systems;

@@ -26,7 +26,9 @@ use Rattle.cp_maps.proofs.ListFacts.{has_yes}
 use Rattle.cp_maps.proofs.MapLists.{IsMapOf-other}
 use Rattle.cp_maps.proofs.Rings.{Ring-turned, Rings-append}
 use Rattle.cp_skel.specs.SkeletonLists.{border_pair, in_dart, inner_clusters, out_dart, skeleton_lists}
-use Rattle.cp_skel.specs.Skeletons.{Child, IsVertex, Node, Outside, Vertex, dart_vertex, kept_segments, vertex_name}
+use Rattle.cp_skel.specs.declared.vertex.Vertex.{Vertex}
+use Rattle.cp_skel.specs.declared.vertex.Vertex.TheVariants.{Child, Node, Outside}
+use Rattle.cp_skel.specs.Skeletons.{IsVertex, dart_vertex, kept_segments, vertex_name}
 use Rattle.cp_skel.specs.VertexLists.{Agree, keeps, kept_list, stock_dart, stock_list, vertex_list}
 use Rattle.cp_skel.proofs.ClosedBorders.{inner_cluster}
 use Rattle.cp_skel.proofs.DartVertices.{end_dart-StandsAt, in_dart-StandsAt, out_dart-StandsAt}

@@ -12,7 +12,9 @@ use Rattle.cp_border.proofs.Darts.{segment_size, segment_sizes, toward_source, t
 use Rattle.cp_border.proofs.Numbering.{piece_at}
 use Rattle.cp_border.proofs.Rotation.{IsCrossing, crossing_of, end_source, end_target}
 use Rattle.cp_skel.specs.SkeletonLists.{crossing_place, dart_before, dart_behind, in_dart, out_dart}
-use Rattle.cp_skel.specs.Skeletons.{Child, Node, Outside, Vertex, begins_at_border, dart_vertex, edge_vertices, ends_at_border, kept_segments}
+use Rattle.cp_skel.specs.declared.vertex.Vertex.{Vertex}
+use Rattle.cp_skel.specs.declared.vertex.Vertex.TheVariants.{Child, Node, Outside}
+use Rattle.cp_skel.specs.Skeletons.{begins_at_border, dart_vertex, edge_vertices, ends_at_border, kept_segments}
 use Rattle.cp_skel.proofs.KeptSegments.{IsSegmentOf, segment-kept}
 
 -- two items for each of a list

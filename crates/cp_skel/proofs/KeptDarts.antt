@@ -8,7 +8,8 @@ use Rattle.cp_border.specs.Borders.{crossed, end_dart, first_segment}
 use Rattle.cp_border.proofs.Darts.{toward_source, toward_target}
 use Rattle.cp_border.proofs.Rotation.{IsCrossing, crossing_at, end_source, end_target}
 use Rattle.cp_skel.specs.SkeletonLists.{crossing_place, dart_before, dart_behind, in_dart, out_dart}
-use Rattle.cp_skel.specs.Skeletons.{Child, Node, Outside, begins_at_border, dart_vertex, ends_at_border, kept_segments}
+use Rattle.cp_skel.specs.declared.vertex.Vertex.TheVariants.{Child, Node, Outside}
+use Rattle.cp_skel.specs.Skeletons.{begins_at_border, dart_vertex, ends_at_border, kept_segments}
 use Rattle.cp_skel.proofs.DartVertices.{begins_vertex, ends_vertex, source_vertex, target_vertex}
 use Rattle.cp_skel.proofs.KeptSegments.{IsSegmentOf, kept-segment}
 use Rattle.cp_skel.proofs.VertexKinds.{kind, number}

@@ -25,7 +25,9 @@ use Rattle.cp_maps.specs.Genus.{IsFlat}
 use Rattle.cp_maps.specs.Maps.{IsMapOf, next_by}
 use Rattle.cp_maps.proofs.ListFacts.{has_yes}
 use Rattle.cp_skel.specs.SkeletonLists.{in_dart, out_dart}
-use Rattle.cp_skel.specs.Skeletons.{Child, IsVertex, Node, Outside, Vertex, all_vertices, dart_vertex, kept_segments, segment_name, skeleton_pipe, skeletons, vertex_name}
+use Rattle.cp_skel.specs.declared.vertex.Vertex.{Vertex}
+use Rattle.cp_skel.specs.declared.vertex.Vertex.TheVariants.{Child, Node, Outside}
+use Rattle.cp_skel.specs.Skeletons.{IsVertex, all_vertices, dart_vertex, kept_segments, segment_name, skeleton_pipe, skeletons, vertex_name}
 use Rattle.cp_skel.specs.VertexLists.{Agree, border_edges, keeps, kept_list, layout_list, stock_dart, stock_list}
 use Rattle.cp_skel.proofs.AgreeingLists.{IsMapOf-kept, IsMapOf-stock, stock-IsFlat, stock_lists}
 use Rattle.cp_skel.proofs.DartVertices.{StandsAt-kept, in_dart-StandsAt, out_dart-StandsAt}

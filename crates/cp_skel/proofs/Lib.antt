@@ -1,12 +1,14 @@
 -- Facts about the definitions, for callers.
-pub mod Skeletons
+pub mod PlanarSkeletons
 pub mod SkeletonRules
 pub mod SegmentNames
 pub mod VertexNames
 pub mod TurnedLayouts
 pub mod GoodLayouts
+pub mod ToldLists
 -- Lists of numbers, and maps of darts.
 mod Ranges
+mod GatheredLists
 mod TabledLists
 mod RisingLists
 mod Permutations
@@ -37,5 +39,16 @@ mod LayoutSolutions
 mod SolutionLists
 mod SolutionArranged
 mod SolutionGood
+-- What the functions write.
+mod KeptRules
+mod BorderPairs
+mod SegmentRows
+mod PipeRows
+mod NameTables
+mod LoopTables
+mod SolvedLists
+mod SolvedSteps
+mod SkeletonParts
+mod VertexOrder
 -- Examples.
 mod Examples

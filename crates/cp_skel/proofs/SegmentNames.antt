@@ -1,20 +1,17 @@
 -- The name of a segment by counting: the segments of the edges before that are no loops, and those before it along its
 -- edge.
 use Rattle.std.proofs.Common.{◌≡◌, ℕ, ◌+◌, ◌<◌, length, sym, ap, ◌∙◌, ⊎_elim, arith}
-use Rattle.std.specs.Prelude.{cond, eqb, slice_index_or}
+use Rattle.std.specs.Prelude.{eqb, slice_index_or}
 use Rattle.std.proofs.lemmas.Bool.{cases_eq, cond-false, cond-true, eq-eqb, ne_eqb}
 use Rattle.std.proofs.lemmas.List.FromFn.{get_or-range_with_len, length-range_with_len}
 use Rattle.cp_conn.specs.NamedGraphs.{rank}
 use Rattle.cp_cgraph.specs.Clustered.{Clustered, edges, source, target}
 use Rattle.cp_border.specs.Borders.{before, crossed, first_segment}
 use Rattle.cp_border.proofs.Numbering.{before_within, piece_at, pieces_length}
+use Rattle.cp_skel.specs.SkeletonTables.{kept_count}
 use Rattle.cp_skel.specs.Skeletons.{kept_segments, segments_of}
 use Rattle.cp_skel.proofs.KeptSegments.{IsSegmentOf, piece_kept, piece_loop}
 use Rattle.cp_skel.proofs.SkeletonGraph.{name_at}
-
--- how many segments of edge e are kept: all, or none where it is a loop
-abbrev pub kept_count : Clustered → ℕ → ℕ
-kept_count g e = cond (eqb (source g e) (target g e)) 0 (crossed g e + 1)
 
 -- as long is its piece
 length-piece : (g : Clustered) (e : ℕ) → length (segments_of g e) ≡ kept_count g e
@@ -26,7 +23,7 @@ length-piece g e = ⊎_elim
     (cases_eq (source g e) (target g e))
 
 -- the piece with a number that is written with a zero
-length-piece_at : (g : Clustered) (k : ℕ) → length (segments_of g (0 + k)) ≡ kept_count g k
+pub length-piece_at : (g : Clustered) (k : ℕ) → length (segments_of g (0 + k)) ≡ kept_count g k
 length-piece_at g k =
     ap (λ (m : ℕ). length (segments_of g m)) (let h : 0 + k ≡ k = omega arith in h) ∙ length-piece g k
 

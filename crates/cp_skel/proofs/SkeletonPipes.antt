@@ -13,7 +13,9 @@ use Rattle.cp_board.specs.declared.parts.Pipe.{Pipe}
 use Rattle.cp_cgraph.specs.Clustered.{Clustered, IsClustered, clusters, edges}
 use Rattle.cp_cgraph.specs.Crossings.{leaves}
 use Rattle.cp_skel.specs.SkeletonLists.{in_dart, out_dart}
-use Rattle.cp_skel.specs.Skeletons.{Child, Vertex, below, is_left, kept_segments, left, segment_name, skeleton_pipe, skeletons}
+use Rattle.cp_skel.specs.declared.vertex.Vertex.{Vertex}
+use Rattle.cp_skel.specs.declared.vertex.Vertex.TheVariants.{Child}
+use Rattle.cp_skel.specs.Skeletons.{below, is_left, kept_segments, left, segment_name, skeleton_pipe, skeletons}
 use Rattle.cp_skel.proofs.DartVertices.{StandsAt, StandsAt-kept, out_dart-StandsAt}
 use Rattle.cp_skel.proofs.KeptSegments.{segment_apart}
 use Rattle.cp_skel.proofs.Ranges.{Has-range, range-Has}

@@ -20,7 +20,9 @@ use Rattle.cp_cgraph.specs.Crossings.{leaves}
 use Rattle.cp_border.specs.Borders.{crossed, first_segment}
 use Rattle.cp_border.proofs.Numbering.{before_next}
 use Rattle.cp_skel.specs.SkeletonLists.{in_dart, out_dart}
-use Rattle.cp_skel.specs.Skeletons.{Child, IsVertex, Outside, Vertex, below, dart_vertex, is_left, kept_segments, left, segment_name, segments_of, skeleton_edge, skeleton_pipe, skeletons, vertex_name}
+use Rattle.cp_skel.specs.declared.vertex.Vertex.{Vertex}
+use Rattle.cp_skel.specs.declared.vertex.Vertex.TheVariants.{Child, Outside}
+use Rattle.cp_skel.specs.Skeletons.{IsVertex, below, dart_vertex, is_left, kept_segments, left, segment_name, segments_of, skeleton_edge, skeleton_pipe, skeletons, vertex_name}
 use Rattle.cp_skel.specs.VertexLists.{stock_dart}
 use Rattle.cp_skel.proofs.DartVertices.{StandsAt, StandsAt-kept, in_dart-StandsAt, out_dart-StandsAt}
 use Rattle.cp_skel.proofs.KeptDarts.{segment-differ}
@@ -54,7 +56,8 @@ AreNames-below n small = record {
 }
 
 -- what holds of what is made of each item
-All-map : {X : Type 0} (Q : X → Type 0) (f : ℕ → X) (xs : List ℕ) → ((x : ℕ) → Has x xs → Q (f x)) → All Q (map f xs)
+pub All-map : {X : Type 0} (Q : X → Type 0) (f : ℕ → X) (xs : List ℕ) → ((x : ℕ) → Has x xs → Q (f x))
+    → All Q (map f xs)
 All-map Q f [] of = All-nil Q
 All-map Q f (x ∷ xs) of = All-cons Q (f x) (map f xs) (of x (inl refl)) (All-map Q f xs (λ y h. of y (inr h)))
 

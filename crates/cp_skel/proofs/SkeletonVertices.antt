@@ -13,7 +13,9 @@ use Rattle.cp_lists.proofs.FilteredLists.{Has-filter}
 use Rattle.cp_conn.proofs.NamedGraphs.{map_has}
 use Rattle.cp_cgraph.specs.Clustered.{Clustered, IsClustered, clusters, edges, home, node_of, nodes, parent, source, target}
 use Rattle.cp_cgraph.specs.Crossings.{leaves}
-use Rattle.cp_skel.specs.Skeletons.{Child, IsVertex, Node, Outside, Vertex, all_vertices, below, dart_vertex, is_left, is_vertex, kept_segments, left, vertex_name, vertices_in}
+use Rattle.cp_skel.specs.declared.vertex.Vertex.{Vertex}
+use Rattle.cp_skel.specs.declared.vertex.Vertex.TheVariants.{Child, Node, Outside}
+use Rattle.cp_skel.specs.Skeletons.{IsVertex, all_vertices, below, dart_vertex, is_left, is_vertex, kept_segments, left, vertex_name, vertices_in}
 use Rattle.cp_skel.proofs.DartVertices.{end_dart-StandsAt, in_dart-StandsAt, out_dart-StandsAt}
 use Rattle.cp_skel.proofs.KeptDarts.{DartKind, at_node, dart_kind, inside, outside}
 use Rattle.cp_skel.proofs.Ranges.{Has-range}

@@ -15,7 +15,8 @@ use Rattle.cp_border.specs.Borders.{cluster_list, node_list}
 use Rattle.cp_border.specs.Good.{IsArranged}
 use Rattle.cp_skel.specs.LoopLists.{loop_darts}
 use Rattle.cp_skel.specs.SkeletonLists.{out_dart}
-use Rattle.cp_skel.specs.Skeletons.{Child, below, is_left, segment_name, vertex_name}
+use Rattle.cp_skel.specs.declared.vertex.Vertex.TheVariants.{Child}
+use Rattle.cp_skel.specs.Skeletons.{below, is_left, segment_name, vertex_name}
 use Rattle.cp_skel.specs.SolutionLayouts.{loops_at, name_edge, solution_layout, solved_cluster, solved_darts, solved_node}
 use Rattle.cp_skel.proofs.DartVertices.{StandsAt-kept, out_dart-StandsAt}
 use Rattle.cp_skel.proofs.NumberedSystems.{AreEdgeLists}

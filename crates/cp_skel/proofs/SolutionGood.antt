@@ -26,7 +26,9 @@ use Rattle.cp_maps.proofs.ListFacts.{has_yes}
 use Rattle.cp_faces.proofs.Twins.{twin_even}
 use Rattle.cp_skel.specs.LoopLists.{AllTurned, Looped, bare_lists, loop_darts, looped_lists}
 use Rattle.cp_skel.specs.SkeletonLists.{border_pair, in_dart, inner_clusters, out_dart, skeleton_lists}
-use Rattle.cp_skel.specs.Skeletons.{Child, Node, Outside, Vertex, below, dart_vertex, is_left, kept_segments, segment_name, skeleton_pipe, skeletons, vertex_name}
+use Rattle.cp_skel.specs.declared.vertex.Vertex.{Vertex}
+use Rattle.cp_skel.specs.declared.vertex.Vertex.TheVariants.{Child, Node, Outside}
+use Rattle.cp_skel.specs.Skeletons.{below, dart_vertex, is_left, kept_segments, segment_name, skeleton_pipe, skeletons, vertex_name}
 use Rattle.cp_skel.specs.SolutionLayouts.{loops_at, name_dart, name_edge, solution_layout, solved_darts, solved_node}
 use Rattle.cp_skel.specs.VertexLists.{Agree, border_edges, keeps, kept_list, stock_dart, stock_list, vertex_list}
 use Rattle.cp_skel.proofs.AgreeingLists.{IsMapOf-kept, IsMapOf-stock, pair-is, stock-IsFlat, stock_lists}

@@ -16,7 +16,9 @@ use Rattle.cp_faces.specs.Twins.{twin}
 use Rattle.cp_faces.proofs.Twins.{twin_even}
 use Rattle.cp_skel.specs.LoopLists.{loop_darts}
 use Rattle.cp_skel.specs.SkeletonLists.{in_dart, out_dart}
-use Rattle.cp_skel.specs.Skeletons.{Child, IsVertex, Node, Outside, Vertex, dart_vertex, kept_segments, segment_name, vertex_name}
+use Rattle.cp_skel.specs.declared.vertex.Vertex.{Vertex}
+use Rattle.cp_skel.specs.declared.vertex.Vertex.TheVariants.{Child, Node, Outside}
+use Rattle.cp_skel.specs.Skeletons.{IsVertex, dart_vertex, kept_segments, segment_name, vertex_name}
 use Rattle.cp_skel.specs.SolutionLayouts.{name_dart, name_edge, segment_edges, solved_darts}
 use Rattle.cp_skel.specs.VertexLists.{stock_dart}
 use Rattle.cp_skel.proofs.DartVertices.{StandsAt, StandsAt-kept, end_dart-StandsAt, in_dart-StandsAt, out_dart-StandsAt}

@@ -13,7 +13,8 @@ use Rattle.cp_border.specs.Borders.{segments}
 use Rattle.cp_maps.specs.Names.{Names}
 use Rattle.cp_faces.specs.Twins.{twin}
 use Rattle.cp_faces.proofs.Twins.{twin_even, twin_odd}
-use Rattle.cp_skel.specs.Skeletons.{IsVertex, Vertex, all_vertices, dart_vertex, kept_segments, skeletons, vertex_name}
+use Rattle.cp_skel.specs.declared.vertex.Vertex.{Vertex}
+use Rattle.cp_skel.specs.Skeletons.{IsVertex, all_vertices, dart_vertex, kept_segments, skeletons, vertex_name}
 use Rattle.cp_skel.specs.VertexLists.{stock_dart}
 use Rattle.cp_skel.proofs.KeptDarts.{segment-differ}
 use Rattle.cp_skel.proofs.KeptSegments.{kept-segment, kept_segment-lt}

@@ -17,7 +17,9 @@ use Rattle.cp_border.proofs.Rotation.{cluster_exact, end_dart-apart, end_source,
 use Rattle.cp_maps.specs.Maps.{has}
 use Rattle.cp_maps.proofs.ListFacts.{has_yes}
 use Rattle.cp_skel.specs.SkeletonLists.{in_dart, out_dart}
-use Rattle.cp_skel.specs.Skeletons.{Child, Node, Outside, Vertex, dart_vertex, kept_segments}
+use Rattle.cp_skel.specs.declared.vertex.Vertex.{Vertex}
+use Rattle.cp_skel.specs.declared.vertex.Vertex.TheVariants.{Child, Node, Outside}
+use Rattle.cp_skel.specs.Skeletons.{dart_vertex, kept_segments}
 use Rattle.cp_skel.specs.VertexLists.{border_edges, keeps, kept_list, vertex_list}
 use Rattle.cp_skel.proofs.DartVertices.{StandsAt, end_dart-StandsAt, in_dart-StandsAt, out_dart-StandsAt}
 use Rattle.cp_skel.proofs.KeptDarts.{DartKind, at_node, dart_kind, inside, outside}

@@ -10,7 +10,9 @@ use Rattle.cp_lists.proofs.DistinctLists.{Distinct-append, Distinct-once, Has-ap
 use Rattle.cp_lists.proofs.FilteredLists.{filter-Distinct, filter-Has}
 use Rattle.cp_lists.proofs.MappedLists.{Distinct-map_on, map_on-Has}
 use Rattle.cp_cgraph.specs.Clustered.{Clustered, clusters, home, nodes, parent}
-use Rattle.cp_skel.specs.Skeletons.{Child, IsVertex, Node, Outside, Vertex, all_vertices, below, is_left, left, vertex_name, vertices_in}
+use Rattle.cp_skel.specs.declared.vertex.Vertex.{Vertex}
+use Rattle.cp_skel.specs.declared.vertex.Vertex.TheVariants.{Child, Node, Outside}
+use Rattle.cp_skel.specs.Skeletons.{IsVertex, all_vertices, below, is_left, left, vertex_name, vertices_in}
 use Rattle.cp_skel.proofs.Ranges.{Distinct-range}
 use Rattle.cp_skel.proofs.SkeletonVertices.{IsVertex-from}
 use Rattle.cp_skel.proofs.TabledLists.{map_twice}

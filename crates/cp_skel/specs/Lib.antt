@@ -3,6 +3,7 @@ pub mod SkeletonLists
 pub mod Skeletons
 pub mod VertexLists
 pub mod SolutionLayouts
+pub mod SkeletonTables
 -- what the proofs rest on
 pub mod OpenedBorders
 pub mod LoopLists

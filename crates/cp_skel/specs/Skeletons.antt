@@ -11,13 +11,8 @@ use Rattle.cp_cgraph.specs.Clustered.{Clustered, clusters, edges, home, nodes, p
 use Rattle.cp_cgraph.specs.Crossings.{contains, crossings, leaves}
 use Rattle.cp_border.specs.Borders.{crossed, first_segment}
 use Rattle.cp_skel.specs.SkeletonLists.{in_dart, out_dart}
-
--- what a vertex of a skeleton stands for: a node, a cluster as it is seen from its parent, or all that lies outside a
--- cluster
-pub data Vertex : Type 0 where
-  Node : ℕ → Vertex
-  Child : ℕ → Vertex
-  Outside : ℕ → Vertex
+use Rattle.cp_skel.specs.declared.vertex.Vertex.{Vertex}
+use Rattle.cp_skel.specs.declared.vertex.Vertex.TheVariants.{Child, Node, Outside}
 
 -- both stand for the same
 abbrev pub is_vertex : Vertex → Vertex → Bool

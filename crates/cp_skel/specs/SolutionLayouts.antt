@@ -1,12 +1,14 @@
 -- The layout that a solution of the skeletons gives.
 use Rattle.std.specs.Prelude.{ℕ, ◌+◌, ◌*◌, cond, eqb, ◌&&◌, List, [], ◌++◌, map, slice_index_or}
 use Rattle.std.specs.List.{filter, flat_map, range_with_len}
+use Rattle.cp_lists.specs.Turns.{turned_to_least}
 use Rattle.cp_cgraph.specs.Clustered.{Clustered, edges, nodes, source, target}
 use Rattle.cp_cgraph.specs.declared.layout.Layout.{Layout}
 use Rattle.cp_border.specs.Borders.{crossed}
 use Rattle.cp_skel.specs.LoopLists.{loop_darts}
 use Rattle.cp_skel.specs.SkeletonLists.{inner_clusters}
-use Rattle.cp_skel.specs.Skeletons.{Child, Node, below, is_left, kept_segments, vertex_name}
+use Rattle.cp_skel.specs.declared.vertex.Vertex.TheVariants.{Child, Node}
+use Rattle.cp_skel.specs.Skeletons.{below, is_left, kept_segments, vertex_name}
 
 -- the edge of each segment, and of the segment with a name
 abbrev pub segment_edges : Clustered → List ℕ
@@ -41,3 +43,7 @@ solution_layout g s = record {
   nodes = map (solved_node g s) (below (nodes g));
   clusters = map (solved_cluster g s) (inner_clusters g);
 }
+
+-- each list turned so that the first of its least items stands first
+abbrev pub from_least : Layout → Layout
+from_least l = record { nodes = map turned_to_least l.nodes; clusters = map turned_to_least l.clusters }

@@ -11,7 +11,9 @@ use Rattle.cp_cgraph.specs.declared.layout.Layout.{Layout}
 use Rattle.cp_border.specs.Borders.{cluster_list, end_dart, node_list}
 use Rattle.cp_maps.specs.Maps.{has}
 use Rattle.cp_skel.specs.SkeletonLists.{in_dart, out_dart}
-use Rattle.cp_skel.specs.Skeletons.{Child, Node, Outside, Vertex, all_vertices, dart_vertex, kept_segments, segment_name, vertex_name}
+use Rattle.cp_skel.specs.declared.vertex.Vertex.{Vertex}
+use Rattle.cp_skel.specs.declared.vertex.Vertex.TheVariants.{Child, Node, Outside}
+use Rattle.cp_skel.specs.Skeletons.{all_vertices, dart_vertex, kept_segments, segment_name, vertex_name}
 
 -- the edges that a layout lists for cluster c, and none for the root
 abbrev pub border_edges : Layout → ℕ → List ℕ

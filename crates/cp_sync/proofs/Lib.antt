@@ -13,3 +13,4 @@ mod Kept
 mod Moves
 mod RightPipes
 mod NumberedGraphs
+mod WorkedRows

@@ -7,3 +7,5 @@ pub mod Tables
 pub mod Checks
 pub mod FreeNames
 pub mod Rewriting
+-- examples
+pub mod WorkedRows

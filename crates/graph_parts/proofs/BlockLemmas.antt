@@ -17,7 +17,8 @@ within_block es e f lt one = ⊎_elim
     one
 
 -- in one block all block numbers are 0
-pub block_zero : (es : List (ℕ × ℕ)) (numbers : List ℕ) → AreNumbered (AreInOneBlock es) (length es) numbers → IsOneBlock es → (e : ℕ) → e < length numbers → get_or numbers e 0 ≡ 0
+pub block_zero : (es : List (ℕ × ℕ)) (numbers : List ℕ) → AreNumbered (AreInOneBlock es) (length es) numbers
+    → IsOneBlock es → (e : ℕ) → e < length numbers → get_or numbers e 0 ≡ 0
 block_zero es numbers are one e lt =
     let lte : e < length es = omega (arith, are.one_each) in
     let h : HasNumber (AreInOneBlock es) e (get_or numbers e 0) = are.by_least e lte in
@@ -27,7 +28,8 @@ block_zero es numbers are one e lt =
     h.counted.counted ∙ ap (λ n. count n h.counted.test) zero
 
 -- one more number is marked
-mark : (ts : List Bool) (a v : ℕ) → a < length ts → (get_or (set ts a true) v false ≡ true) ↔ ((a ≡ v) ⊎ (get_or ts v false ≡ true))
+mark : (ts : List Bool) (a v : ℕ) → a < length ts
+    → (get_or (set ts a true) v false ≡ true) ↔ ((a ≡ v) ⊎ (get_or ts v false ≡ true))
 mark ts a v lt = (
   λ h. ⊎_elim (λ e. inl e) (λ ne. inr (sym (get_or-set_other ts a v true false (λ e. ne (sym e))) ∙ h)) (cases_eq a v),
   λ h. ⊎_elim
@@ -40,7 +42,9 @@ mark ts a v lt = (
 )
 
 -- the ends of one more edge are marked
-pub touched_step : (n : ℕ) (es : List (ℕ × ℕ)) (k : ℕ) (ts : List Bool) → AreWithin n es → k < length es → AreTouched n es k ts → AreTouched n es (k + 1) (set (set ts (get_or es k (0, 0)).0 true) (get_or es k (0, 0)).1 true)
+pub touched_step : (n : ℕ) (es : List (ℕ × ℕ)) (k : ℕ) (ts : List Bool) → AreWithin n es → k < length es
+    → AreTouched n es k ts → AreTouched n es (k + 1) (set (set ts (get_or es k (0, 0)).0 true) (get_or es k (0, 0)).1
+    true)
 touched_step n es k ts within lt t =
     let a : ℕ = (get_or es k (0, 0)).0 in
     let b : ℕ = (get_or es k (0, 0)).1 in
@@ -69,17 +73,23 @@ touched_step n es k ts within lt t =
     }
 
 -- all are marked exactly where each vertex has an edge
-pub touched_all : (n : ℕ) (es : List (ℕ × ℕ)) (ts : List Bool) → AreTouched n es (length es) ts → ((v : ℕ) → v < length ts → get_or ts v false ≡ true) ↔ HaveEdges n es
+pub touched_all : (n : ℕ) (es : List (ℕ × ℕ)) (ts : List Bool) → AreTouched n es (length es) ts
+    → ((v : ℕ) → v < length ts → get_or ts v false ≡ true) ↔ HaveEdges n es
 touched_all n es ts t = (
   λ all v lt. (t.each v lt).0 (all v (omega (arith, t.size))),
   λ h v lt. (t.each v (omega (arith, t.size))).1 (h v (omega (arith, t.size))),
 )
 
 -- the same, as the calls hand on the table and the graph
-pub touched_read : (n m : ℕ) (es fs : List (ℕ × ℕ)) (ts us : List Bool) (b : Bool) → m ≡ n → fs ≡ es → us ≡ ts → AreTouched m fs (length fs) ts → IsTrue b ↔ ((v : ℕ) → v < length us → get_or us v false ≡ true) → IsTrue b ↔ HaveEdges n es
+pub touched_read : (n m : ℕ) (es fs : List (ℕ × ℕ)) (ts us : List Bool) (b : Bool) → m ≡ n → fs ≡ es → us ≡ ts
+    → AreTouched m fs (length fs) ts → IsTrue b ↔ ((v : ℕ) → v < length us → get_or us v false ≡ true)
+    → IsTrue b ↔ HaveEdges n es
 touched_read n m es fs ts us b vertices ends table t decides =
-    let here : AreTouched n es (length es) ts = subst (λ (xs : List (ℕ × ℕ)). AreTouched n xs (length xs) ts) ends (subst (λ (k : ℕ). AreTouched k fs (length fs) ts) vertices t) in
-    let all : IsTrue b ↔ ((v : ℕ) → v < length ts → get_or ts v false ≡ true) = subst (λ (xs : List Bool). IsTrue b ↔ ((v : ℕ) → v < length xs → get_or xs v false ≡ true)) table decides in (
+    let here : AreTouched n es (length es) ts =
+    subst (λ (xs : List (ℕ × ℕ)). AreTouched n xs (length xs) ts) ends
+    (subst (λ (k : ℕ). AreTouched k fs (length fs) ts) vertices t) in
+    let all : IsTrue b ↔ ((v : ℕ) → v < length ts → get_or ts v false ≡ true) =
+    subst (λ (xs : List Bool). IsTrue b ↔ ((v : ℕ) → v < length xs → get_or xs v false ≡ true)) table decides in (
       λ is. (touched_all n es ts here).0 (all.0 is),
       λ h. all.1 ((touched_all n es ts here).1 h),
     )

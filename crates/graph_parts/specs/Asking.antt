@@ -3,6 +3,7 @@ use Rattle.std.specs.Prelude.{◌≡◌, ℕ, List, [], ◌∷◌, codes}
 use Rattle.graph_parts.specs.declared.ask.Asked.{Asked}
 use Rattle.graph_parts.specs.declared.ask.Asked.TheVariants.{Edges, Components, Blocks, Bipolar}
 
+-- the word that asks for it
 abbrev pub word_of : Asked → List ℕ
 word_of Edges = codes "edges"
 word_of Components = codes "components"

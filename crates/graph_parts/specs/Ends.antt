@@ -3,6 +3,7 @@ use Rattle.std.specs.Prelude.{ℕ}
 use Rattle.graph_parts.specs.declared.end.End.{End}
 use Rattle.graph_parts.specs.declared.end.End.TheVariants.{Done, Unfit, Refused, Usage, ReadFault, WriteFault, TooLong, Memory}
 
+-- the exit status of an end
 abbrev pub code_of : End → ℕ
 code_of Done = 0
 code_of Unfit = 1

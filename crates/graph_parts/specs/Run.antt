@@ -15,5 +15,6 @@ Wrote words = WroteAnswer (Answer words)
 
 -- a front of one text was written: of one that answers with some end, or of the line of a read fault where the
 -- source failed
-abbrev pub WroteFront : List (List ℕ) → Option (List ℕ) → Option (List ℕ) → ℕ → ℕ → Option (List ℕ) → Option (List ℕ) → Type 0
+abbrev pub WroteFront : List (List ℕ) → Option (List ℕ) → Option (List ℕ) → ℕ → ℕ → Option (List ℕ) → Option (List ℕ)
+    → Type 0
 WroteFront words = WroteAnswerFront (Answer words) commands.read_fault_line

@@ -3,7 +3,7 @@ ghost use Rattle.std.specs.Prelude.{◌≡◌, MatchOption};
 ghost use Rattle.graph_parts.specs.Asking.{Asks, word_of};
 ghost use Rattle.graph_parts.specs.declared.ask.Asked.{Asked as AnyAsked};
 
-use crate::decide::decide;
+use crate::answering::answer_to;
 use crate::end::End;
 use cp_base::Memory;
 use cp_io::Command;
@@ -52,7 +52,7 @@ impl Command for Asked {
         }
     }
 
-    fn decide(self, alloc: Global, bytes: &[u8]) -> Result<(End, Vec<u8>), Memory> {
-        decide(alloc, self, bytes)
+    fn answer(self, alloc: Global, bytes: &[u8]) -> Result<(End, Vec<u8>), Memory> {
+        answer_to(alloc, self, bytes)
     }
 }

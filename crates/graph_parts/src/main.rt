@@ -2,8 +2,8 @@
 //! measured: the word of the command line says which, and standard input is the graph in GML.
 #![tactic(auto)]
 
+mod answering;
 mod ask;
-mod decide;
 mod end;
 mod graph;
 mod numbers;

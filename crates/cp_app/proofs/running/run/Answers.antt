@@ -29,5 +29,6 @@ returns-clause-complete g c = λ bytes r n graph check told short begins is calm
     (λ e. calm_sink (c.run_command.ensures.write_fault e).0)
     (λ answer.
     let wrote = c.run_command.ensures.answer answer in
-    let answers : Answer words bytes c.run_command.result wrote.0 = subst (λ left. IfSome left (λ b. Answer words b c.run_command.result wrote.0)) told wrote.1 in
+    let answers : Answer words bytes c.run_command.result wrote.0 =
+    subst (λ left. IfSome left (λ b. Answer words b c.run_command.result wrote.0)) told wrote.1 in
     judged_answer words bytes r n graph check short begins is answers)

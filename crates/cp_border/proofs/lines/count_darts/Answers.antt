@@ -6,4 +6,9 @@ use Rattle.cp_border.proofs.lines.count_darts.Goals as goal
 
 pub overflow_add-counts : goal.overflow_add-counts
 overflow_add-counts c =
-    omega (arith, c.loop-d.invariant c.node_at.result c.node_at.ensures.node, count-le c.loop-d.d (λ d. node_of c.args.g.now d == c.node_at.result))
+    omega (
+      arith,
+      c.loop-d.invariant c.node_at.result c.node_at.ensures.node,
+      count-le c.loop-d.d
+          (λ d. node_of c.args.g.now d == c.node_at.result),
+    )

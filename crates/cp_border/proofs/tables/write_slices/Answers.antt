@@ -13,11 +13,13 @@ invariant_of-arranged c = record {
 
 pub write_at-requires : goal.write_at-requires
 write_at-requires c =
-    (room_for_darts c.args.g.now c.args.lay.now _ c.nodes-nodes.ensures.clustered c.requires.arranged c.requires.places).0
+    (room_for_darts c.args.g.now c.args.lay.now _ c.nodes-nodes.ensures.clustered c.requires.arranged
+    c.requires.places).0
 
 pub write_turns-requires-clause-room : goal.write_turns-requires-clause-room
 write_turns-requires-clause-room c =
-    (room_for_darts c.args.g.now c.args.lay.now _ c.nodes-nodes.ensures.clustered c.requires.arranged c.requires.places).1
+    (room_for_darts c.args.g.now c.args.lay.now _ c.nodes-nodes.ensures.clustered c.requires.arranged
+    c.requires.places).1
 
 pub returns : goal.returns
 returns c =

@@ -8,6 +8,8 @@ use Rattle.cp_cgraph.proofs.edges.read_edges.Given as goal
 
 abbrev pub invariant-edges : goal.invariant-edges
 invariant-edges l = record {
-  ends_are : l.ends ++ flat_map (ends_of_edge l.ids) (keyed (codes "edge") (drop l.entry-index l.entries)) ≡ l.initial.ends ++ flat_map (ends_of_edge l.ids) (keyed (codes "edge") l.entries);
-  faults_are : l.faults ++ flat_map (edge_faults l.ids) (keyed (codes "edge") (drop l.entry-index l.entries)) ≡ l.initial.faults ++ flat_map (edge_faults l.ids) (keyed (codes "edge") l.entries);
+  ends_are : l.ends ++ flat_map (ends_of_edge l.ids) (keyed (codes "edge") (drop l.entry-index l.entries))
+      ≡ l.initial.ends ++ flat_map (ends_of_edge l.ids) (keyed (codes "edge") l.entries);
+  faults_are : l.faults ++ flat_map (edge_faults l.ids) (keyed (codes "edge") (drop l.entry-index l.entries))
+      ≡ l.initial.faults ++ flat_map (edge_faults l.ids) (keyed (codes "edge") l.entries);
 }

@@ -5,4 +5,5 @@ use Rattle.cp_cgraph.proofs.fault.note_later.Given as goal
 
 abbrev pub invariant-noting : goal.invariant-noting
 invariant-noting l =
-    l.faults ++ later l.kind (keyed l.key (drop l.entry-index l.entries)) ≡ l.initial.faults ++ later l.kind (keyed l.key l.entries)
+    l.faults ++ later l.kind (keyed l.key (drop l.entry-index l.entries)) ≡ l.initial.faults ++ later l.kind
+    (keyed l.key l.entries)

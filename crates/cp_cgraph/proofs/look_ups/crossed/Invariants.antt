@@ -1,4 +1,5 @@
-use Rattle.cp_cgraph.specs.LookUps.{IsTable, crossed}
+use Rattle.cp_cgraph.specs.Crossings.{crossed}
+use Rattle.cp_cgraph.specs.LookUps.{IsTable}
 use Rattle.cp_cgraph.proofs.look_ups.crossed.Given as goal
 
 abbrev pub invariant-counting : goal.invariant-counting

@@ -13,23 +13,33 @@ pub returns-in_ok-push : goal.returns-in_ok-push
 returns-in_ok-push c =
     let same : to_z w32 (of_z w32 c.args.id) ≡ c.args.id = grind (arith, to_z-of_z) in
     let found = c.place.ensures ∙ ap (λ (n : ℤ). position (int_eq n) c.args.ids.now) same in
-    let known : is_known c.args.ids.now c.args.id ≡ false = ap is_some (sym found) ∙ c.is_none.ensures ∙ ap not c.if-is_none.true in
-    c.in_ok-push.ensures.ok ∙ sym (ap (λ (fs : List Fault). c.args.faults.now ++ fs) (unknown_name c.args.ids.now c.args.named.now c.args.id c.args.at known))
+    let known : is_known c.args.ids.now c.args.id ≡ false = ap is_some (sym found) ∙ c.is_none.ensures
+    ∙ ap not c.if-is_none.true in
+    c.in_ok-push.ensures.ok ∙ sym (ap (λ (fs : List Fault). c.args.faults.now ++ fs)
+    (unknown_name c.args.ids.now c.args.named.now c.args.id c.args.at known))
 
 pub returns-in_ok-push-2 : goal.returns-in_ok-push-2
 returns-in_ok-push-2 c =
     let same : to_z w32 (of_z w32 c.args.id) ≡ c.args.id = grind (arith, to_z-of_z) in
     let found = c.place.ensures ∙ ap (λ (n : ℤ). position (int_eq n) c.args.ids.now) same in
-    let known : is_known c.args.ids.now c.args.id ≡ true = ap is_some (sym found) ∙ c.is_none.ensures ∙ ap not c.if-is_none.false in
+    let known : is_known c.args.ids.now c.args.id ≡ true = ap is_some (sym found) ∙ c.is_none.ensures
+    ∙ ap not c.if-is_none.false in
     let before = c.place-else-is_none.ensures ∙ ap (λ (n : ℤ). position (int_eq n) c.args.named.now) same in
-    let earlier : is_known c.args.named.now c.args.id ≡ true = ap is_some (sym before) ∙ sym c.is_some.ensures ∙ c.if-is_some.true in
-    c.in_ok-push-2.ensures.ok ∙ sym (ap (λ (fs : List Fault). c.args.faults.now ++ fs) (second_name c.args.ids.now c.args.named.now c.args.id c.args.at known earlier))
+    let earlier : is_known c.args.named.now c.args.id ≡ true = ap is_some (sym before) ∙ sym c.is_some.ensures
+    ∙ c.if-is_some.true in
+    c.in_ok-push-2.ensures.ok
+    ∙ sym (ap (λ (fs : List Fault). c.args.faults.now ++ fs) (second_name c.args.ids.now c.args.named.now c.args.id
+    c.args.at known earlier))
 
 pub returns-else-is_some : goal.returns-else-is_some
 returns-else-is_some c =
     let same : to_z w32 (of_z w32 c.args.id) ≡ c.args.id = grind (arith, to_z-of_z) in
     let found = c.place.ensures ∙ ap (λ (n : ℤ). position (int_eq n) c.args.ids.now) same in
-    let known : is_known c.args.ids.now c.args.id ≡ true = ap is_some (sym found) ∙ c.is_none.ensures ∙ ap not c.if-is_none.false in
+    let known : is_known c.args.ids.now c.args.id ≡ true = ap is_some (sym found) ∙ c.is_none.ensures
+    ∙ ap not c.if-is_none.false in
     let before = c.place-else-is_none.ensures ∙ ap (λ (n : ℤ). position (int_eq n) c.args.named.now) same in
-    let earlier : is_known c.args.named.now c.args.id ≡ false = ap is_some (sym before) ∙ sym c.is_some.ensures ∙ c.if-is_some.false in
-    sym (append-nil c.args.faults.now) ∙ sym (ap (λ (fs : List Fault). c.args.faults.now ++ fs) (fresh_name c.args.ids.now c.args.named.now c.args.id c.args.at known earlier))
+    let earlier : is_known c.args.named.now c.args.id ≡ false = ap is_some (sym before) ∙ sym c.is_some.ensures
+    ∙ c.if-is_some.false in
+    sym (append-nil c.args.faults.now)
+    ∙ sym (ap (λ (fs : List Fault). c.args.faults.now ++ fs) (fresh_name c.args.ids.now c.args.named.now c.args.id
+    c.args.at known earlier))

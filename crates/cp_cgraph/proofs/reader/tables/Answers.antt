@@ -7,7 +7,8 @@ use Rattle.cp_cgraph.proofs.reader.tables.Goals as goal
 pub new-requires : goal.new-requires
 new-requires c =
     let es = c.args.entries.now in
-    let same = clustered es c.in_ok-ids.ids.items c.ids-2.result.now c.in_ok-ends.ends.items c.in_ok-parents.parents.items c.in_ok-homes.homes.items c.items-3.result.now
+    let same = clustered es c.in_ok-ids.ids.items c.ids-2.result.now c.in_ok-ends.ends.items
+    c.in_ok-parents.parents.items c.in_ok-homes.homes.items c.items-3.result.now
     (c.in_ok-ids.ensures.items ∙ c.ids.ensures ∙ c.requires.ids)
     (c.ids-2.ensures ∙ c.requires.ids)
     (c.in_ok-ends.ensures.items ∙ c.items.ensures ∙ c.requires.ends)

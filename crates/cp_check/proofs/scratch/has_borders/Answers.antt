@@ -7,5 +7,13 @@ use Rattle.cp_check.proofs.scratch.has_borders.Goals as goal
 pub returns-then-crossed-left : goal.returns-then-crossed-left
 returns-then-crossed-left c = (
   λ no. let impossible : false ≡ true = no in cc,
-  λ same. absurd (omega (arith, before_next (crossed c.args.g.now) c.loop-e.e (edges c.args.g.now) (omega (arith, c.edges-e-end.ensures.value)), c.crossed-crossed.ensures.value, c.loop-e.invariant, c.if-crossed-left.true, same)),
+  λ same. absurd (omega (
+    arith,
+    before_next (crossed c.args.g.now) c.loop-e.e (edges c.args.g.now)
+        (omega (arith, c.edges-e-end.ensures.value)),
+    c.crossed-crossed.ensures.value,
+    c.loop-e.invariant,
+    c.if-crossed-left.true,
+    same,
+  )),
 )

@@ -5,7 +5,8 @@ use Rattle.cp_io.proofs.whole.write_all.Given as goal
 
 abbrev pub invariant-loop-rest : goal.invariant-loop-rest
 invariant-loop-rest g l = record {
-  front : (front : List ℕ) × (l.text ≡ front ++ l.rest) × Appends (g.K.Sink.taken l.initial.sink) (g.K.Sink.taken l.sink) front;
+  front : (front : List ℕ) × (l.text ≡ front ++ l.rest) × Appends (g.K.Sink.taken l.initial.sink)
+      (g.K.Sink.taken l.sink) front;
   kept : g.K.Sink.faults l.sink ≡ g.K.Sink.faults l.initial.sink;
 }
 

@@ -1,4 +1,4 @@
-use Rattle.std.proofs.Common.{◌≡◌, [], ◌∷◌, reverse, ap, ◌∙◌, subst}
+use Rattle.std.proofs.Common.{[], ◌∷◌, reverse, ap, ◌∙◌, subst}
 use Rattle.std.proofs.lemmas.List.{reverse-append}
 use Rattle.cp_pq.proofs.Cuts.{Remains, add_remains, none_remains}
 use Rattle.cp_pq.proofs.cut.cut_row.Goals as goal
@@ -8,7 +8,8 @@ loop-found-preserved c = λ before run after some cut.
     let inv = c.loop-found.invariant before run after some cut in
     let old = c.loop-found.parts in let new = c.add.new.self in
     let left = ap reverse c.in-Some.ensures ∙ reverse-append c.pop.new.self (c.in-Some.found ∷ []) in
-    add_remains before run after old.before old.run old.after new.before new.run new.after c.in-Some.found (reverse c.pop.new.self) some
+    add_remains before run after old.before old.run old.after new.before new.run new.after c.in-Some.found
+    (reverse c.pop.new.self) some
     (subst (Remains before run after old.before old.run old.after) left inv.0)
     (record {
       before = c.in_ok-add.ensures.before;
@@ -21,4 +22,5 @@ loop-found-preserved c = λ before run after some cut.
 
 pub returns : goal.returns
 returns c = λ before run after some cut.
-    none_remains before run after _ _ _ _ (ap reverse c.in_default.ensures.0) (c.loop-found.invariant before run after some cut).0
+    none_remains before run after _ _ _ _ (ap reverse c.in_default.ensures.0)
+    (c.loop-found.invariant before run after some cut).0

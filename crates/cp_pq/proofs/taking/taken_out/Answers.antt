@@ -40,7 +40,19 @@ returns-clause-taken c =
     let ls = subst (IsLeafSet set) e c.requires.leaf_set in
     let all = subst (λ t. (order : List ℕ) → Admits t order → IsConsecutive set order) e c.requires.consecutive in
     let g = step_is set tree (length set) c.in_ok-step.step wf ls refl c.in_ok-step.ensures in
-    let at = placed (outside set) (inside set) (length set) tree.body c.in_ok-step.step c.in-Root.place g.0 c.in-Root.is in
-    let taken = c.in_ok-frames-in-Root.ensures (outside set) (inside set) tree.body (λ x. refl) at (body_together set tree wf ls all (root_apart set tree wf ls)) in
-    subst (λ t. IsTakenOut set t (record { root = r.0; frames = c.in_ok-frames-in-Root.frames; vars = r.2; equations = r.3 }) c.in_ok-frames-in-Root.part) (sym e)
-    (taken_whole set tree wf ls (record { root = r.0; frames = c.in_ok-frames-in-Root.frames; vars = r.2; equations = r.3 }) c.in_ok-frames-in-Root.part refl refl refl taken)
+    let at = placed (outside set) (inside set) (length set) tree.body c.in_ok-step.step c.in-Root.place g.0
+    c.in-Root.is in
+    let taken = c.in_ok-frames-in-Root.ensures (outside set) (inside set) tree.body (λ x. refl) at
+    (body_together set tree wf ls all (root_apart set tree wf ls)) in
+    subst (λ t. IsTakenOut set t (record {
+      root = r.0;
+      frames = c.in_ok-frames-in-Root.frames;
+      vars = r.2;
+      equations = r.3;
+    }) c.in_ok-frames-in-Root.part) (sym e)
+    (taken_whole set tree wf ls (record {
+      root = r.0;
+      frames = c.in_ok-frames-in-Root.frames;
+      vars = r.2;
+      equations = r.3;
+    }) c.in_ok-frames-in-Root.part refl refl refl taken)

@@ -18,4 +18,5 @@ returns-in_ok-inner-in-Q c = λ q p k opp t f.
     let cut = cut_at q p opp v k founds at f in
     let parts = c.in_ok-before-in-Q.field-0 in
     let e = c.in_ok-before-in-Q.ensures r.before r.run r.after cut.0 cut.1 in
-    run_taken q p opp v k founds at f c.in_ok-inner-in-Q.inner parts.before parts.run parts.after e.0 e.1 e.2 c.in_ok-inner-in-Q.ensures
+    run_taken q p opp v k founds at f c.in_ok-inner-in-Q.inner parts.before parts.run parts.after e.0 e.1 e.2
+    c.in_ok-inner-in-Q.ensures

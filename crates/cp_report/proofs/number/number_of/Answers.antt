@@ -3,10 +3,13 @@ use Rattle.cp_report.proofs.NumberLemmas.{plain-decimal, utf8-decimal, number_re
 use Rattle.cp_report.proofs.number.number_of.Goals as goal
 
 pub returns-then-not-is_plain : goal.returns-then-not-is_plain
-returns-then-not-is_plain c = λ n small h. let no = c.if-not-is_plain.ensures.1 (plain-decimal n c.args.text.now small h) in search rules
+returns-then-not-is_plain c = λ n small h. let no =
+    c.if-not-is_plain.ensures.1 (plain-decimal n c.args.text.now small h) in search rules
 
 pub returns-in_err-ok : goal.returns-in_err-ok
-returns-in_err-ok c = rw c.from_residual.ensures (λ n small h. (failed c.from_utf8.result _ _ c.in_err-ok.ensures.value c.from_utf8.ensures.cases).1.0 (utf8-decimal n c.args.text.now small h))
+returns-in_err-ok c = rw c.from_residual.ensures
+    (λ n small h. (failed c.from_utf8.result _ _ c.in_err-ok.ensures.value c.from_utf8.ensures.cases).1.0
+    (utf8-decimal n c.args.text.now small h))
 
 pub returns : goal.returns
 returns c =

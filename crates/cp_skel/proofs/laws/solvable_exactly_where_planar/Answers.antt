@@ -1,4 +1,4 @@
-use Rattle.cp_skel.proofs.Skeletons.{planar_exactly}
+use Rattle.cp_skel.proofs.PlanarSkeletons.{planar_exactly}
 use Rattle.cp_skel.proofs.laws.solvable_exactly_where_planar.Goals as goal
 
 pub returns : goal.returns

@@ -7,10 +7,13 @@ use Rattle.cp_border.proofs.view.ViewRotationSystem.next.Goals as goal
 
 pub offset_bounds-self-inside-d : goal.offset_bounds-self-inside-d
 offset_bounds-self-inside-d c =
-    let few : darts (borders c.args.self.now.graph c.args.self.now.layout) < 2 ^ 60 = subst (λ (t : Drawn). darts (borders t.graph t.layout) < 2 ^ 60) c.self.view_is (told_few c.self.inside.arranged.graph.now c.self.inside.arranged.layout.now _ c.self.invariant) in
+    let few : darts (borders c.args.self.now.graph c.args.self.now.layout) < 2 ^ 60 =
+    subst (λ (t : Drawn). darts (borders t.graph t.layout) < 2 ^ 60) c.self.view_is
+    (told_few c.self.inside.arranged.graph.now c.self.inside.arranged.layout.now _ c.self.invariant) in
     omega (arith, few, c.requires)
 
 pub returns : goal.returns
 returns c =
     let within = subst (λ (t : Drawn). c.args.d < darts (borders t.graph t.layout)) (sym c.self.view_is) c.requires in
-    subst (λ (t : Drawn). slice_index c.self.inside.next.now c.args.d ≡ next (borders t.graph t.layout) c.args.d) c.self.view_is (c.self.invariant.next_told.told c.args.d within)
+    subst (λ (t : Drawn). slice_index c.self.inside.next.now c.args.d ≡ next (borders t.graph t.layout) c.args.d)
+    c.self.view_is (c.self.invariant.next_told.told c.args.d within)

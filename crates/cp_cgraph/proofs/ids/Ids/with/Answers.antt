@@ -18,7 +18,8 @@ invariant_of-result c n =
           rw (w.places-is, c.in_ok-push.ensures.items)
           (table_more old (get int_eq w.insert.new.self) ids id c.self.invariant
           (none_copied c.get.result (old id) c.get.ensures.value (c.is_none.ensures ∙ ap not w.if-is_none.true))
-          (λ q. let len : w.len.result ≡ length ids = grind (arith, common_steps) in w.in_ok-insert.ensures.updates.0 q ∙ ap (λ (k : ℕ). cond (int_eq id q) (Some k) (old q)) len) n)
+          (λ q. let len : w.len.result ≡ length ids = grind (arith, common_steps) in w.in_ok-insert.ensures.updates.0 q
+          ∙ ap (λ (k : ℕ). cond (int_eq id q) (Some k) (old q)) len) n)
       | else-is_none w ↦
           rw (w.places-is, c.in_ok-push.ensures.items)
           (table_kept old old ids id c.self.invariant

@@ -1,0 +1,5 @@
+mod Permutations
+mod Mirrors
+mod FoundItems
+mod FixedEnds
+mod SmallPipes

@@ -1,0 +1,6 @@
+//! Reductions of synchronized planarity at pipes of few pairs and at poles (Bläsius, Fink, Rutter 2021).
+#![tactic(auto)]
+
+mod small;
+
+pub use small::small_keeps_solvable;

@@ -1,0 +1,7 @@
+use Rattle.std.proofs.Common.{◌≡◌, ℕ, ◌<◌}
+use Rattle.cp_faces.specs.Twins.{twin}
+use Rattle.cp_rot.specs.Systems.{vertex_of}
+use Rattle.cp_rotlaw.proofs.tests_poles.lead_to.Given as goal
+
+abbrev pub invariant-loop-d : goal.invariant-loop-d
+invariant-loop-d l = (f : ℕ) → f < l.d → vertex_of l.a f ≡ l.u → vertex_of l.a (twin f) ≡ l.v

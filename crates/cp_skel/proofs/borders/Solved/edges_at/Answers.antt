@@ -1,0 +1,22 @@
+use Rattle.std.proofs.Common.{◌≡◌, ℕ, length, map, take, ap, ◌∙◌, arith}
+use Rattle.std.proofs.Math.Seq.{take-length}
+use Rattle.cp_skel.specs.SolutionLayouts.{name_edge}
+use Rattle.cp_skel.proofs.SolvedSteps.{images-more}
+use Rattle.cp_skel.proofs.borders.Solved.edges_at.Goals as goal
+
+pub edge-requires : goal.edge-requires
+edge-requires c = c.list-name-items.ensures.segments c.loop-name.name-index 0 c.loop-name-test.true
+
+pub loop-name-preserved : goal.loop-name-preserved
+loop-name-preserved c =
+    images-more (name_edge c.args.self.now.graph.now) c.list-name-items.result.now c.loop-name.name-index c.edge.result
+    c.loop-name.found.items c.push.new.self.items c.loop-name-test.true c.loop-name.invariant c.edge.ensures.value
+    c.in_ok-push.ensures.items
+
+pub returns : goal.returns
+returns c =
+    let last : c.loop-name.name-index ≡ length c.list-name-items.result.now = omega arith in
+    c.loop-name.invariant
+    ∙ ap (map (name_edge c.args.self.now.graph.now))
+    (ap (λ (k : ℕ). take k c.list-name-items.result.now) last ∙ take-length c.list-name-items.result.now
+    ∙ c.list-name-items.ensures.list)

@@ -1,0 +1,6 @@
+use Rattle.cp_skel.specs.declared.vertex.Vertex.TheVariants.{Outside}
+use Rattle.cp_skel.specs.SkeletonTables.{AreClustersTold}
+use Rattle.cp_skel.proofs.names.named_outsides.Given as goal
+
+abbrev pub invariant-loop-k : goal.invariant-loop-k
+invariant-loop-k l = AreClustersTold l.g Outside l.k l.names.items

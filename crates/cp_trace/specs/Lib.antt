@@ -1,0 +1,9 @@
+-- what contracts rest on
+pub mod Texts
+pub mod Traces
+pub mod Faults
+-- what functions inside promise each other
+pub mod Parts
+pub mod Reading
+-- examples
+pub mod Rows

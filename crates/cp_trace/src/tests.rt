@@ -1,0 +1,225 @@
+// Texts of runs, whole.
+use crate::write::{push_body, push_reason, push_step};
+use crate::write_trace;
+use cp_base::{Branch, Branches, CycList, Items, Memory};
+use cp_board::{EdgeRow, EdgeRows, Kind, Pairs, Pipe, Pipes, Reason, Step, Vert, Verts};
+use cp_sync::{Instance, Outcome, PartsFault, Solution};
+use std::alloc::Global;
+use std::test::Fail;
+
+const WORKED: &str = "cplan-trace 1
+instance
+vertex 0 P
+vertex 1 P
+vertex 2 P
+vertex 3 P
+vertex 4 P
+vertex 5 P
+edge 0 3 5
+edge 1 2 0
+edge 2 3 5
+edge 3 2 0
+edge 4 3 5
+edge 5 2 1
+edge 6 4 5
+edge 7 2 0
+pipe 0 2 5: 1/0 3/2 5/4 7/6
+instance end
+step join 0
+step small 1
+step small 3
+step small 2
+step small 4
+instance
+vertex 0 P
+vertex 1 P
+vertex 3 P
+vertex 4 P
+vertex 6 Q 0: 1 3 7
+vertex 7 P
+vertex 8 Q 0: 8 11 9
+vertex 9 P
+vertex 10 Q 1: 0 2 4
+vertex 11 P
+vertex 12 Q 1: 8 10 9
+vertex 13 P
+edge 0 3 10
+edge 1 6 0
+edge 2 3 10
+edge 3 6 0
+edge 4 3 10
+edge 5 7 1
+edge 6 4 11
+edge 7 6 0
+edge 8 8 12
+edge 9 8 12
+edge 10 9 12
+edge 11 8 13
+instance end
+solved
+end
+";
+
+// P-vertices.
+fn push_free(verts: &mut Verts, names: &[usize]) -> Result<(), Memory> {
+    for name in names {
+        verts.push(Vert {
+            name: *name,
+            kind: Kind::P,
+        })?;
+    }
+    Ok(())
+}
+
+// A Q-vertex.
+fn push_fixed(
+    alloc: Global,
+    verts: &mut Verts,
+    name: usize,
+    cell: usize,
+    psi: &[usize],
+) -> Result<(), Memory> {
+    let psi = CycList::from_slice(alloc, psi)?;
+    verts.push(Vert {
+        name,
+        kind: Kind::Q { cell, psi },
+    })
+}
+
+// Edges with their names and ends.
+fn edges(alloc: Global, rows: &[(usize, usize, usize)]) -> Result<EdgeRows, Memory> {
+    let mut edges = EdgeRows::new(alloc);
+    for (name, a, b) in rows {
+        edges.push(EdgeRow {
+            name: *name,
+            a: *a,
+            b: *b,
+        })?;
+    }
+    Ok(edges)
+}
+
+// The pairs of a pipe.
+fn pairs(alloc: Global, rows: &[(usize, usize)]) -> Result<Pairs, Memory> {
+    let mut pairs = Items::new(alloc);
+    for row in rows {
+        pairs.push(*row)?;
+    }
+    Ok(pairs)
+}
+
+// The instance that the worked run begins with.
+fn first(alloc: Global) -> Result<Instance, PartsFault> {
+    let mut verts = Verts::new(alloc);
+    push_free(&mut verts, &[0, 1, 2, 3, 4, 5])?;
+    let edges = edges(
+        alloc,
+        &[
+            (0, 3, 5),
+            (1, 2, 0),
+            (2, 3, 5),
+            (3, 2, 0),
+            (4, 3, 5),
+            (5, 2, 1),
+            (6, 4, 5),
+            (7, 2, 0),
+        ],
+    )?;
+    let mut pipes = Pipes::new(alloc);
+    pipes.push(Pipe {
+        name: 0,
+        a: 2,
+        b: 5,
+        pairs: pairs(alloc, &[(1, 0), (3, 2), (5, 4), (7, 6)])?,
+    })?;
+    Instance::from_parts(alloc, verts, edges, pipes)
+}
+
+// The vertices of the instance that it ends with.
+fn last_verts(alloc: Global) -> Result<Verts, Memory> {
+    let mut verts = Verts::new(alloc);
+    push_free(&mut verts, &[0, 1, 3, 4])?;
+    push_fixed(alloc, &mut verts, 6, 0, &[1, 3, 7])?;
+    push_free(&mut verts, &[7])?;
+    push_fixed(alloc, &mut verts, 8, 0, &[8, 11, 9])?;
+    push_free(&mut verts, &[9])?;
+    push_fixed(alloc, &mut verts, 10, 1, &[0, 2, 4])?;
+    push_free(&mut verts, &[11])?;
+    push_fixed(alloc, &mut verts, 12, 1, &[8, 10, 9])?;
+    push_free(&mut verts, &[13])?;
+    Ok(verts)
+}
+
+// The instance that it ends with.
+fn last(alloc: Global) -> Result<Instance, PartsFault> {
+    let verts = last_verts(alloc)?;
+    let edges = edges(
+        alloc,
+        &[
+            (0, 3, 10),
+            (1, 6, 0),
+            (2, 3, 10),
+            (3, 6, 0),
+            (4, 3, 10),
+            (5, 7, 1),
+            (6, 4, 11),
+            (7, 6, 0),
+            (8, 8, 12),
+            (9, 8, 12),
+            (10, 9, 12),
+            (11, 8, 13),
+        ],
+    )?;
+    Instance::from_parts(alloc, verts, edges, Pipes::new(alloc))
+}
+
+#[test]
+fn the_worked_run_is_written(rt: HostRuntime) -> Result<(), Fail> {
+    let first = first(rt.alloc())?;
+    let last = last(rt.alloc())?;
+    let steps = [
+        Step::Join { pipe: 0 },
+        Step::Small { pipe: 1 },
+        Step::Small { pipe: 3 },
+        Step::Small { pipe: 2 },
+        Step::Small { pipe: 4 },
+    ];
+    let solved = Outcome::Solved(Solution::new(rt.alloc()));
+    let text = write_trace(rt.alloc(), &first, &steps, &last, &solved)?;
+    assert_eq!(rt; text.as_slice(), WORKED.as_bytes());
+    Ok(())
+}
+
+// The shape of a Q-node over a leaf, a P-node of two leaves and one without kids.
+fn shape(alloc: Global) -> Result<Branch, Memory> {
+    let mut leaves = Branches::new(alloc);
+    leaves.push(Branch::Leaf(2))?;
+    leaves.push(Branch::Leaf(30))?;
+    let mut kids = Branches::new(alloc);
+    kids.push(Branch::Leaf(1))?;
+    kids.push(Branch::P(leaves))?;
+    kids.push(Branch::P(Branches::new(alloc)))?;
+    Ok(Branch::Q(kids))
+}
+
+#[test]
+fn shapes_steps_and_reasons_are_written(rt: HostRuntime) -> Result<(), Fail> {
+    let mut body = Vec::new(rt.alloc());
+    push_body(rt.alloc(), &mut body, &shape(rt.alloc())?)?;
+    assert_eq!(rt; body.as_slice(), b"Q[1 P[2 30] P[]]".as_slice());
+    let mut step = Vec::new(rt.alloc());
+    push_step(
+        rt.alloc(),
+        &mut step,
+        &Step::FusePoles {
+            pipe: 1,
+            end: 2,
+            pole: 3,
+        },
+    )?;
+    assert_eq!(rt; step.as_slice(), b"step fuse 1 2 3".as_slice());
+    let mut reason = Vec::new(rt.alloc());
+    push_reason(rt.alloc(), &mut reason, Reason::CyclesDiffer { a: 1, b: 3 })?;
+    assert_eq!(rt; reason.as_slice(), b"failed cycles 1 3".as_slice());
+    Ok(())
+}
