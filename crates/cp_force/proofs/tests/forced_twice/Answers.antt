@@ -20,16 +20,16 @@ force-requires-clause-leaves_of g c =
 pub force-requires-clause-var_within : goal.force-requires-clause-var_within
 force-requires-clause-var_within g c = star_var _ _ _ c.in_ok-star.ensures.star
 
-pub force-requires-clause-not_empty-2 : goal.force-requires-clause-not_empty-2
-force-requires-clause-not_empty-2 g c = order_some c.args.leaves.now c.args.again.now c.requires.second
+pub force-requires-2-clause-not_empty : goal.force-requires-2-clause-not_empty
+force-requires-2-clause-not_empty g c = order_some c.args.leaves.now c.args.again.now c.requires.second
 
-pub force-requires-clause-distinct-2 : goal.force-requires-clause-distinct-2
-force-requires-clause-distinct-2 g c = order_distinct c.args.leaves.now c.args.again.now c.requires.second
+pub force-requires-2-clause-distinct : goal.force-requires-2-clause-distinct
+force-requires-2-clause-distinct g c = order_distinct c.args.leaves.now c.args.again.now c.requires.second
 
-pub force-requires-clause-leaves_of-2 : goal.force-requires-clause-leaves_of-2
-force-requires-clause-leaves_of-2 g c =
+pub force-requires-2-clause-leaves_of : goal.force-requires-2-clause-leaves_of
+force-requires-2-clause-leaves_of g c =
     again_leaves c.args.leaves.now c.args.again.now c.requires.second _ _ _ _ _ _
     c.in_ok-star.ensures.star c.in_ok-tree.ensures.forced
 
-pub force-requires-clause-var_within-2 : goal.force-requires-clause-var_within-2
-force-requires-clause-var_within-2 g c = again_var _ _ _ _ _ _ c.in_ok-star.ensures.star c.in_ok-tree.ensures.forced
+pub force-requires-2-clause-var_within : goal.force-requires-2-clause-var_within
+force-requires-2-clause-var_within g c = again_var _ _ _ _ _ _ c.in_ok-star.ensures.star c.in_ok-tree.ensures.forced
