@@ -16,3 +16,4 @@ mod ForcedTrees
 mod OpenedTrees
 mod PlacedOrders
 mod FittedNodes
+mod SmallOrders

@@ -5,3 +5,4 @@ pub mod Owners
 pub mod Words
 pub mod Fits
 pub mod Forced
+pub mod SmallOrders
