@@ -3,3 +3,7 @@ mod Mirrors
 mod FoundItems
 mod FixedEnds
 mod SmallPipes
+mod ApartEnds
+mod NewCells
+mod FixedRules
+mod SmallRewrites
