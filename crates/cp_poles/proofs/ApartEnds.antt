@@ -36,13 +36,17 @@ others_apart n p [] once found = All-nil (λ q. Apart p q)
 others_apart n p (x ∷ xs) once found =
     ⊎_elim
     (λ b.
-        let same : x ≡ p = Some-same x p (sym (cond-true (eqb x.name n) (Some x) (find (λ z. eqb z.name n) xs) b) ∙ found) in
-        let rest = All-filter (other n) (λ q. Apart x q) xs (apart_from x xs once.0.1 once.1.0) in
-        subst (λ z. All (λ q. Apart z q) (filter (other n) (x ∷ xs))) same
-        (subst (All (λ q. Apart x q)) (sym (cond-false (other n x) (x ∷ filter (other n) xs) (filter (other n) xs) (ap (λ c. not (c || false)) b))) rest))
+    let same : x ≡ p = Some-same x p
+    (sym (cond-true (eqb x.name n) (Some x) (find (λ z. eqb z.name n) xs) b) ∙ found) in
+    let rest = All-filter (other n) (λ q. Apart x q) xs (apart_from x xs once.0.1 once.1.0) in
+    subst (λ z. All (λ q. Apart z q) (filter (other n) (x ∷ xs))) same
+    (subst (All (λ q. Apart x q))
+    (sym (cond-false (other n x) (x ∷ filter (other n) xs) (filter (other n) xs)
+    (ap (λ c. not (c || false)) b))) rest))
     (λ b.
-        let later = sym (cond-false (eqb x.name n) (Some x) (find (λ z. eqb z.name n) xs) b) ∙ found in
-        let near = (All-found (λ z. eqb z.name n) (λ q. Apart x q) xs p (apart_from x xs once.0.1 once.1.0) later).0 in
-        subst (All (λ q. Apart p q)) (sym (cond-true (other n x) (x ∷ filter (other n) xs) (filter (other n) xs) (ap (λ c. not (c || false)) b)))
-        (All-cons (λ q. Apart p q) x (filter (other n) xs) (apart_sym x p near) (others_apart n p xs once.1.1 later)))
+    let later = sym (cond-false (eqb x.name n) (Some x) (find (λ z. eqb z.name n) xs) b) ∙ found in
+    let near = (All-found (λ z. eqb z.name n) (λ q. Apart x q) xs p (apart_from x xs once.0.1 once.1.0) later).0 in
+    subst (All (λ q. Apart p q))
+    (sym (cond-true (other n x) (x ∷ filter (other n) xs) (filter (other n) xs) (ap (λ c. not (c || false)) b)))
+    (All-cons (λ q. Apart p q) x (filter (other n) xs) (apart_sym x p near) (others_apart n p xs once.1.1 later)))
     (cases_Bool (eqb x.name n))

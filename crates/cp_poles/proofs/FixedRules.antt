@@ -36,17 +36,20 @@ All-by_item holds f [] all = All-nil (λ x. All holds (f x))
 All-by_item holds f (x ∷ xs) all = All-cons (λ y. All holds (f y)) x xs here (All-by_item holds f xs later)
   where
     here : All holds (f x)
-    here k d lt = subst holds (get_or-append (f x) (flat_map f xs) d k lt) (all k d (omega (arith, lt, length-append (f x) (flat_map f xs))))
+    here k d lt = subst holds (get_or-append (f x) (flat_map f xs) d k lt)
+        (all k d (omega (arith, lt, length-append (f x) (flat_map f xs))))
 
     later : All holds (flat_map f xs)
-    later k d lt = subst holds (get_or-append-add (f x) (flat_map f xs) k d) (all (length (f x) + k) d (omega (arith, lt, length-append (f x) (flat_map f xs))))
+    later k d lt = subst holds (get_or-append-add (f x) (flat_map f xs) k d)
+        (all (length (f x) + k) d (omega (arith, lt, length-append (f x) (flat_map f xs))))
 
 -- and the other way round
 All-values : {A B : Type 0} (holds : B → Type 0) (f : A → List B) (xs : List A) → All (λ x. All holds (f x)) xs
     → All holds (flat_map f xs)
 All-values holds f [] all = All-nil holds
 All-values holds f (x ∷ xs) all =
-    All-append holds (f x) (flat_map f xs) (All-head (λ y. All holds (f y)) x xs all) (All-values holds f xs (All-tail (λ y. All holds (f y)) x xs all))
+    All-append holds (f x) (flat_map f xs) (All-head (λ y. All holds (f y)) x xs all)
+    (All-values holds f xs (All-tail (λ y. All holds (f y)) x xs all))
 
 -- a turn to the least item arranges the items
 turned_arranges : (es xs : List ℕ) → IsPermutation es xs → IsPermutation es (turned_to_least xs)
@@ -59,7 +62,8 @@ turned_arranges es xs p =
 first_least : (e : ℕ) (es : List ℕ) (y : ℕ) → rises (e ∷ es) ≡ true → Has y (e ∷ es) → e ≤ y
 first_least e es y up has =
     let w = Has-place y (e ∷ es) has in
-    let le : e ≤ slice_index (e ∷ es) w.0 = place_order (λ x. x) (e ∷ es) 0 w.0 0 (subst (λ zs. rises zs ≡ true) (sym (map_self (e ∷ es))) up) (omega arith) w.1 in
+    let le : e ≤ slice_index (e ∷ es) w.0 = place_order (λ x. x) (e ∷ es) 0 w.0 0
+    (subst (λ zs. rises zs ≡ true) (sym (map_self (e ∷ es))) up) (omega arith) w.1 in
     omega (arith, le, w.2)
   where
     map_self : (xs : List ℕ) → map (λ x. x) xs ≡ xs
@@ -68,7 +72,8 @@ first_least e es y up has =
 
 -- it begins with the first of the items where they rise
 turned_first : (es xs : List ℕ) → rises es ≡ true → IsPermutation es xs → take 1 (turned_to_least xs) ≡ take 1 es
-turned_first [] xs up p = ap (λ zs. take 1 (turned_to_least zs)) (nothing xs (λ d h. IsPermutation-Has xs [] d (IsPermutation-sym [] xs p) h))
+turned_first [] xs up p = ap (λ zs. take 1 (turned_to_least zs))
+    (nothing xs (λ d h. IsPermutation-Has xs [] d (IsPermutation-sym [] xs p) h))
   where
     nothing : (ys : List ℕ) → ((d : ℕ) → Has d ys → ⊥) → ys ≡ []
     nothing [] none = refl
@@ -76,7 +81,9 @@ turned_first [] xs up p = ap (λ zs. take 1 (turned_to_least zs)) (nothing xs (�
 turned_first (e ∷ es) xs up p =
     let here = IsPermutation-Has (e ∷ es) xs e p (inl refl) in
     let w = turned_to_least-head e xs here in
-    let back : Has w.0 (e ∷ es) = IsPermutation-Has (turned_to_least xs) (e ∷ es) w.0 (IsPermutation-sym (e ∷ es) (turned_to_least xs) (turned_arranges (e ∷ es) xs p)) (subst (Has w.0) (sym w.2) (inl refl)) in
+    let back : Has w.0 (e ∷ es) = IsPermutation-Has (turned_to_least xs) (e ∷ es) w.0
+    (IsPermutation-sym (e ∷ es) (turned_to_least xs) (turned_arranges (e ∷ es) xs p))
+    (subst (Has w.0) (sym w.2) (inl refl)) in
     let below : w.0 ≤ e = w.3 e here in
     let above : e ≤ w.0 = first_least e es w.0 up back in
     let same : w.0 ≡ e = omega (arith, below, above) in
@@ -85,11 +92,13 @@ turned_first (e ∷ es) xs up p =
 -- the kind under a name is that behind a vertex of another name
 kind_behind : (v : Vert) (vs : List Vert) (n : ℕ) → v.name ≢ n → kind_in vs n ≡ kind_in (v ∷ vs) n
 kind_behind v vs n ne =
-    sym (ap (option_map (λ x. x.kind)) (cond-false (eqb v.name n) (Some v) (find (λ x. eqb x.name n) vs) (ne_eqb v.name n ne)))
+    sym (ap (option_map (λ x. x.kind))
+    (cond-false (eqb v.name n) (Some v) (find (λ x. eqb x.name n) vs) (ne_eqb v.name n ne)))
 
 -- one vertex before two lists that agree
 kind_before : (v : Vert) (vs ws : List Vert) (n : ℕ) → kind_in ws n ≡ kind_in vs n → (b : Bool)
-    → option_map (λ (x : Vert). x.kind) (cond b (Some v) (find (λ x. eqb x.name n) ws)) ≡ option_map (λ (x : Vert). x.kind) (cond b (Some v) (find (λ x. eqb x.name n) vs))
+    → option_map (λ (x : Vert). x.kind) (cond b (Some v) (find (λ x. eqb x.name n) ws)) ≡ option_map
+    (λ (x : Vert). x.kind) (cond b (Some v) (find (λ x. eqb x.name n) vs))
 kind_before v vs ws n rest true = refl
 kind_before v vs ws n rest false = rest
 
@@ -99,13 +108,21 @@ kind_fixed : (p : Pipe) (cell : ℕ) (n : ℕ) → p.a ≢ p.b → n ≢ p.a →
 kind_fixed p cell n differ na nb [] = refl
 kind_fixed p cell n differ na nb (v ∷ vs) =
     let rest = kind_fixed p cell n differ na nb vs in
-    fixed_cases p cell v (λ w. option_map (λ x. x.kind) (cond (eqb w.name n) (Some w) (find (λ x. eqb x.name n) (map (fixed_vert p cell) vs))) ≡ kind_in (v ∷ vs) n) differ
-    (λ e. ap (option_map (λ x. x.kind)) (cond-false (eqb p.a n) (Some (fixed_a p cell)) (find (λ x. eqb x.name n) (map (fixed_vert p cell) vs)) (ne_eqb p.a n (λ h. na (sym h)))) ∙ rest ∙ kind_behind v vs n (λ h. na (sym h ∙ e)))
-    (λ e. ap (option_map (λ x. x.kind)) (cond-false (eqb p.b n) (Some (fixed_b p cell)) (find (λ x. eqb x.name n) (map (fixed_vert p cell) vs)) (ne_eqb p.b n (λ h. nb (sym h)))) ∙ rest ∙ kind_behind v vs n (λ h. nb (sym h ∙ e)))
+    fixed_cases p cell v
+    (λ w. option_map (λ x. x.kind)
+    (cond (eqb w.name n) (Some w) (find (λ x. eqb x.name n) (map (fixed_vert p cell) vs))) ≡ kind_in
+    (v ∷ vs) n) differ
+    (λ e. ap (option_map (λ x. x.kind))
+    (cond-false (eqb p.a n) (Some (fixed_a p cell)) (find (λ x. eqb x.name n) (map (fixed_vert p cell) vs))
+    (ne_eqb p.a n (λ h. na (sym h)))) ∙ rest ∙ kind_behind v vs n (λ h. na (sym h ∙ e)))
+    (λ e. ap (option_map (λ x. x.kind))
+    (cond-false (eqb p.b n) (Some (fixed_b p cell)) (find (λ x. eqb x.name n) (map (fixed_vert p cell) vs))
+    (ne_eqb p.b n (λ h. nb (sym h)))) ∙ rest ∙ kind_behind v vs n (λ h. nb (sym h ∙ e)))
     (λ ma mb. kind_before v vs (map (fixed_vert p cell) vs) n rest (eqb v.name n))
 
 -- the five rules after the step
-module _ (i : Synchronized) (pipe : ℕ) (p : Pipe) (is : IsSynchronized i) (live : pipe_named i pipe ≡ Some p) (cell : ℕ) (fits : cell < 2 ^ 63) where
+module _ (i : Synchronized) (pipe : ℕ) (p : Pipe) (is : IsSynchronized i) (live : pipe_named i pipe ≡ Some p) (cell : ℕ)
+    (fits : cell < 2 ^ 63) where
   ends : HasRightEnds i.verts p
   ends = right_ends i pipe p is live
 
@@ -132,12 +149,22 @@ module _ (i : Synchronized) (pipe : ℕ) (p : Pipe) (is : IsSynchronized i) (liv
       (λ na nb. All-by_item (λ c. c < 2 ^ 63) (λ v. cell_of v.kind) i.verts is.cells_fit k d lt)
 
   seconds_arranged : IsPermutation (edges_of i p.b) (reverse (map (λ x. x.1) p.pairs))
-  seconds_arranged = IsPermutation-trans (edges_of i p.b) (map (λ x. x.1) p.pairs) (reverse (map (λ x. x.1) p.pairs)) pairs.second (IsPermutation-reverse (map (λ x. x.1) p.pairs))
+  seconds_arranged = IsPermutation-trans (edges_of i p.b) (map (λ x. x.1) p.pairs)
+      (reverse (map (λ x. x.1) p.pairs)) pairs.second (IsPermutation-reverse (map (λ x. x.1) p.pairs))
 
   lists_right : All (λ v. IsRightKind (graph i) (fixed_vert p cell v).name (fixed_vert p cell v).kind) i.verts
-  lists_right k d lt = fixed_cases p cell (slice_index_or i.verts k d) (λ w. IsRightKind (graph i) w.name w.kind) ends.differ
-      (λ e. (subst (IsPermutation (edges_of i p.a)) (sym pairs.first) (IsPermutation-refl (edges_of i p.a)), ap (take 1) pairs.first))
-      (λ e. (turned_arranges (edges_of i p.b) (reverse (map (λ x. x.1) p.pairs)) seconds_arranged, turned_first (edges_of i p.b) (reverse (map (λ x. x.1) p.pairs)) (edges_rise p.b) seconds_arranged))
+  lists_right k d lt = fixed_cases p cell (slice_index_or i.verts k d)
+      (λ w. IsRightKind (graph i) w.name w.kind) ends.differ
+      (λ e. (
+        subst (IsPermutation (edges_of i p.a)) (sym pairs.first) (IsPermutation-refl (edges_of i p.a)),
+        ap
+            (take 1) pairs.first,
+      ))
+      (λ e. (
+        turned_arranges (edges_of i p.b) (reverse (map (λ x. x.1) p.pairs)) seconds_arranged,
+        turned_first
+            (edges_of i p.b) (reverse (map (λ x. x.1) p.pairs)) (edges_rise p.b) seconds_arranged,
+      ))
       (λ na nb. is.lists_right k d lt)
 
   found : find (λ x. eqb x.name p.name) i.pipes ≡ Some p
@@ -159,10 +186,12 @@ module _ (i : Synchronized) (pipe : ℕ) (p : Pipe) (is : IsSynchronized i) (liv
     verts_named = subst AreNames (sym same_names) is.verts_named;
     edges_named = is.edges_named;
     pipes_named = fewer.pipes_named;
-    cells_fit = All-values (λ c. c < 2 ^ 63) (λ (v : Vert). cell_of v.kind) (map (fixed_vert p cell) i.verts) (All-map (λ (v : Vert). All (λ c. c < 2 ^ 63) (cell_of v.kind)) (fixed_vert p cell) i.verts cells_fit);
+    cells_fit = All-values (λ c. c < 2 ^ 63) (λ (v : Vert). cell_of v.kind) (map (fixed_vert p cell) i.verts)
+        (All-map (λ (v : Vert). All (λ c. c < 2 ^ 63) (cell_of v.kind)) (fixed_vert p cell) i.verts cells_fit);
     ends_live = subst (λ ns. All (λ e. Contains ns e.a × Contains ns e.b) i.edges) (sym same_names) is.ends_live;
     ends_differ = is.ends_differ;
-    lists_right = subst (λ g. All (λ v. IsRightKind g v.name v.kind) (map (fixed_vert p cell) i.verts)) (sym same_graph) (All-map (λ v. IsRightKind (graph i) v.name v.kind) (fixed_vert p cell) i.verts lists_right);
+    lists_right = subst (λ g. All (λ v. IsRightKind g v.name v.kind) (map (fixed_vert p cell) i.verts)) (sym same_graph)
+        (All-map (λ v. IsRightKind (graph i) v.name v.kind) (fixed_vert p cell) i.verts lists_right);
     ends_free = ends_free;
     ends_apart = fewer.ends_apart;
     pairs_right = subst (λ g. All (HasRightPairs g) (other_pipes i (p.name ∷ []))) (sym same_graph) fewer.pairs_right;

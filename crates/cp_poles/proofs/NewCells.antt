@@ -38,15 +38,25 @@ range_below n k d lt =
 -- it is at most the number of live names
 pub one_new_name-le : (live : List ℕ) → slice_index (new_names live 1) 0 ≤ length live
 one_new_name-le live =
-    let below = All-take (λ x. x < length live + 1) 1 (filter (λ k. not (has live k)) (range_with_len 0 (length live + 1)))
-        (All-filter (λ k. not (has live k)) (λ x. x < length live + 1) (range_with_len 0 (length live + 1)) (range_below (length live + 1))) in
-    let least : slice_index (new_names live 1) 0 < length live + 1 = All-head (λ x. x < length live + 1) (slice_index (new_names live 1) 0) [] (All-same (λ x. x < length live + 1) (slice_index (new_names live 1) 0 ∷ []) (new_names live 1) (one_new_name live) below) in
+    let below = All-take (λ x. x < length live + 1) 1
+    (filter (λ k. not (has live k)) (range_with_len 0 (length live + 1)))
+    (All-filter (λ k. not (has live k)) (λ x. x < length live + 1) (range_with_len 0 (length live + 1))
+    (range_below (length live + 1))) in
+    let least : slice_index (new_names live 1) 0 < length live + 1 = All-head (λ x. x < length live + 1)
+    (slice_index (new_names live 1) 0) []
+    (All-same (λ x. x < length live + 1) (slice_index (new_names live 1) 0 ∷ []) (new_names live 1)
+    (one_new_name live) below) in
     omega (arith, least)
 
 -- numbers that rise and are below n are at most n
 pub rising_below : (n : ℕ) (xs : List ℕ) → rises xs ≡ true → All (λ x. x < n) xs → length xs ≤ n
 rising_below n xs up all =
-    omega (arith, count-le n (λ x. true), distinct-le n (λ x. true) xs (λ i lt. (all i 0 lt, refl)) (Distinct-once xs (Distinct-from_rises xs up)))
+    omega (
+      arith,
+      count-le n (λ x. true),
+      distinct-le n (λ x. true) xs (λ i lt. (all i 0 lt, refl))
+          (Distinct-once xs (Distinct-from_rises xs up)),
+    )
 
 -- a vertex has at most one cell
 cell_once : (kind : Kind) → length (cell_of kind) ≤ 1
@@ -67,10 +77,13 @@ cells_fewer [] n e = absurd (None-other P e)
 cells_fewer (v ∷ vs) n e =
     ⊎_elim
     (λ b.
-        let free : v.kind ≡ P = Some-same v.kind P (sym (ap (option_map (λ x. x.kind)) (cond-true (eqb v.name n) (Some v) (find (λ x. eqb x.name n) vs) b)) ∙ e) in
-        let none : length (cell_of v.kind) ≡ 0 = ap (λ k. length (cell_of k)) free in
-        omega (arith, none, cells_few vs, length-append (cell_of v.kind) (cells_in vs)))
+    let free : v.kind ≡ P = Some-same v.kind P
+    (sym (ap (option_map (λ x. x.kind)) (cond-true (eqb v.name n) (Some v) (find (λ x. eqb x.name n) vs) b))
+    ∙ e) in
+    let none : length (cell_of v.kind) ≡ 0 = ap (λ k. length (cell_of k)) free in
+    omega (arith, none, cells_few vs, length-append (cell_of v.kind) (cells_in vs)))
     (λ b.
-        let later = sym (ap (option_map (λ x. x.kind)) (cond-false (eqb v.name n) (Some v) (find (λ x. eqb x.name n) vs) b)) ∙ e in
-        omega (arith, cell_once v.kind, cells_fewer vs n later, length-append (cell_of v.kind) (cells_in vs)))
+    let later = sym
+    (ap (option_map (λ x. x.kind)) (cond-false (eqb v.name n) (Some v) (find (λ x. eqb x.name n) vs) b)) ∙ e in
+    omega (arith, cell_once v.kind, cells_fewer vs n later, length-append (cell_of v.kind) (cells_in vs)))
     (cases_Bool (eqb v.name n))

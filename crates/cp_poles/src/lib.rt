@@ -3,4 +3,7 @@
 
 mod small_pipes;
 
-pub use small_pipes::{small, small_keeps_solvable};
+pub use small_pipes::{small, small_back, small_keeps_solvable};
+
+#[cfg(test)]
+mod tests;

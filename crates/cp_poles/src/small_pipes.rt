@@ -2,14 +2,16 @@
 ghost use Rattle.std.specs.Prelude.{◌≡◌, ℕ, map, IfOk};
 ghost use Rattle.std.specs.List.{Contains};
 ghost use Rattle.cp_board.specs.declared.steps.Step.TheVariants.{Small};
-ghost use Rattle.cp_board.specs.Instances.{IsSynchronized, pipe_names};
+ghost use Rattle.cp_board.specs.Instances.{IsSynchronized, Synchronized, pipe_names};
 ghost use Rattle.cp_board.specs.Reductions.{KeepsSolvable, Performs};
+ghost use Rattle.cp_board.specs.Effects.{After};
+ghost use Rattle.cp_board.specs.Solutions.{IsSolution};
 ghost use Rattle.cp_board.specs.Steps.{Allowed};
 ghost use Rattle.cp_poles.specs.Small.{first_psi, second_psi, fixed_ends, new_cell, kinds_after, setting};
 
 use cp_base::{CycList, Items, Memory};
 use cp_board::{Kind, NameKind, Rewrite, Vert, Verts};
-use cp_sync::Board;
+use cp_sync::{Board, Solution};
 use std::alloc::Global;
 
 /// What Small makes of an instance is solvable exactly where the instance is. Constant time.
@@ -77,8 +79,7 @@ fn free_cell<B: Board>(alloc: Global, board: &B) -> Result<usize, Memory>
     ensures { IfOk result (λ cell. cell ≡ new_cell (B.instance board.now)) }
 {
     let names = board.free_names(alloc, NameKind::Cell, 1)?;
-    let cell = names[0];
-    Ok(cell)
+    Ok(names[0])
 }
 
 // The vertices that get another kind.
@@ -123,4 +124,14 @@ pub fn small<B: Board>(alloc: Global, board: &B, pipe: usize) -> Result<Rewrite,
     let kinds = set_kinds(alloc, board, pipe)?;
     let rewrite = drop_and_set(alloc, pipe, kinds)?;
     Ok(rewrite)
+}
+
+/// The solution before the step Small from one after it: no list changes. Constant time.
+pub fn small_back<B: Board>(before: &B, pipe: usize, after: Solution) -> Solution
+    requires allowed { Allowed (B.instance before.now) (Small pipe) }
+    requires solved { (j : Synchronized) × After (B.instance before.now) (Small pipe) j × IsSolution j after }
+    ensures { IsSolution (B.instance before.now) result }
+{
+    let _ = before.pipe_ends(pipe);
+    after
 }

@@ -9,4 +9,4 @@ index-requires g c =
     omega (arith, c.in_ok-names.names.ok, ap length c.in_ok-names.ensures, length-new_names (cells (g.B.Board.instance c.args.board.now)) 1)
 
 pub returns : goal.returns
-returns g c = c.index.ensures ∙ ap (λ xs. slice_index xs 0) c.in_ok-names.ensures
+returns g c = cc (c.in_ok-names.ensures)
