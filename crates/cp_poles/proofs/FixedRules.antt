@@ -1,30 +1,28 @@
 -- After Small at a pipe of three pairs the five rules hold.
-use Rattle.std.proofs.Common.{◌≡◌, ◌≢◌, ℕ, suc, ◌+◌, ◌^◌, ◌<◌, ◌≤◌, Bool, true, false, not, cond, eqb, List, [], ◌∷◌, ◌++◌, length, map, take, drop, reverse, slice_index, slice_index_or, sym, refl, ap, ◌∙◌, subst, arith, IsPermutation, inl}
-use Rattle.std.specs.Prelude.{Option, Some, find}
+use Rattle.std.proofs.Common.{◌≡◌, ◌≢◌, ℕ, ◌+◌, ◌^◌, ◌<◌, ◌≤◌, Bool, true, false, not, cond, eqb, List, [], ◌∷◌, length, map, take, drop, reverse, slice_index, slice_index_or, sym, refl, ap, ◌∙◌, subst, arith, IsPermutation, inl}
+use Rattle.std.specs.Prelude.{Some, find}
 use Rattle.std.specs.List.{All, Contains, flat_map}
 use Rattle.std.specs.Option.{option_map}
-use Rattle.std.proofs.lemmas.Bool.{cond_both, cond-true, cond-false, eqb-true, eqb-false, ne_eqb}
-use Rattle.std.proofs.lemmas.List.{take-append-drop, length-append, length-map}
+use Rattle.std.proofs.lemmas.Bool.{cond-false, ne_eqb}
+use Rattle.std.proofs.lemmas.List.{take-append-drop, length-append}
 use Rattle.std.proofs.Math.ListN.{get_or-append}
 use Rattle.std.proofs.lemmas.List.{get_or-append-add}
-use Rattle.std.proofs.lemmas.List.Elements.{All-nil, All-cons, All-head, All-tail, All-append, All-filter, All-map}
+use Rattle.std.proofs.lemmas.List.Elements.{All-nil, All-cons, All-head, All-tail, All-append, All-map}
 use Rattle.std.proofs.lemmas.List.Sorted.{IsPermutation-refl, IsPermutation-sym, IsPermutation-trans, IsPermutation-reverse, IsPermutation-append_comm}
 use Rattle.std.proofs.lemmas.List.Kept.{IsStrictlyIncreasing-filter}
 use Rattle.cp_lists.specs.CyclicLists.{Has}
 use Rattle.cp_lists.specs.Turns.{turned_to_least, least_place}
 use Rattle.cp_lists.proofs.DistinctLists.{Has-place}
 use Rattle.cp_lists.proofs.LeastItems.{turned_to_least-head}
-use Rattle.cp_board.specs.declared.parts.Kind.TheVariants.{P, Q}
 use Rattle.cp_board.specs.declared.parts.Vert.{Vert}
 use Rattle.cp_board.specs.declared.parts.Pipe.{Pipe}
-use Rattle.cp_board.specs.Names.{has, AreNew}
-use Rattle.cp_board.specs.Instances.{Synchronized, IsSynchronized, AreNames, HasRightEnds, HasRightPairs, IsRightKind, graph, cell_of, cells, edges_of, edge_names, kind_in, pipe_named, vert_names}
+use Rattle.cp_board.specs.Names.{has}
+use Rattle.cp_board.specs.Instances.{Synchronized, IsSynchronized, AreNames, HasRightEnds, HasRightPairs, IsRightKind, graph, cell_of, edges_of, edge_names, kind_in, pipe_named, vert_names}
 use Rattle.cp_board.specs.Changes.{other_pipes}
-use Rattle.cp_board.specs.Rotations.{ArrangesEdges}
 use Rattle.cp_board.proofs.DroppedPipes.{IsSynchronized-fewer_pipes}
 use Rattle.cp_board.proofs.ListTests.{rises}
 use Rattle.cp_board.proofs.NamedLists.{rises_from, place_order}
-use Rattle.cp_poles.proofs.ApartEnds.{Apart, others_apart}
+use Rattle.cp_poles.proofs.ApartEnds.{others_apart}
 use Rattle.cp_poles.proofs.FixedEnds.{fixed, fixed_vert, fixed_a, fixed_b, fixed_cases, graph_fixed, names_fixed}
 use Rattle.cp_poles.proofs.Permutations.{IsPermutation-Has}
 use Rattle.cp_poles.proofs.SmallPipes.{right_ends, right_pairs, own_name}

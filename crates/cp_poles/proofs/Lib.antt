@@ -7,4 +7,4 @@ mod ApartEnds
 mod NewCells
 mod FixedRules
 mod SmallRewrites
-mod GreatestPipes
+mod FirstItems

@@ -1,23 +1,21 @@
 -- The rewrite of Small fits the instance, and gives what the step makes of it.
-use Rattle.std.proofs.Common.{◌≡◌, ◌≢◌, ℕ, ◌+◌, ◌^◌, ◌<◌, ◌≤◌, Bool, true, false, not, ◌||◌, cond, eqb, List, [], ◌∷◌, ◌++◌, length, map, slice_index, sym, refl, ap, ◌∙◌, subst, arith}
-use Rattle.std.specs.Prelude.{Option, Some, None, find, filter}
-use Rattle.std.specs.List.{All, Contains, flat_map}
+use Rattle.std.proofs.Common.{◌≡◌, ◌≢◌, ℕ, ◌^◌, ◌<◌, Bool, true, false, not, cond, eqb, List, [], ◌∷◌, ◌++◌, length, map, sym, refl, ap, ◌∙◌, subst, arith}
+use Rattle.std.specs.Prelude.{Some, None, filter}
+use Rattle.std.specs.List.{Contains}
 use Rattle.std.specs.Option.{option_map_or}
 use Rattle.std.proofs.lemmas.Bool.{cond_both, cond-true, cond-false, eqb-true, eqb-false, eq-eqb, ne_eqb, or_left}
 use Rattle.std.proofs.lemmas.List.{append-nil, length-map}
 use Rattle.std.proofs.lemmas.List.Elements.{All-nil, All-cons, All-head, All-contains_itself}
-use Rattle.cp_board.specs.declared.parts.Kind.TheVariants.{P, Q}
 use Rattle.cp_board.specs.declared.parts.Vert.{Vert}
 use Rattle.cp_board.specs.declared.parts.Pipe.{Pipe}
-use Rattle.cp_board.specs.declared.rewrite.Rewrite.{Rewrite}
 use Rattle.cp_board.specs.declared.steps.Step.TheVariants.{Small}
-use Rattle.cp_board.specs.Names.{has, by_name, new_names, AreNew}
-use Rattle.cp_board.specs.Instances.{Synchronized, IsSynchronized, HasRightEnds, cell_of, cells, names_of_verts, pairs_of, pipe_ends_of, pipe_named, pipe_names, vert_names}
+use Rattle.cp_board.specs.Names.{has, by_name, AreNew}
+use Rattle.cp_board.specs.Instances.{Synchronized, IsSynchronized, HasRightEnds, cells, pairs_of, pipe_ends_of, pipe_named, pipe_names, vert_names}
 use Rattle.cp_board.specs.Changes.{other_pipes, IsWithoutPipe}
 use Rattle.cp_board.specs.Rewrites.{rewritten, dropping, with_kinds, first_ones, cells_added, IsRewriteOf}
 use Rattle.cp_board.specs.Reductions.{Performs}
 use Rattle.cp_board.specs.Steps.{degree, Allowed}
-use Rattle.cp_board.specs.Effects.{HasFixedEnds, IsAfterSmall, first_kind, second_kind}
+use Rattle.cp_board.specs.Effects.{HasFixedEnds}
 use Rattle.cp_board.proofs.DroppedPipes.{rewritten_dropping, IsRewriteOf-dropping, IsWithoutPipe-dropping}
 use Rattle.cp_board.proofs.ListTests.{rises}
 use Rattle.cp_board.proofs.NamedLists.{rises_from, by_name_same, filter_true}

@@ -4,6 +4,3 @@
 mod small_pipes;
 
 pub use small_pipes::{small, small_back, small_keeps_solvable};
-
-#[cfg(test)]
-mod tests;

@@ -1,5 +1,5 @@
 -- There is one new name.
-use Rattle.std.proofs.Common.{◌≡◌, ◌<◌, length, ap, arith}
+use Rattle.std.proofs.Common.{length, ap, arith}
 use Rattle.cp_board.specs.Names.{new_names}
 use Rattle.cp_board.specs.Instances.{cells}
 use Rattle.cp_board.proofs.NumberOfNewNames.{length-new_names}

@@ -1,5 +1,5 @@
 -- The kinds that are set are those of the step.
-use Rattle.std.proofs.Common.{◌≡◌, sym, subst}
+use Rattle.std.proofs.Common.{sym, subst}
 use Rattle.cp_board.specs.declared.steps.Step.TheVariants.{Small}
 use Rattle.cp_board.specs.Reductions.{Performs}
 use Rattle.cp_poles.specs.Small.{setting}
