@@ -8,8 +8,12 @@ use Rattle.cp_poles.proofs.small_pipes.free_cell.Goals as goal
 
 pub index-requires : goal.index-requires
 index-requires g c =
-    omega (arith, c.in_ok-names.names.ok, ap length c.in_ok-names.ensures,
-    length-new_names (cells (g.B.Board.instance c.args.board.now)) 1)
+    omega (
+      arith,
+      c.in_ok-names.names.ok,
+      ap length c.in_ok-names.ensures,
+      length-new_names (cells (g.B.Board.instance c.args.board.now)) 1,
+    )
 
 pub returns : goal.returns
 returns g c =
