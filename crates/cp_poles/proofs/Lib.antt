@@ -3,3 +3,8 @@ mod Mirrors
 mod FoundItems
 mod FixedEnds
 mod SmallPipes
+mod ApartEnds
+mod NewCells
+mod FixedRules
+mod SmallRewrites
+mod FirstItems

@@ -10,18 +10,18 @@ use Rattle.cp_board.specs.declared.parts.Vert.{Vert}
 use Rattle.cp_board.specs.declared.parts.Pipe.{Pipe}
 use Rattle.cp_board.specs.declared.steps.Step.TheVariants.{Small}
 use Rattle.cp_board.specs.Names.{has, AreNew}
-use Rattle.cp_board.specs.Instances.{Synchronized, IsSynchronized, HasRightEnds, HasRightPairs, cell_of, graph, cells, pipe_named, pipe_names, vert_names}
+use Rattle.cp_board.specs.Instances.{Synchronized, IsSynchronized, HasRightEnds, HasRightPairs, cell_of, graph, cells, names_of_verts, pipe_named, pipe_names, vert_names}
 use Rattle.cp_board.specs.Changes.{IsWithoutPipe, other_pipes}
 use Rattle.cp_board.specs.Rotations.{ArrangesEdges, IsRotationOf}
-use Rattle.cp_board.specs.Solutions.{Solves, IsMirror, IsInDirection, directed, second_of}
-use Rattle.cp_board.specs.Steps.{degree}
-use Rattle.cp_board.specs.Effects.{IsAfterSmall, HasFixedEnds}
+use Rattle.cp_board.specs.Solutions.{Solves, IsSolution, IsMirror, IsInDirection, directed, list_in, second_of}
+use Rattle.cp_board.specs.Steps.{degree, Allowed}
+use Rattle.cp_board.specs.Effects.{After, IsAfterSmall, HasFixedEnds}
 use Rattle.cp_board.specs.Reductions.{KeepsSolvable}
 use Rattle.cp_board.proofs.DroppedPipes.{Solves-without_pipe}
 use Rattle.cp_board.proofs.NamedLists.{rises_from}
 use Rattle.cp_board.proofs.NewNames.{new_names-dead}
 use Rattle.cp_poles.proofs.FoundItems.{All-found, All-unmapped, All-with_pipe, Some-same}
-use Rattle.cp_poles.proofs.FixedEnds.{fixed, fixed_vert, fixed_a, fixed_b, fixed_cases, fixed_other, graph_fixed, kind_at, holds_named, named-Contains, cells_lack, with_direction, direction_kept}
+use Rattle.cp_poles.proofs.FixedEnds.{fixed, fixed_vert, fixed_a, fixed_b, fixed_cases, fixed_other, graph_fixed, names_fixed, kind_at, holds_named, named-Contains, cells_lack, with_direction, direction_kept}
 use Rattle.cp_poles.proofs.Mirrors.{mirror_of_two, direction_of_three, direction_from_mirror, mirror_from_direction}
 
 -- a live pipe of an instance
@@ -190,6 +190,12 @@ module _ (i : Synchronized) (pipe : ℕ) (p : Pipe) (is : IsSynchronized i) (liv
       (λ three e. fixed_back e.cell e.new_cell s (subst (λ z. Solves z s) (fixed_is j e) h))
       (λ other w. let le : degree p ≤ 2 = omega (arith, short, other) in short_back j s le w h)
 
+  -- the step keeps the names of the vertices
+  pub names_after_small : (j : Synchronized) → IsAfterSmall i p j → vert_names j ≡ vert_names i
+  names_after_small j after = by_degree j (vert_names j ≡ vert_names i) after
+      (λ three e. ap vert_names (fixed_is j e) ∙ names_fixed p e.cell right_ends.differ i.verts)
+      (λ other w. ap names_of_verts w.verts)
+
 -- Small keeps solvability
 pub KeepsSolvable-small : (pipe : ℕ) → KeepsSolvable (Small pipe)
 KeepsSolvable-small pipe i j is allowed after =
@@ -198,3 +204,14 @@ KeepsSolvable-small pipe i j is allowed after =
       λ solved. (solved.0, Solves-after_small i pipe p is after.1 j solved.0 after.2 solved.1),
       λ solved. (solved.0, Solves-before_small i pipe p is after.1 j solved.0 short after.2 solved.1),
     )
+
+-- what solves the instance after the step solves the one before it
+pub IsSolution-before_small : (i j : Synchronized) (pipe : ℕ) (lists : List (ℕ × List ℕ)) → IsSynchronized i
+    → Allowed i (Small pipe) → After i (Small pipe) j → IsSolution j lists → IsSolution i lists
+IsSolution-before_small i j pipe lists is allowed after h =
+    let p = after.0 in
+    let short = subst (λ q. degree q ≤ 3) (Some-same allowed.0 p (sym allowed.1 ∙ after.1)) allowed.2 in
+    record {
+      names = h.names ∙ names_after_small i pipe p is after.1 j after.2;
+      solves = Solves-before_small i pipe p is after.1 j (list_in lists) short after.2 h.solves;
+    }
