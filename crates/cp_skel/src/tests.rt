@@ -5,7 +5,7 @@ ghost use Rattle.cp_skel.specs.SkeletonTables.{told_skeletons};
 use crate::{Skeletons, Vertex, skeletons_of};
 use cp_base::Memory;
 use cp_cgraph::{CGraph, read_graph};
-use cp_sync::Instance;
+use cp_sync::{Board, Instance};
 use std::alloc::Global;
 use std::test::Fail;
 
