@@ -14,3 +14,5 @@ pub mod Orders
 pub mod Crossings
 pub mod FlatLists
 pub mod Runs
+pub mod EachItem
+pub mod PermutedLists

@@ -4,7 +4,7 @@ use Rattle.std.proofs.lemmas.Bool.{and_from, and_parts}
 use Rattle.std.proofs.lemmas.List.{map-append}
 use Rattle.std.specs.List.{Contains, filter}
 use Rattle.cp_lists.specs.CyclicLists.{Distinct, Has, Lacks}
-use Rattle.cp_lists.proofs.DistinctLists.{Distinct-middle, Has-append_cases, Has-append_left, Has-append_right, Lacks-from, has_other}
+use Rattle.cp_lists.proofs.DistinctLists.{Distinct-less, Distinct-middle, Has-append_cases, Has-append_left, Has-append_right, Lacks-from, has_other}
 use Rattle.cp_orbits.specs.Connected.{Joins}
 use Rattle.cp_faces.specs.Twins.{twin}
 use Rattle.cp_conn.specs.Blocks.{HaveNoLoop}
@@ -17,7 +17,6 @@ use Rattle.cp_maps.specs.Blocks.{AreBlocks, NoneCross}
 use Rattle.cp_maps.specs.Genus.{CanBeFlat, IsFlat, OnePart}
 use Rattle.cp_maps.specs.Maps.{IsMapOf, next_by}
 use Rattle.cp_maps.proofs.GenusByBlocks.{blocks-IsFlat, without_list}
-use Rattle.cp_maps.proofs.ListFacts.{Distinct-less}
 use Rattle.cp_maps.proofs.NamedLists.{named_item}
 use Rattle.cp_maplaw.specs.NamedDarts.{AreDartsOf, IsArrangedBy, dart_list}
 use Rattle.cp_maplaw.proofs.NamedRests.{dart_edge, edge_dart, equal_not, named_some, not_equal, rest-OnePart}

@@ -5,7 +5,7 @@ use Rattle.cp_lists.specs.CyclicLists.{Distinct, Has, Lacks, but}
 use Rattle.cp_lists.specs.Rows.{flat}
 use Rattle.cp_lists.specs.Turns.{IsTurn}
 use Rattle.cp_lists.proofs.CyclicLists.{next_from_at}
-use Rattle.cp_lists.proofs.DistinctLists.{Distinct-apart, Distinct-apart_right, Distinct-append, Distinct-append_left, Distinct-append_right, Has-append_cases, Has-append_left, Has-append_right, Has-but, Lacks-append, Lacks-append_left, Lacks-append_right, but-Distinct, but-Has, but-Lacks, has_lacks}
+use Rattle.cp_lists.proofs.DistinctLists.{Distinct-apart, Distinct-apart_right, Distinct-append, Distinct-append_left, Distinct-append_right, Distinct-less, Has-append_cases, Has-append_left, Has-append_right, Has-but, Lacks-append, Lacks-append_left, Lacks-append_right, but-Distinct, but-Has, but-Lacks, has_lacks}
 use Rattle.cp_orbits.specs.Classes.{graph, labels}
 use Rattle.cp_orbits.specs.Orbits.{Permutes}
 use Rattle.cp_orbits.proofs.OrbitLaws.{label_step}
@@ -17,7 +17,7 @@ use Rattle.cp_maps.specs.Genus.{Becomes, OneFace, SameGenus}
 use Rattle.cp_maps.specs.Maps.{IsMapOf, next_by, swapped}
 use Rattle.cp_maps.proofs.Edges.{lt_twin, slid-SameGenus, swapped_pendant-SameGenus}
 use Rattle.cp_maps.proofs.Genus.{SameGenus-sym, SameGenus-trans}
-use Rattle.cp_maps.proofs.ListFacts.{Below-from, Distinct-less, below_item, map-agree}
+use Rattle.cp_maps.proofs.ListFacts.{Below-from, below_item, map-agree}
 use Rattle.cp_maps.proofs.MapLists.{IsMapOf-Permutes, IsMapOf-by, IsMapOf-loose, IsMapOf-merged, IsMapOf-some, IsMapOf-split, IsMapOf-swap, IsMapOf-third, IsMapOf-turn, IsMapOf-unbare, IsMapOf-unloose, other_vertex}
 use Rattle.cp_maps.proofs.MergedVertices.{merged_within-SameGenus, same_lists-SameGenus}
 use Rattle.cp_maps.proofs.NamedLists.{named_front, two_named_front}

@@ -13,7 +13,7 @@ use Rattle.cp_maps.proofs.CutLoops.{cut_loop-Apart}
 use Rattle.cp_maps.proofs.Edges.{twin-OnePart}
 use Rattle.cp_maps.proofs.FewerDarts.{next_kept-CanBeFlat, swapped_lists-CanBeFlat, third_list-CanBeFlat, two_kept-CanBeFlat}
 use Rattle.cp_maps.proofs.Genus.{SameGenus-IsFlat}
-use Rattle.cp_maps.proofs.ListFacts.{Distinct-less}
+use Rattle.cp_lists.proofs.DistinctLists.{Distinct-less}
 use Rattle.cp_maps.proofs.MapLists.{IsMapOf-Permutes, IsMapOf-some, IsMapOf-third, IsMapOf-turn, one_vertex}
 use Rattle.cp_maps.proofs.Swaps.{vertex-OnePart}
 

@@ -3,7 +3,7 @@ use Rattle.std.proofs.Common.{◌≡◌, ℕ, ◌<◌, List, [], ◌∷◌, ◌+
 use Rattle.std.proofs.lemmas.Bool.{cases_eq}
 use Rattle.cp_lists.specs.CyclicLists.{Distinct, Has}
 use Rattle.cp_lists.specs.Rows.{flat}
-use Rattle.cp_lists.proofs.DistinctLists.{Has-append_cases, Has-append_left, Has-append_right}
+use Rattle.cp_lists.proofs.DistinctLists.{Distinct-less, Has-append_cases, Has-append_left, Has-append_right}
 use Rattle.cp_lists.proofs.TurnedLists.{turn_parts}
 use Rattle.cp_orbits.specs.Classes.{graph, labels}
 use Rattle.cp_orbits.specs.Orbits.{Permutes}
@@ -16,7 +16,6 @@ use Rattle.cp_maps.proofs.ContractedEdges.{trivial_loop-SameGenus}
 use Rattle.cp_maps.proofs.Edges.{twin-OnePart}
 use Rattle.cp_maps.proofs.EdgesBetween.{edge-RaisesGenus, edge_between-SameGenus, edge_between-one_face, edge_within-two_faces}
 use Rattle.cp_maps.proofs.Genus.{RaisesGenus-not_flat, SameGenus-IsFlat, SameGenus-sym, SameGenus-trans}
-use Rattle.cp_maps.proofs.ListFacts.{Distinct-less}
 use Rattle.cp_maps.proofs.MapLists.{IsMapOf-Permutes, IsMapOf-some, IsMapOf-split, IsMapOf-swap, IsMapOf-turn, IsMapOf-unbare, one_vertex}
 use Rattle.cp_maps.proofs.MergedVertices.{merged-RaisesGenus, merged_within-SameGenus}
 use Rattle.cp_maps.proofs.Swaps.{vertex-OnePart}

@@ -3,7 +3,7 @@ use Rattle.std.proofs.Common.{◌≡◌, ℕ, List, [], ◌∷◌, ◌++◌, app
 use Rattle.std.proofs.lemmas.List.{append-nil}
 use Rattle.cp_lists.specs.CyclicLists.{Distinct, Has, Lacks}
 use Rattle.cp_lists.specs.Rows.{flat}
-use Rattle.cp_lists.proofs.DistinctLists.{Distinct-apart, Distinct-middle, Has-append_cases, Has-append_left, Has-append_right, Has-split, Lacks-append_left, has_lacks}
+use Rattle.cp_lists.proofs.DistinctLists.{Distinct-apart, Distinct-less, Distinct-middle, Has-append_cases, Has-append_left, Has-append_right, Has-split, Lacks-append_left, has_lacks}
 use Rattle.cp_lists.proofs.TurnedLists.{turn_parts}
 use Rattle.cp_orbits.proofs.OrbitLaws.{Permutes-same}
 use Rattle.cp_faces.specs.Twins.{twin}
@@ -16,7 +16,6 @@ use Rattle.cp_maps.proofs.CutLoops.{cut_loop-Apart}
 use Rattle.cp_maps.proofs.Edges.{twin-OnePart}
 use Rattle.cp_maps.proofs.FlatMaps.{IsFlat-agree}
 use Rattle.cp_maps.proofs.Genus.{OneGenus-IsFlat, OneGenus-trans, SameGenus-IsFlat, SameGenus-sym}
-use Rattle.cp_maps.proofs.ListFacts.{Distinct-less}
 use Rattle.cp_maps.proofs.MapLists.{IsMapOf-Permutes, IsMapOf-some, IsMapOf-swap, IsMapOf-turn, IsMapOf-unique, IsMapOf-unloose}
 use Rattle.cp_maps.proofs.Mirrors.{mirror-cons}
 use Rattle.cp_maps.proofs.ParallelEdges.{parallel_edge-IsMapOf, parallel_edge-SameGenus, parallel_edges-SameGenus}

@@ -5,7 +5,7 @@ use Rattle.std.specs.List.{filter}
 use Rattle.cp_lists.specs.CyclicLists.{Distinct, Has, Lacks, but}
 use Rattle.cp_lists.specs.Rows.{flat}
 use Rattle.cp_lists.proofs.DistinctLists.{Has-append_left, Has-append_right, Has-but, Lacks-from, but-Distinct, but-Has, but-Lacks, has_lacks, has_other}
-use Rattle.cp_lists.proofs.FilteredLists.{filter_agree, filter_all}
+use Rattle.cp_lists.proofs.FilteredLists.{filter_agree, filter_all, filter_twice}
 use Rattle.cp_lists.proofs.FlatLists.{flat-but}
 use Rattle.cp_orbits.specs.Orbits.{Permutes, exchange, splice}
 use Rattle.cp_orbits.proofs.Exchanges.{splice_at, splice_other}
@@ -14,7 +14,7 @@ use Rattle.cp_faces.proofs.ListRotations.{follow-splice}
 use Rattle.cp_maps.specs.Genus.{CanBeFlat, IsFlat}
 use Rattle.cp_maps.specs.Maps.{Below, IsMapOf, Rings, swapped}
 use Rattle.cp_maps.proofs.FlatMaps.{IsFlat-agree}
-use Rattle.cp_maps.proofs.ListFacts.{Below-from, below_item, filter_twice}
+use Rattle.cp_maps.proofs.ListFacts.{Below-from, below_item}
 use Rattle.cp_maps.proofs.MapLists.{IsMapOf-Permutes, IsMapOf-loose, IsMapOf-unbare, IsMapOf-unique, IsMapOf-unloose}
 use Rattle.cp_maps.proofs.MergedVertices.{split_list-IsFlat, swapped_at_vertex-IsFlat}
 

@@ -6,7 +6,7 @@ use Rattle.cp_lists.specs.CyclicLists.{Distinct, Has, Lacks, follow}
 use Rattle.cp_lists.specs.Rows.{flat}
 use Rattle.cp_lists.specs.Turns.{IsTurn}
 use Rattle.cp_lists.proofs.CyclicLists.{follow-Has, next_from_at}
-use Rattle.cp_lists.proofs.DistinctLists.{Distinct-apart, Distinct-apart_right, Distinct-append, Distinct-append_left, Distinct-append_right, Has-append_cases, Has-append_left, Has-append_right, Lacks-append, Lacks-append_right, Lacks-from, has_cases, has_lacks}
+use Rattle.cp_lists.proofs.DistinctLists.{Distinct-apart, Distinct-apart_right, Distinct-append, Distinct-append_left, Distinct-append_right, Distinct-swapped, Has-append_cases, Has-append_left, Has-append_right, Has-swapped, Lacks-append, Lacks-append_right, Lacks-from, has_cases, has_lacks}
 use Rattle.cp_lists.proofs.FlatLists.{flat-append}
 use Rattle.cp_lists.proofs.FollowedLists.{iterate_in_list}
 use Rattle.cp_lists.proofs.TurnedLists.{Has-of_turn, turn-Distinct, turn-Has}
@@ -16,7 +16,7 @@ use Rattle.cp_orbits.proofs.ClassLabels.{same_labels}
 use Rattle.cp_orbits.proofs.ListOrbits.{follow-reaches}
 use Rattle.cp_orbits.proofs.OrbitLaws.{Respects-graph, exchange_other, labels_reached}
 use Rattle.cp_maps.specs.Maps.{Below, IsMapOf, Ring, Rings, has, next_by, swapped}
-use Rattle.cp_maps.proofs.ListFacts.{Below-from, Distinct-swapped, Has-swapped, below_item, has_no, has_yes}
+use Rattle.cp_maps.proofs.ListFacts.{Below-from, below_item, has_no, has_yes}
 use Rattle.cp_maps.proofs.Rings.{Ring-merged, Ring-split, Ring-turned, Rings-append, Rings-append_left, Rings-append_right, Rings-far, loose_by, rings_apart, rings_by, rings_same, rings_stay}
 
 -- there is a map with given lists of different darts below n

@@ -2,7 +2,7 @@
 use Rattle.std.proofs.Common.{◌≡◌, ℕ, List, [], ◌∷◌, ◌++◌, append_assoc, sym, refl, ap, ◌∙◌, subst, inl, inr, ⊎_elim, ◌*◌}
 use Rattle.std.proofs.lemmas.List.{append-nil}
 use Rattle.cp_lists.specs.Rows.{flat}
-use Rattle.cp_lists.proofs.DistinctLists.{Has-append_cases, Has-append_left, Has-append_right}
+use Rattle.cp_lists.proofs.DistinctLists.{Distinct-less, Has-append_cases, Has-append_left, Has-append_right}
 use Rattle.cp_lists.proofs.TurnedLists.{turn_parts}
 use Rattle.cp_faces.specs.Twins.{twin}
 use Rattle.cp_faces.proofs.Twins.{twin-twin}
@@ -11,7 +11,6 @@ use Rattle.cp_maps.specs.Maps.{IsMapOf, next_by}
 use Rattle.cp_maps.specs.Mirrors.{mirror}
 use Rattle.cp_maps.proofs.ContractedEdges.{contracted_edge-IsMapOf, contracted_edge-SameGenus, trivial_loop-SameGenus}
 use Rattle.cp_maps.proofs.Genus.{SameGenus-sym, SameGenus-trans}
-use Rattle.cp_maps.proofs.ListFacts.{Distinct-less}
 use Rattle.cp_maps.proofs.MapLists.{IsMapOf-some, IsMapOf-swap, IsMapOf-turn}
 use Rattle.cp_maps.proofs.MergedVertices.{same_lists-SameGenus}
 use Rattle.cp_maps.proofs.Mirrors.{mirror-cons}

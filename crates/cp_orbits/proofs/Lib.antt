@@ -3,3 +3,4 @@ pub mod OrbitLaws
 pub mod Exchanges
 pub mod ListOrbits
 pub mod CycleLengths
+pub mod Twins

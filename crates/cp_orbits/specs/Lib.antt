@@ -1,3 +1,4 @@
 pub mod Connected
 pub mod Orbits
 pub mod Classes
+pub mod Twins
