@@ -1,6 +1,6 @@
 -- The parts between two poles in another order keep genus zero.
 use Rattle.std.proofs.Common.{◌≡◌, ◌≢◌, ℕ, ◌*◌, ◌/◌, ◌<◌, ◌⊎◌, ◌&&◌, Bool, true, false, not, eqb, List, [], ◌∷◌, ◌++◌, length, map, sym, refl, ap, ◌∙◌, subst, inl, inr, ⊎_elim}
-use Rattle.std.proofs.lemmas.Bool.{cases_Bool, cases_eq, eq-eqb, eqb-true, false≢true, ne_eqb}
+use Rattle.std.proofs.lemmas.Bool.{cases_Bool, cases_eq, eq-eqb, eqb-true, false≢true, ne_eqb, not-true, not_from_false}
 use Rattle.std.specs.List.{filter}
 use Rattle.cp_lists.specs.CyclicLists.{Distinct, Has, follow}
 use Rattle.cp_lists.specs.Rows.{flat}
@@ -30,7 +30,7 @@ use Rattle.cp_rotlaw.specs.StarParts.{star_row}
 use Rattle.cp_rotlaw.specs.Stars.{IsDartOf}
 use Rattle.cp_rotlaw.proofs.NamedMaps.{named_lists-Distinct, rings_of_names}
 use Rattle.cp_rotlaw.proofs.PoleLists.{ends_turn, part_or}
-use Rattle.cp_rotlaw.proofs.PoleMaps.{branch_of, not_false, not_true, of_part, others-Distinct, others_are, others_have, part_of_other, poles-IsMapOf, poles_linked, tested-SameRings, vertices_but}
+use Rattle.cp_rotlaw.proofs.PoleMaps.{branch_of, of_part, others-Distinct, others_are, others_have, part_of_other, poles-IsMapOf, poles_linked, tested-SameRings, vertices_but}
 use Rattle.cp_rotlaw.proofs.StarCode.{far_within}
 
 -- the branches of some darts
@@ -173,11 +173,11 @@ module _ (r : System) (is : IsRotation r) (u v : ℕ) (ltu : u < r.vertices) (lt
   free_dart : (d : ℕ) → Has d (zs ++ flat free_rows) → (d < darts r) × (entered (part d) ≡ false)
   free_dart d h = ⊎_elim
       (λ k. let f = filter-Has (λ y. not (entered (part y))) d (lists v) k in
-      ((l.item v d ltv f.0).0, not_true (entered (part d)) f.1))
+      ((l.item v d ltv f.0).0, not-true (entered (part d)) f.1))
       (λ k. let o : (w : ℕ) × Has w free × Has d (lists w) = named_some lists free d k in
       let f = filter-Has (λ w. not (entered (number w))) o.0 others o.1 in
       let p = part_of_other r is u v ltu ltv differ number part parts o.0 d f.0 o.2 in
-      (p.0, ap entered p.2 ∙ not_true (entered (number o.0)) f.1))
+      (p.0, ap entered p.2 ∙ not-true (entered (number o.0)) f.1))
       (Has-append_cases d zs (flat free_rows) h)
 
   -- none of these stands twice
@@ -383,7 +383,7 @@ module _ (r : System) (is : IsRotation r) (u v : ℕ) (ltu : u < r.vertices) (lt
         joined_part order f.0 d (order_has f.0 f.1) (ws_have d at t) (sym f.2))
         (λ f. joined_free order d
         (Has-filter (λ y. not (entered (part y))) d (lists v)
-        (subst (λ w. Has d (lists w)) at.stands (l.own d at.within)) (not_false (entered (part d)) f)))
+        (subst (λ w. Has d (lists w)) at.stands (l.own d at.within)) (not_from_false (entered (part d)) f)))
         (cases_Bool (entered (part d)))
 
     -- once, and nothing else
@@ -412,7 +412,7 @@ module _ (r : System) (is : IsRotation r) (u v : ℕ) (ltu : u < r.vertices) (lt
         (λ f. free_inner order d
         (named_item lists free w d
         (Has-filter (λ y. not (entered (number y))) w others h
-        (not_false (entered (number w)) (ap entered (sym same) ∙ f))) (l.own d lt)))
+        (not_from_false (entered (number w)) (ap entered (sym same) ∙ f))) (l.own d lt)))
         (cases_Bool (entered (part d)))
 
     -- each dart is in one of the lists

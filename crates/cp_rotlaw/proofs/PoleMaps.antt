@@ -1,6 +1,6 @@
 -- The map of a rotation system with two poles in front, and the parts between them as branches.
 use Rattle.std.proofs.Common.{◌≡◌, ◌≢◌, ℕ, ◌*◌, ◌%◌, ◌<◌, ◌⊎◌, Bool, true, false, not, eqb, List, ◌∷◌, ◌++◌, map, sym, refl, ap, ◌∙◌, subst, inl, inr, ⊎_elim, arith}
-use Rattle.std.proofs.lemmas.Bool.{and_parts, cases_Bool, cases_eq, false≢true, ne_eqb}
+use Rattle.std.proofs.lemmas.Bool.{and_parts, cases_Bool, cases_eq, false≢true, ne_eqb, not-true, not_from_false}
 use Rattle.std.proofs.lemmas.List.{map-append}
 use Rattle.std.specs.List.{Contains, filter}
 use Rattle.cp_lists.specs.CyclicLists.{Distinct, Has, but, follow}
@@ -52,15 +52,6 @@ branch_of r u v number part ws x = record {
   tail = star_row part ws (part x);
   inner = map (list_of r) (of_part number (part x) (vertices_but r u v));
 }
-
--- what fails a test passes its negation
-pub not_false : (b : Bool) → b ≡ false → not b ≡ true
-not_false b f = ap not f
-
--- and the other way round
-pub not_true : (b : Bool) → not b ≡ true → b ≡ false
-not_true true t = absurd (false≢true t)
-not_true false t = refl
 
 -- the map of a system with its lists in any order
 pub IsMapOf-vertices : (r : System) → IsRotation r → (names : List ℕ) → Distinct names
@@ -210,7 +201,7 @@ module _ (r : System) (is : IsRotation r) (u v : ℕ) (ltu : u < r.vertices) (lt
     divided : (w : ℕ) → Has w others → Has w (passing ++ failing)
     divided w h = ⊎_elim
         (λ t. Has-append_left w passing failing (Has-filter p w others h t))
-        (λ f. Has-append_right w passing failing (Has-filter (λ x. not (p x)) w others h (not_false (p w) f)))
+        (λ f. Has-append_right w passing failing (Has-filter (λ x. not (p x)) w others h (not_from_false (p w) f)))
         (cases_Bool (p w))
 
     -- and the other way round
@@ -226,7 +217,7 @@ module _ (r : System) (is : IsRotation r) (u v : ℕ) (ltu : u < r.vertices) (lt
         Distinct-append passing failing (filter-Distinct p others others-Distinct)
         (filter-Distinct (λ x. not (p x)) others others-Distinct)
         (λ w h. Lacks-from w failing (λ k. false≢true
-        (sym (not_true (p w) (filter-Has (λ x. not (p x)) w others k).1) ∙ (filter-Has p w others h).1)))
+        (sym (not-true (p w) (filter-Has (λ x. not (p x)) w others k).1) ∙ (filter-Has p w others h).1)))
 
     -- the lists in this order
     pub tested-SameRings : SameRings (2 * n) (lists u ∷ lists v ∷ map lists others)
@@ -264,7 +255,7 @@ module _ (r : System) (is : IsRotation r) (u v : ℕ) (ltu : u < r.vertices) (lt
     -- is outside
     outside_have : (w : ℕ) → Has w others → number w ≢ c → Has w outside
     outside_have w h ne =
-        Has-filter (λ x. not (eqb (number x) c)) w others h (not_false (eqb (number w) c) (ne_eqb (number w) c ne))
+        Has-filter (λ x. not (eqb (number x) c)) w others h (not_from_false (eqb (number w) c) (ne_eqb (number w) c ne))
 
     -- the lists in this order
     divided-SameRings : SameRings (2 * n) (lists u ∷ lists v ∷ map lists others)
@@ -310,7 +301,7 @@ module _ (r : System) (is : IsRotation r) (u v : ℕ) (ltu : u < r.vertices) (lt
         let last : number y ≡ number x =
         ⊎_elim (λ j. ap number (sym j.1) ∙ sym same ∙ first) (λ j. ap number (sym j.0) ∙ first) joins in
         let kept : not (eqb (number p.0) c) ≡ true =
-        not_false (eqb (number p.0) c) (ne_eqb (number p.0) c (λ e. ne (sym first ∙ e))) in
+        not_from_false (eqb (number p.0) c) (ne_eqb (number p.0) c (λ e. ne (sym first ∙ e))) in
         (step before.0 p (kept_of (λ q. not (eqb (number q.0) c)) (pairs_between r u v) p cont kept) joins, last)
 
     -- each pair of them is an edge between two vertices beside the part

@@ -28,7 +28,7 @@ use Rattle.cp_rotlaw.specs.Poles.{graph_of}
 use Rattle.cp_rotlaw.specs.StarParts.{far_key}
 use Rattle.cp_rotlaw.specs.Stars.{IsDartOf}
 use Rattle.cp_rotlaw.proofs.NamedMaps.{Has-numbers, numbers-below}
-use Rattle.cp_rotlaw.proofs.StarBlocks.{twin-half}
+use Rattle.cp_faces.proofs.Twins.{half_twin}
 use Rattle.cp_rotlaw.proofs.StarCode.{far_within, length-end_pairs}
 
 -- two vertices are removed
@@ -187,7 +187,7 @@ module _ (r : System) (is : IsRotation r) where
     part_twins : (d : ℕ) → d < darts r → part (twin d) ≡ part d
     part_twins d lt = ⊎_elim
         (λ at. ⊎_elim
-        (λ to. part_straight (twin d) to (back at) ∙ ap (λ k. r.vertices + k) (twin-half d)
+        (λ to. part_straight (twin d) to (back at) ∙ ap (λ k. r.vertices + k) (half_twin d)
         ∙ sym (part_straight d at to))
         (λ off. part_between (twin d) off.0 off.1 ∙ sym (part_leading d at off))
         (pole_cases u v (vertex_of r (twin d))))

@@ -1,6 +1,6 @@
 -- What the program finds at a side that is merged in part.
 use Rattle.std.proofs.Common.{◌≡◌, ◌≢◌, ℕ, ◌+◌, ◌*◌, ◌<◌, ◌≤◌, Bool, true, false, not, List, [], ◌∷◌, ◌++◌, length, map, set, slice_index, slice_index_or, sym, refl, ap, ◌∙◌, subst, ⊎_elim, arith, length-append}
-use Rattle.std.proofs.lemmas.Bool.{cases_Bool, false≢true}
+use Rattle.std.proofs.lemmas.Bool.{cases_Bool, false≢true, not-true, not_from_false}
 use Rattle.std.proofs.lemmas.List.{map-append}
 use Rattle.std.specs.List.{filter}
 use Rattle.cp_lists.specs.CyclicLists.{Distinct, Has, Lacks, but}
@@ -16,7 +16,7 @@ use Rattle.cp_rot.proofs.ListEdits.{length-values}
 use Rattle.cp_rotlaw.specs.SideOrders.{IsSideOf, in_side}
 use Rattle.cp_rotlaw.specs.SideStates.{IsCorner, IsMerging, NoneLeft, is_left, other_rows, vertices_left}
 use Rattle.cp_rotlaw.proofs.NamedMaps.{Has-numbers, numbers-Distinct, numbers-below}
-use Rattle.cp_rotlaw.proofs.PoleMaps.{IsMapOf-vertices, not_false, not_true}
+use Rattle.cp_rotlaw.proofs.PoleMaps.{IsMapOf-vertices}
 use Rattle.cp_rotlaw.proofs.SideMerging.{IsMerging-start, left-Distinct, left-set, left_are, left_have}
 
 -- an item that stands at no place is none
@@ -90,7 +90,7 @@ module _ (r : System) (is : IsRotation r) (side : List Bool) (sides : IsSideOf r
           (filter-Distinct (λ v. not (in_side side v)) vertices (numbers-Distinct r.vertices))
           (λ w h. Lacks-from w outside (λ k.
           let o = filter-Has (λ v. not (in_side side v)) w vertices k in
-          false≢true (sym (not_true (in_side side w) o.1) ∙ (left_are r is side sides merged w h).1))))
+          false≢true (sym (not-true (in_side side w) o.1) ∙ (left_are r is side sides merged w h).1))))
           (λ w h. ⊎_elim
           (λ k. (left_are r is side sides merged w k).0)
           (λ k. numbers-below r.vertices w (filter-Has (λ v. not (in_side side v)) w vertices k).0)
@@ -98,7 +98,7 @@ module _ (r : System) (is : IsRotation r) (side : List Bool) (sides : IsSideOf r
           (λ w lt. ⊎_elim
           (λ t. Has-append_left w left outside (left_have r is side sides merged w lt t (none w)))
           (λ f. Has-append_right w left outside (Has-filter (λ v. not (in_side side v)) w vertices
-          (Has-numbers r.vertices w lt) (not_false (in_side side w) f)))
+          (Has-numbers r.vertices w lt) (not_from_false (in_side side w) f)))
           (cases_Bool (in_side side w))))
 
 -- what passes a test is not more than all

@@ -1,6 +1,6 @@
 -- One more vertex of a side merged: at a corner of a vertex of the other side, or of another component.
 use Rattle.std.proofs.Common.{◌≡◌, ℕ, zero, suc, ◌*◌, ◌<◌, Bool, true, false, not, cond, List, [], ◌∷◌, ◌++◌, length, map, set, slice_index, slice_index_or, sym, refl, ap, ◌∙◌, subst, inl, inr, ⊎_elim}
-use Rattle.std.proofs.lemmas.Bool.{cases_Bool, cond-false, cond-true, false≢true}
+use Rattle.std.proofs.lemmas.Bool.{cases_Bool, cond-false, cond-true, false≢true, not-true, not_from_false}
 use Rattle.std.proofs.lemmas.List.{map-append}
 use Rattle.std.specs.Fn.{iterate}
 use Rattle.std.specs.List.{filter}
@@ -28,7 +28,6 @@ use Rattle.cp_rot.proofs.Rotations.{next_stands}
 use Rattle.cp_rotlaw.specs.SideOrders.{IsSideOf, in_side}
 use Rattle.cp_rotlaw.specs.SideStates.{IsMerging, other_rows, turned_at, vertices_left}
 use Rattle.cp_rotlaw.proofs.NamedMaps.{Has-numbers, numbers-Distinct, numbers-below}
-use Rattle.cp_rotlaw.proofs.PoleMaps.{not_false, not_true}
 use Rattle.cp_rotlaw.proofs.SideMerging.{IsMerging-more, left-Distinct, left_are, left_have}
 use Rattle.cp_rotlaw.proofs.SideSteps.{corner-Becomes, turned_at-IsTurn}
 use Rattle.cp_rotlaw.proofs.StarCode.{far_within}
@@ -111,7 +110,7 @@ module _ (r : System) (is : IsRotation r) (side : List Bool) (sides : IsSideOf r
   other_are : (v : ℕ) → Has v other_names → (v < r.vertices) × (in_side side v ≡ false)
   other_are v h =
       let k = filter-Has (λ x. not (in_side side x)) v (values r.vertices (λ x. x)) h in
-      (numbers-below r.vertices v k.0, not_true (in_side side v) k.1)
+      (numbers-below r.vertices v k.0, not-true (in_side side v) k.1)
 
   -- a vertex that is left is none of these
   apart_names : (w : ℕ) → Has w left → Lacks w other_names
@@ -192,7 +191,7 @@ module _ (r : System) (is : IsRotation r) (side : List Bool) (sides : IsSideOf r
 
       v_other : Has v other_names
       v_other = Has-filter (λ z. not (in_side side z)) v (values r.vertices (λ z. z))
-          (Has-numbers r.vertices v (is.placed x ltx)) (not_false (in_side side v) out)
+          (Has-numbers r.vertices v (is.placed x ltx)) (not_from_false (in_side side v) out)
 
       rest : List ℕ
       rest = but w (left ++ other_names)

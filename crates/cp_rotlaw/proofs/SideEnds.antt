@@ -1,6 +1,6 @@
 -- A side that is merged into one list: the order of its edges.
 use Rattle.std.proofs.Common.{◌≡◌, ℕ, ◌+◌, ◌*◌, ◌/◌, ◌%◌, ◌<◌, Bool, true, false, not, List, [], ◌∷◌, ◌++◌, map, slice_index_or, sym, refl, ap, ◌∙◌, subst, inl, ⊎_elim, arith}
-use Rattle.std.proofs.lemmas.Bool.{cases_Bool, cases_eq, cond-false, cond-true, false≢true}
+use Rattle.std.proofs.lemmas.Bool.{cases_Bool, cases_eq, cond-false, cond-true, false≢true, not-true}
 use Rattle.std.specs.List.{filter}
 use Rattle.cp_lists.specs.CyclicLists.{Distinct, Has}
 use Rattle.cp_lists.specs.Rows.{flat}
@@ -24,7 +24,6 @@ use Rattle.cp_rot.proofs.ListSystems.{Listed-system}
 use Rattle.cp_rotlaw.specs.SideOrders.{IsSideOf, IsSideOrder, in_side, rows_where, side_dart}
 use Rattle.cp_rotlaw.specs.SideStates.{IsMerging, other_rows, vertices_left}
 use Rattle.cp_rotlaw.proofs.NamedMaps.{numbers-below}
-use Rattle.cp_rotlaw.proofs.PoleMaps.{not_true}
 use Rattle.cp_rotlaw.proofs.PoleParts.{half_cases}
 use Rattle.cp_rotlaw.proofs.SideMerging.{left_have}
 use Rattle.cp_rotlaw.proofs.StarCode.{far_within}
@@ -91,7 +90,7 @@ module _ (r : System) (is : IsRotation r) (side : List Bool) (sides : IsSideOf r
       let k = filter-Has (λ v. not (in_side side v)) o.0 (values r.vertices (λ v. v)) o.1 in
       let i = (Listed-system r is).item o.0 d (numbers-below r.vertices o.0 k.0) o.2 in
       side_has (twin d) (far_within r is d i.0).0
-      (other_twin d i.0 (ap (in_side side) i.1 ∙ not_true (in_side side o.0) k.1))
+      (other_twin d i.0 (ap (in_side side) i.1 ∙ not-true (in_side side o.0) k.1))
 
   -- the side is merged
   is_merged : IsMergedSide (edges r) (rows_where r (in_side side)) others first

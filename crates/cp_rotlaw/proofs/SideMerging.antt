@@ -1,6 +1,6 @@
 -- The vertices of a side merged into one list, one after the other.
 use Rattle.std.proofs.Common.{◌≡◌, ℕ, ◌*◌, ◌<◌, ◌&&◌, Bool, true, false, not, eqb, List, [], ◌∷◌, ◌++◌, length, map, set, slice_index_or, sym, refl, ap, ap₂, ◌∙◌, subst, ⊎_elim}
-use Rattle.std.proofs.lemmas.Bool.{and_parts, cases_eq, eq-eqb, false≢true, ne_eqb}
+use Rattle.std.proofs.lemmas.Bool.{and_parts, cases_eq, eq-eqb, false≢true, ne_eqb, not-true}
 use Rattle.std.proofs.lemmas.List.{get_or-set_other, get_or-set_same, length-set, map-append}
 use Rattle.std.specs.List.{filter}
 use Rattle.cp_lists.specs.CyclicLists.{Distinct, Has, Lacks, but}
@@ -20,7 +20,6 @@ use Rattle.cp_rot.proofs.ListSystems.{Listed, Listed-system}
 use Rattle.cp_rotlaw.specs.SideOrders.{IsSideOf, in_side}
 use Rattle.cp_rotlaw.specs.SideStates.{IsMerging, is_left, other_rows, vertices_left}
 use Rattle.cp_rotlaw.proofs.NamedMaps.{Has-numbers, numbers-Distinct, numbers-below}
-use Rattle.cp_rotlaw.proofs.PoleMaps.{not_true}
 
 -- a vertex that is marked now is left where it was left and is another one
 is_left-set : (side merged : List Bool) (w x : ℕ) → w < length merged
@@ -69,7 +68,7 @@ module _ (r : System) (is : IsRotation r) (side : List Bool) (sides : IsSideOf r
   left_are merged w h =
       let k = filter-Has (is_left side merged) w vertices h in
       let both = and_parts (in_side side w) (not (slice_index_or merged w false)) k.1 in
-      (numbers-below r.vertices w k.0, both.0, not_true (slice_index_or merged w false) both.1)
+      (numbers-below r.vertices w k.0, both.0, not-true (slice_index_or merged w false) both.1)
 
   -- a vertex of the side that is not merged is left
   pub left_have : (merged : List Bool) (w : ℕ) → w < r.vertices → in_side side w ≡ true

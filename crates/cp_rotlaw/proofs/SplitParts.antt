@@ -1,7 +1,7 @@
 -- A vertex at which two sets of edges meet, split into one for each: beside bare vertices the result is, with new
 -- numbers, the two systems restricted to the sets, side by side.
 use Rattle.std.proofs.Common.{◌≡◌, ℕ, ◌+◌, ◌-◌, ◌*◌, ◌/◌, ◌%◌, ◌<◌, ◌↔◌, Bool, true, false, cond, not, ltb, sym, refl, ap, ap₂, ◌∙◌, subst, ⊎_elim, arith}
-use Rattle.std.proofs.lemmas.Bool.{cases_Bool, cases_eq, cases_lt, lt-ltb, le-ltb, cond-true, cond-false, not_from_false}
+use Rattle.std.proofs.lemmas.Bool.{cases_Bool, cases_eq, cases_lt, lt-ltb, le-ltb, cond-true, cond-false, not_from_false, not-true}
 use Rattle.cp_orbits.specs.Orbits.{exchange, Renumbers}
 use Rattle.cp_lists.specs.CyclicLists.{follow}
 use Rattle.cp_faces.specs.Faces.{Turns, Renames, faces, components, on_edges}
@@ -16,7 +16,7 @@ use Rattle.cp_rotlaw.specs.Restrictions.{split_off}
 use Rattle.cp_rotlaw.specs.Restrictions.{IsRestricted, MeetAt}
 use Rattle.cp_rot.proofs.Functions.{Turns-system, zero_counts, HasGenusZero-from}
 use Rattle.cp_rot.proofs.ListSystems.{turn, Listed-Rotates, system_zero}
-use Rattle.cp_rotlaw.proofs.SplitVertices.{fails_not, at_split, lists_split, split_before, split_moved, split_left, split_other, Listed-split, split_turn_left, split_turn_taken, of_taken, of_taken_u, of_taken_no, of_taken_yes}
+use Rattle.cp_rotlaw.proofs.SplitVertices.{at_split, lists_split, split_before, split_moved, split_left, split_other, Listed-split, split_turn_left, split_turn_taken, of_taken, of_taken_u, of_taken_no, of_taken_yes}
 use Rattle.cp_rotlaw.proofs.RestrictedSystems.{on_edges_same, kept_list, old_kept, restricted_stand, kept_item, kept_follow, restricted_next}
 use Rattle.cp_rotlaw.proofs.BareVertices.{Rotates-more, faces-more_vertices, components-more_vertices}
 use Rattle.cp_lists.proofs.Choices.{same_size}
@@ -73,7 +73,7 @@ module _ (r : System) (is : IsRotation r) (u : ℕ) (lt : u < r.vertices) (takes
   back e l = ⊎_elim
       (λ low.
       let k = res_a.all e low in
-      (omega (arith, k.0, q_low e low), ap p (q_low e low) ∙ p_left (oa e) (fails_not (takes (oa e)) k.1) ∙ k.2))
+      (omega (arith, k.0, q_low e low), ap p (q_low e low) ∙ p_left (oa e) (not-true (takes (oa e)) k.1) ∙ k.2))
       (λ high.
       let k = res_b.all (e - ea) (omega arith) in
       let whole : ea + (e - ea) ≡ e = omega arith in
@@ -254,7 +254,7 @@ module _ (r : System) (is : IsRotation r) (u : ℕ) (lt : u < r.vertices) (takes
   stand_low d l =
       let k = old_kept r a is is_a (λ e. not (takes e)) na oa res_a d l in
       restricted_stand r a is is_a (λ e. not (takes e)) na oa res_a d l
-      ∙ sym (h_left (on_edges oa d) k.0 (fails_not (takes (on_edges oa d / 2)) k.1))
+      ∙ sym (h_left (on_edges oa d) k.0 (not-true (takes (on_edges oa d / 2)) k.1))
       ∙ ap (λ (y : ℕ). h (at y)) (sym (old_low d l))
 
   -- behind it comes what comes in a
@@ -262,11 +262,11 @@ module _ (r : System) (is : IsRotation r) (u : ℕ) (lt : u < r.vertices) (takes
   follow_low d l =
       let k = old_kept r a is is_a (λ e. not (takes e)) na oa res_a d l in
       let x : ℕ = on_edges oa d in
-      let f : takes (x / 2) ≡ false = fails_not (takes (x / 2)) k.1 in
+      let f : takes (x / 2) ≡ false = not-true (takes (x / 2)) k.1 in
       let y : ℕ = follow (kept_list r a is is_a (λ e. not (takes e)) na oa res_a x) x in
       let i = kept_item r a is is_a (λ e. not (takes e)) na oa res_a x y k.0 (kept_follow r a is is_a (λ e. not (takes e)) na oa res_a x k.0 k.1) in
       ap (next a) (sym k.2) ∙ restricted_next r a is is_a (λ e. not (takes e)) na oa res_a x k.0 k.1
-      ∙ on_edges_same na p y (sym (p_left (y / 2) (fails_not (takes (y / 2)) i.2)))
+      ∙ on_edges_same na p y (sym (p_left (y / 2) (not-true (takes (y / 2)) i.2)))
       ∙ ap (on_edges p) (sym (split_turn_left r is u lt takes meet x k.0 f))
       ∙ ap (λ (z : ℕ). on_edges p (behind z)) (sym (old_low d l))
 

@@ -3,11 +3,11 @@ use Rattle.std.proofs.Common.{◌≡◌, ◌≢◌, ℕ, zero, suc, ◌+◌, ◌
 use Rattle.std.specs.Fn.{iterate}
 use Rattle.std.proofs.lemmas.Bool.{cases_Bool, cases_eq, eq-eqb, ne_eqb, or_right, false≢true, or_left}
 use Rattle.cp_orbits.specs.Classes.{labels, joined, Respects}
-use Rattle.cp_orbits.specs.Orbits.{Permutes, exchange}
+use Rattle.cp_orbits.specs.Orbits.{exchange}
 use Rattle.cp_faces.specs.Faces.{Turns, Renames, ends_upto, faces, components}
 use Rattle.cp_lists.proofs.Counting.{first_below}
 use Rattle.cp_orbits.proofs.ClassLabels.{same_labels}
-use Rattle.cp_orbits.proofs.OrbitLaws.{iterate-after, iterate-below, returns_within, exchange_case, exchange_left, exchange_other}
+use Rattle.cp_orbits.proofs.OrbitLaws.{Permutes-onto, exchange_case, exchange_left, exchange_other}
 use Rattle.cp_orbits.proofs.Exchanges.{Renumbers-exchange, joined_at, joined_other}
 use Rattle.cp_faces.proofs.Faces.{zero-agree, faces_upto-agree, components-agree}
 use Rattle.cp_faces.proofs.Renaming.{Respects-ends, Renames-vertices, faces-renamed, components-renamed}
@@ -16,18 +16,12 @@ use Rattle.cp_rot.specs.Systems.{System, IsRotation, edges, vertex_of, next}
 use Rattle.cp_rot.specs.Genus.{HasGenusZero}
 use Rattle.cp_rotlaw.specs.Restrictions.{split_off}
 use Rattle.cp_rotlaw.proofs.SplitParts.{split_by_parts}
-use Rattle.cp_rotlaw.specs.Restrictions.{IsRestricted, MeetAt, IsLastTaken, IsRun}
+use Rattle.cp_rotlaw.specs.Restrictions.{IsRestricted, MeetAt, IsLastTaken, IsRunAtVertex}
 use Rattle.cp_rot.proofs.Functions.{Turns-system, HasGenusZero-from}
 use Rattle.cp_rot.proofs.ListSystems.{turn, Listed-Rotates, system_zero}
 use Rattle.cp_rotlaw.proofs.BareVertices.{Rotates-more, faces-more_vertices, components-more_vertices}
 use Rattle.cp_rotlaw.proofs.SplitVertices.{at_split, lists_split, split_moved, split_left, split_other, Listed-split, of_taken, of_taken_yes, of_taken_u, of_taken_no, split_turn_kind, split_turn_same}
 use Rattle.cp_rotlaw.proofs.RestrictionLaws.{split_keeps_zero}
-
--- each number below n is the image of one
-pub image_of : (n : ℕ) (f : ℕ → ℕ) → Permutes n f → (y : ℕ) → y < n → (x : ℕ) × (x < n) × (f x ≡ y)
-image_of n f perm y lt =
-    let w = returns_within n f perm y lt in
-    (iterate f w.0 y, iterate-below n f perm w.0 y lt, sym (iterate-after f w.0 y) ∙ w.2)
 
 -- the darts at u of the edges that are taken moved to a new vertex
 module _ (r : System) (is : IsRotation r) (u : ℕ) (lt : u < r.vertices) (takes : ℕ → Bool) (meet : MeetAt r u takes) where
@@ -142,11 +136,11 @@ module _ (r : System) (is : IsRotation r) (u : ℕ) (lt : u < r.vertices) (takes
       false≢true (sym (ap₂ (λ a b. a || b) (ne_eqb u v (λ e. omega arith)) (of_taken_u r is u lt takes)) ∙ one ∙ or_left (eqb v v) (of_taken r is u lt takes v) (eq-eqb v v refl))
 
   -- where the darts at u that are taken are a run, and a is the last of them
-  module _ (run : IsRun r u takes) (a : ℕ) (lta : a < n) (stands : vertex_of r a ≡ u) (last : IsLastTaken r takes a) where
+  module _ (run : IsRunAtVertex r u takes) (a : ℕ) (lta : a < n) (stands : vertex_of r a ≡ u) (last : IsLastTaken r takes a) where
     -- behind it comes what came behind any dart that is the last of the others
     after_run : (b : ℕ) → b < n → vertex_of r b ≡ u → takes (b / 2) ≡ false → takes (next r b / 2) ≡ true → behind a ≡ next r b
     after_run b ltb e f t =
-        let w = image_of n behind new_turns.permutes (next r b) (old_turns.permutes.below b ltb) in
+        let w = Permutes-onto n behind new_turns.permutes (next r b) (old_turns.permutes.below b ltb) in
         let c : ℕ = w.0 in
         let taken_c : takes (c / 2) ≡ true = sym (split_turn_kind r is u lt takes meet c w.1) ∙ ap (λ (x : ℕ). takes (x / 2)) w.2 ∙ t in
         let at_c : at c ≡ v = sym (new_turns.kept c w.1) ∙ ap at w.2 ∙ split_moved r is u lt takes (next r b) (old_turns.kept b ltb ∙ e) t in
@@ -163,7 +157,7 @@ module _ (r : System) (is : IsRotation r) (u : ℕ) (lt : u < r.vertices) (takes
     -- the last of the others
     last_left : (b : ℕ) × (b < n) × (vertex_of r b ≡ u) × (takes (b / 2) ≡ false) × (takes (next r b / 2) ≡ true) × (behind b ≡ next r a)
     last_left =
-        let w = image_of n behind new_turns.permutes (next r a) (old_turns.permutes.below a lta) in
+        let w = Permutes-onto n behind new_turns.permutes (next r a) (old_turns.permutes.below a lta) in
         let b : ℕ = w.0 in
         let left_b : takes (b / 2) ≡ false = sym (split_turn_kind r is u lt takes meet b w.1) ∙ ap (λ (x : ℕ). takes (x / 2)) w.2 ∙ last.1 in
         let stands_b : vertex_of r b ≡ u = sym (split_left r is u lt takes b left_b) ∙ sym (new_turns.kept b w.1) ∙ ap at w.2 ∙ split_left r is u lt takes (next r a) last.1 ∙ old_turns.kept a lta ∙ stands in
@@ -235,7 +229,7 @@ module _ (r : System) (is : IsRotation r) (u : ℕ) (lt : u < r.vertices) (takes
       (first_below n (λ d. eqb (vertex_of r d) u && p d))
 
   -- a run of darts moved to a new vertex: genus zero before is genus zero afterwards
-  pub run_zero : IsRun r u takes → HasGenusZero r ↔ HasGenusZero (split_off r u takes)
+  pub run_zero : IsRunAtVertex r u takes → HasGenusZero r ↔ HasGenusZero (split_off r u takes)
   run_zero run = (
     split_keeps_zero r u takes is lt meet,
     λ z. ⊎_elim
@@ -257,7 +251,7 @@ module _ (r : System) (is : IsRotation r) (u : ℕ) (lt : u < r.vertices) (takes
       not_fails false e = absurd (false≢true (sym e))
 
 -- two sets of edges that meet at one vertex, the darts of one of them there in a run: genus zero is that of both parts
-pub run_by_parts : (r a b : System) → IsRotation r → IsRotation a → IsRotation b → (u : ℕ) → u < r.vertices → (takes : ℕ → Bool) → MeetAt r u takes → IsRun r u takes → (na oa nb ob : ℕ → ℕ) → IsRestricted r a (λ e. not (takes e)) na oa → IsRestricted r b takes nb ob → HasGenusZero r ↔ (HasGenusZero a × HasGenusZero b)
+pub run_by_parts : (r a b : System) → IsRotation r → IsRotation a → IsRotation b → (u : ℕ) → u < r.vertices → (takes : ℕ → Bool) → MeetAt r u takes → IsRunAtVertex r u takes → (na oa nb ob : ℕ → ℕ) → IsRestricted r a (λ e. not (takes e)) na oa → IsRestricted r b takes nb ob → HasGenusZero r ↔ (HasGenusZero a × HasGenusZero b)
 run_by_parts r a b is is_a is_b u lt takes meet run na oa nb ob res_a res_b =
     let split = run_zero r is u lt takes meet run in
     let parts = split_by_parts r is u lt takes meet a b is_a is_b na oa nb ob res_a res_b in

@@ -1,7 +1,7 @@
 -- The darts at a vertex of some of the edges moved to a new vertex: the functions of the result.
 use Rattle.std.proofs.Common.{◌≡◌, ℕ, ◌+◌, ◌*◌, ◌/◌, ◌<◌, Bool, true, false, not, List, sym, refl, ap, ◌∙◌, subst, ⊎_elim, arith, cond, eqb, ◌&&◌}
 use Rattle.std.specs.List.{filter}
-use Rattle.std.proofs.lemmas.Bool.{cases_Bool, cases_eq, eq-eqb, ne_eqb, not_from_false, false≢true, cond-true, cond-false, false_from_ne_true}
+use Rattle.std.proofs.lemmas.Bool.{cases_Bool, cases_eq, eq-eqb, ne_eqb, not_from_false, false≢true, cond-true, cond-false, false_from_ne_true, not-true}
 use Rattle.cp_lists.specs.CyclicLists.{Has, Distinct, follow}
 use Rattle.cp_faces.specs.Faces.{stands}
 use Rattle.cp_lists.proofs.CyclicLists.{follow-Has}
@@ -12,11 +12,6 @@ use Rattle.cp_rotlaw.specs.Restrictions.{MeetAt}
 use Rattle.cp_rot.proofs.ListSystems.{Listed, turn, Listed-edges, system-edges, IsRotation-system}
 use Rattle.cp_lists.proofs.FilteredLists.{Has-filter, filter-Has, filter-Distinct, filter_all, follow_kept}
 use Rattle.cp_rot.proofs.Functions.{next-follow}
-
--- a test that is not passed fails
-pub fails_not : (b : Bool) → not b ≡ true → b ≡ false
-fails_not true t = absurd (false≢true t)
-fails_not false t = refl
 
 -- the darts at u of the edges that the test takes moved to a new vertex
 module _ (r : System) (is : IsRotation r) (u : ℕ) (lt : u < r.vertices) (takes : ℕ → Bool) where
@@ -101,7 +96,7 @@ module _ (r : System) (is : IsRotation r) (u : ℕ) (lt : u < r.vertices) (takes
         (λ e.
         let w = filter-Has left d (list_of r u) (subst (Has d) split_list_left (subst (λ y. Has d (lists_split y)) e h)) in
         let old = split_before.item u d lt w.0 in
-        (old.0, split_left d (fails_not (taken d) w.1) ∙ old.1 ∙ sym e))
+        (old.0, split_left d (not-true (taken d) w.1) ∙ old.1 ∙ sym e))
         (λ nu.
         let old = split_before.item x d (omega arith) (subst (Has d) (split_list_other x nv nu) h) in
         (old.0, split_other d (λ e. nu (sym old.1 ∙ e)) ∙ old.1))
@@ -179,7 +174,7 @@ module _ (r : System) (is : IsRotation r) (u : ℕ) (lt : u < r.vertices) (takes
     split_turn_kind d l = ⊎_elim
         (λ t. ap taken (split_turn_taken d l t) ∙ (filter-Has taken (follow (filter taken (list_of r (vertex_of r d))) d) (list_of r (vertex_of r d))
         (follow-Has d (filter taken (list_of r (vertex_of r d))) (Has-filter taken d (list_of r (vertex_of r d)) (split_before.own d l) t))).1 ∙ sym t)
-        (λ f. ap taken (split_turn_left d l f) ∙ fails_not (taken (follow (filter left (list_of r (vertex_of r d))) d)) (filter-Has left (follow (filter left (list_of r (vertex_of r d))) d) (list_of r (vertex_of r d))
+        (λ f. ap taken (split_turn_left d l f) ∙ not-true (taken (follow (filter left (list_of r (vertex_of r d))) d)) (filter-Has left (follow (filter left (list_of r (vertex_of r d))) d) (list_of r (vertex_of r d))
         (follow-Has d (filter left (list_of r (vertex_of r d))) (Has-filter left d (list_of r (vertex_of r d)) (split_before.own d l) (not_from_false (taken d) f)))).1 ∙ sym f)
         (cases_Bool (taken d))
 

@@ -11,7 +11,7 @@ use Rattle.cp_conn.proofs.OneBlock.{flat, connected_of}
 use Rattle.cp_rot.specs.Systems.{System, darts, vertex_of, IsRotation}
 use Rattle.cp_faces.specs.Twins.{twin}
 use Rattle.cp_rot.specs.Genus.{end_pairs}
-use Rattle.cp_faces.proofs.Twins.{twin_even, twin_odd, twin-twin}
+use Rattle.cp_faces.proofs.Twins.{half_twin, twin_even, twin_odd, twin-twin}
 use Rattle.cp_rot.proofs.Searches.{pair_of_edge}
 use Rattle.cp_rotlaw.specs.Stars.{star_vertex, HaveSameBlocks}
 use Rattle.cp_rotlaw.specs.StarParts.{far_key, AreEntered, part_of, star_at}
@@ -34,10 +34,6 @@ pair_ends at d paired lt =
   where
     pair : slice_index_or (end_pairs at) (d / 2) (0, 0) ≡ (slice_index at (2 * (d / 2)), slice_index at (2 * (d / 2) + 1))
     pair = (pair_of_edge at (d / 2) (omega arith)).1 (0, 0)
-
--- both darts are of one edge
-pub twin-half : (d : ℕ) → twin d / 2 ≡ d / 2
-twin-half d = ⊎_elim (λ even. omega (arith, twin_even d even)) (λ odd. omega (arith, twin_odd d odd)) (cases_eq (d % 2) 0)
 
 module _ (r : System) (is : IsRotation r) (u : ℕ) (ltu : u < r.vertices) (parts : ℕ) (entered : List ℕ) (a : AreEntered r u parts entered) (more : ℕ) where
   -- the edges before
@@ -155,7 +151,7 @@ module _ (r : System) (is : IsRotation r) (u : ℕ) (ltu : u < r.vertices) (part
       step : (i : ℕ) → suc i < length ds → part_at i ≡ part_at (suc i)
       step i lt =
           let more : i + 1 ≡ suc i = omega arith in
-          ap (edge_part r entered) (sym (twin-half (slice_index ds i)))
+          ap (edge_part r entered) (sym (half_twin (slice_index ds i)))
           ∙ one_part r is u ltu parts entered a (twin (slice_index ds i)) (slice_index ds (suc i)) (far_within r is (slice_index ds i) (low i (omega arith))).0 (low (suc i) lt)
           (meets i (suc i) (omega arith) lt (cy.linked i (omega arith) ∙ ap (λ (k : ℕ). start fs (slice_index ds k)) more))
 

@@ -28,8 +28,8 @@ abbrev pub IsLastTaken : System → (ℕ → Bool) → ℕ → Type 0
 IsLastTaken r takes d = (takes (d / 2) ≡ true) × (takes (next r d / 2) ≡ false)
 
 -- the darts at u of the edges that the test takes stand one behind the other in the cyclic list: one at most is a last one
-abbrev pub IsRun : System → ℕ → (ℕ → Bool) → Type 0
-IsRun r u takes = (d f : ℕ) → d < darts r → f < darts r → vertex_of r d ≡ u → vertex_of r f ≡ u → IsLastTaken r takes d → IsLastTaken r takes f → d ≡ f
+abbrev pub IsRunAtVertex : System → ℕ → (ℕ → Bool) → Type 0
+IsRunAtVertex r u takes = (d f : ℕ) → d < darts r → f < darts r → vertex_of r d ≡ u → vertex_of r f ≡ u → IsLastTaken r takes d → IsLastTaken r takes f → d ≡ f
 
 -- at which vertex dart d stands, where the darts at u of the edges that the test takes go to a new vertex
 abbrev pub split_vertex : System → ℕ → (ℕ → Bool) → ℕ → ℕ

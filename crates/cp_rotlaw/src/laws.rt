@@ -2,7 +2,7 @@
 ghost use Rattle.std.specs.Prelude.{◌≡◌, ◌↔◌, ℕ, Bool, not, ◌<◌};
 ghost use Rattle.cp_rot.specs.Systems.{System, IsRotation, edges};
 ghost use Rattle.cp_rot.specs.Genus.{HasGenusZero};
-ghost use Rattle.cp_rotlaw.specs.Restrictions.{restricted, IsRestricted, MeetAt, IsRun, split_off};
+ghost use Rattle.cp_rotlaw.specs.Restrictions.{restricted, IsRestricted, MeetAt, IsRunAtVertex, split_off};
 
 /// A rotation system of genus zero, restricted to some of its edges, has genus zero, whatever new
 /// numbers the edges have. There is a restriction for every test of edges: what is left where the
@@ -41,10 +41,10 @@ pub fn split_off_has_genus_of_parts()
 /// sets meet, the split has genus zero exactly where the system has, so that the system has genus zero
 /// exactly where its restrictions to each of the two sets have. Constant time.
 pub fn run_keeps_genus()
-    ensures split { (r : System) → IsRotation r → (u : ℕ) → u < r.vertices → (takes : ℕ → Bool) → MeetAt r u takes → IsRun r u takes
+    ensures split { (r : System) → IsRotation r → (u : ℕ) → u < r.vertices → (takes : ℕ → Bool) → MeetAt r u takes → IsRunAtVertex r u takes
         → (HasGenusZero r ↔ HasGenusZero (split_off r u takes)) }
     ensures parts { (r a b : System) → IsRotation r → IsRotation a → IsRotation b
-        → (u : ℕ) → u < r.vertices → (takes : ℕ → Bool) → MeetAt r u takes → IsRun r u takes
+        → (u : ℕ) → u < r.vertices → (takes : ℕ → Bool) → MeetAt r u takes → IsRunAtVertex r u takes
         → (number_left original_left number_taken original_taken : ℕ → ℕ)
         → IsRestricted r a (λ e. not (takes e)) number_left original_left
         → IsRestricted r b takes number_taken original_taken
