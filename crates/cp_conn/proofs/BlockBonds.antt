@@ -30,6 +30,7 @@ Pass_at p es (d ∷ ds) e pass h =
     (λ later. Pass_at p es ds e pass.1 (past (h.0) h.1 h.2 later))
     (cases_eq h.0 0)
   where
+    -- an edge of a later dart is one of the darts behind the first
     past : (i : ℕ) → i < length (d ∷ ds) → get_or (d ∷ ds) i 0 / 2 ≡ e → i ≢ 0 → HasEdge ds e
     past zero lt at later = absurd (later refl)
     past (suc i) lt at later = (i, omega arith, at)
@@ -72,7 +73,7 @@ only-edges_at g inside v e c t =
     let h = edges_at-Contains g v e c in
     Contains-edges_at (only inside g) v e (kept_of inside g.edges e h.0 t) h.1
 
--- and back
+-- an edge at v of the graph with the edges inside alone is an edge at v
 edges_at-only : (g : NamedGraph) (inside : ℕ → Bool) (v e : ℕ) → Contains (edges_at (only inside g) v) e
     → Contains (edges_at g v) e
 edges_at-only g inside v e c =
@@ -134,15 +135,19 @@ module _ (g : NamedGraph) (b u v : ℕ) (inside : ℕ → Bool) (once : Distinct
       passes.1) passes.0))
       (cases_eq (far g u f) (far g u e)))
     where
+      -- the pair touches neither u nor v
       both : ℕ × ℕ → Bool
       both p = avoids u p && avoids v p
 
+      -- the first edge is one of the graph
       live_e : Contains g.edges e
       live_e = (edges_at-Contains g u e ce).0
 
+      -- the second edge is one of the graph
       live_f : Contains g.edges f
       live_f = (edges_at-Contains g u f cf).0
 
+      -- a simple path between the far ends of the two edges that touches neither u nor v
       path : PassingPath (pairs g) both (far g u f) (far g u e)
       path =
           passing_path (pairs g) both (far g u e) (far g u f)
@@ -154,6 +159,7 @@ module _ (g : NamedGraph) (b u v : ℕ) (inside : ℕ → Bool) (once : Distinct
           kept_of both (pairs g) p j.0 (and_from (avoids u p) (avoids v p) i.1 j.1))
           c)
 
+      -- an edge of the path is one of the graph
       edge_within : (i : ℕ) → HasEdge path.darts i → i < length (pairs g)
       edge_within i h =
           omega (arith, Leads-within (pairs g) (far g u f) (far g u e) path.darts h.0 path.leads h.1, h.2)

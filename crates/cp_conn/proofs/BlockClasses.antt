@@ -41,9 +41,11 @@ carry_cycle es P ds i j cy lti ltj next p =
     (wrap (carry Q i (length ds - 1) (omega arith) (λ k l ltk. steps k (omega arith)) p)))
     (cases_lt i j)
   where
+    -- the fact holds for the edge of dart k
     Q : ℕ → Type 0
     Q k = P (get_or ds k 0 / 2)
 
+    -- it goes on from a dart to one that starts where that ends
     go : (k m : ℕ) → k < length ds → m < length ds → finish es (get_or ds k 0) ≡ start es (get_or ds m 0) → Q k → Q m
     go k m ltk ltm e q =
         next (get_or ds k 0 / 2) (get_or ds m 0 / 2) (start es (get_or ds m 0)) (start es (get_or ds k 0))
@@ -54,10 +56,12 @@ carry_cycle es P ds i j cy lti ltj next p =
         (dart_joins es (get_or ds k 0) (cy.within k ltk))))
         (dart_joins es (get_or ds m 0) (cy.within m ltm)) (k, ltk, refl) (m, ltm, refl) q
 
+    -- it goes on to the next dart
     steps : (k : ℕ) → suc k < length ds → Q k → Q (suc k)
     steps k lt q = let e : k + 1 ≡ suc k = omega arith in
         go k (suc k) (omega arith) lt (cy.linked k (omega arith) ∙ ap (λ (m : ℕ). start es (get_or ds m 0)) e) q
 
+    -- it goes on from the last dart to the first
     wrap : Q (length ds - 1) → Q 0
     wrap q = go (length ds - 1) 0 (omega arith) (omega arith) cy.closed q
 

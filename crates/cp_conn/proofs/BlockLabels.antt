@@ -60,7 +60,7 @@ row_only e (suc n) p c =
     (λ k. let h : (p.0 ≡ e) × (p.1 < n) = row_only e n p k in (h.0, omega (arith, h.1)))
     (Contains-cons_cases (e, n) p (row e n) c)
 
--- all pairs of numbers are there
+-- a number below m and one below n are one of the pairs
 pairs_have : (m n e f : ℕ) → e < m → f < n → Contains (number_pairs m n) (e, f)
 pairs_have zero n e f lte ltf = absurd (omega arith)
 pairs_have (suc m) n e f lte ltf =

@@ -28,6 +28,7 @@ linked_blocks es links n e f w none l = (
       ltb (touch a v x ja) (touch b v y jb) ab) block),
 )
   where
+    -- an edge that joins v to something touches v
     touch : (a v x : ℕ) → Joins (get_or es a (0, 0)) v x → Touches es v a
     touch a v x j = ⊎_elim (λ h. inl h.0) (λ h. inr h.1) j
 
@@ -58,13 +59,16 @@ numbered_blocks es read links seen n edges least list numbers read_is edges_is s
       };
     }
   where
+    -- the edges that were read are those of the graph
     count_of : edges ≡ length es
     count_of = edges_is ∙ ap length read_is
 
+    -- the list tells the least edge of the component of each edge by links
     label : (x : ℕ) → x < length es → get_or list x 0 ≡ labels links x
     label x lt = ap (λ (zs : List ℕ). get_or zs x 0) list_is ∙ labelled x (omega (arith, count_of))
         ∙ ap (λ (fs : List (ℕ × ℕ)). labels fs x) seen_is
 
+    -- an edge is the least of its block exactly where it is the least of its component by links
     leader : (x : ℕ) → IsLeast (AreInOneBlock es) x ↔ (labels links x ≡ x)
     leader x = (
       λ least_is. omega (
@@ -76,12 +80,14 @@ numbered_blocks es read links seen n edges least list numbers read_is edges_is s
       λ e y b. omega (arith, (linked_blocks es links n x y w none l).1 b, labels-le links y),
     )
 
+    -- the number of an edge counts the components by links below its own
     total : (x : ℕ) → x < length es → get_or numbers x 0 ≡ classes (labels links x) links
     total x lt = counted x (omega (arith, ap length list_is, size, count_of))
         ∙ ap (λ (k : ℕ). count k (λ y. eqb (get_or list y 0) y)) (label x lt)
         ∙ count_agree (labels links x) (λ y. eqb (get_or list y 0) y) (λ y. eqb (labels links y) y)
         (λ y lty. ap (λ (k : ℕ). eqb k y) (label y (omega (arith, labels-le links x))))
 
+    -- the number of an edge counts the blocks below its own
     number : (x : ℕ) → x < length es → IsCount (IsLeast (AreInOneBlock es)) (labels links x) (get_or numbers x 0)
     number x lt = record {
       test = λ y. eqb (labels links y) y;

@@ -32,6 +32,7 @@ chosen P (d ∷ ds) some =
     chosen P ds (λ i lt. some (suc i) (omega arith)) in
     (first.0 ∷ rest.0, omega (arith, rest.1), each first rest)
   where
+    -- the chosen items, the first before the rest, belong to the items of the list
     each : (first : (c : ℕ) × P d c)
         (rest : (cs : List ℕ) × (length cs ≡ length ds) × ((i : ℕ) → i < length ds → P (get_or ds i 0) (get_or cs i 0)))
         (i : ℕ) → i < length (d ∷ ds) → P (get_or (d ∷ ds) i 0) (get_or (first.0 ∷ rest.0) i 0)
@@ -98,6 +99,7 @@ module _ (n : ℕ) (fs es : List (ℕ × ℕ)) (original h : ℕ → ℕ) (stand
       (subst (λ (e : ℕ). Joins (get_or es e (0, 0)) (h (get_or fs k (0, 0)).0) (h (get_or fs k (0, 0)).1)) at
       (stands.ends k ltk)))
     where
+      -- where edge k joins x and y, a dart from where x stands to where y stands is where a dart stands
       found : (x y : ℕ) → Joins (get_or fs k (0, 0)) x y → start es c ≡ h x → finish es c ≡ h y
           → (d : ℕ) × IsCopy fs es original h d c
       found x y j from to =
@@ -190,6 +192,7 @@ module _ (n : ℕ) (fs es : List (ℕ × ℕ)) (original h : ℕ → ℕ) (stand
       ))
       block
     where
+      -- a dart that stands on the edge where edge k stands is of edge k
       edge_back : (k : ℕ) → k < length fs → (d c : ℕ) → IsCopy fs es original h d c → c / 2 ≡ original k → d / 2 ≡ k
       edge_back k ltk d c copy at =
           stands.edges_apart (d / 2) k (omega (arith, copy.below)) ltk (sym copy.edge ∙ at)

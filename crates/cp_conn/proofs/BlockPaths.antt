@@ -45,9 +45,11 @@ label_step es v l f h u x y none ltf lth jf jh block p z w j ne =
     (end_cases (get_or es h (0, 0)) u y z w jh j))
     (cases_eq u v)
   where
+    -- the label of a vertex where v is removed
     g : ℕ → ℕ
     g a = labels (without_vertex v es) a
 
+    -- where the two edges meet at v, the other end of the second edge has the label
     across : u ≡ v → g y ≡ l
     across at =
         let jf_v : Joins (get_or es f (0, 0)) v x = subst (λ (a : ℕ). Joins (get_or es f (0, 0)) a x) at jf in
@@ -104,15 +106,19 @@ path_in_block es e f x y w z (d ∷ ds) none lte ltf je jf b l a m g h =
     (block-trans es (d / 2) e f none (block-sym es e (d / 2) first) b) l.2 a.1 m.1 g more))
     (HasEdge-cases g (d ∷ []) ds h)
   where
+    -- the edge of the first dart is one of the graph
     edge : d / 2 < length es
     edge = omega (arith, l.0)
 
+    -- that edge joins the two ends of the dart
     joins : Joins (get_or es (d / 2) (0, 0)) (start es d) (finish es d)
     joins = dart_joins es d l.0
 
+    -- that edge joins x to the end of the dart
     joins_x : Joins (get_or es (d / 2) (0, 0)) x (finish es d)
     joins_x = subst (λ (u : ℕ). Joins (get_or es (d / 2) (0, 0)) u (finish es d)) l.1 joins
 
+    -- the path ends at another vertex than it leaves
     other : y ≢ x
     other same = m.0 (l.1 ∙ sym same)
 
@@ -126,5 +132,6 @@ path_in_block es e f x y w z (d ∷ ds) none lte ltf je jf b l a m g h =
         (Connected-sym (without_vertex x es) (finish es d) y
         (Leads-connects es x (finish es d) y ds l.2 (subst (λ (u : ℕ). Misses es u ds) l.1 a.0) other)))
 
+    -- the edge of a single dart is that of the first
     single : (i : ℕ) → i < length (d ∷ []) → get_or (d ∷ []) i 0 / 2 ≡ g → d / 2 ≡ g
     single i lt k = let at : i ≡ 0 = omega arith in ap (λ (j : ℕ). get_or (d ∷ []) j 0 / 2) (sym at) ∙ k

@@ -18,19 +18,19 @@ abbrev pub Disjoint : List (ℕ × ℕ) → List ℕ → List ℕ → Type 0
 Disjoint es [] qs = Unit {0}
 Disjoint es (p ∷ ps) qs = Misses es (start es p) qs × Disjoint es ps qs
 
--- two lists that miss a vertex
+-- two lists that miss a vertex miss it one behind the other
 pub Misses-append : (es : List (ℕ × ℕ)) (z : ℕ) (ps qs : List ℕ) → Misses es z ps → Misses es z qs
     → Misses es z (ps ++ qs)
 Misses-append es z [] qs m n = n
 Misses-append es z (p ∷ ps) qs m n = (m.0, Misses-append es z ps qs m.1 n)
 
--- the parts of a list that misses a vertex
+-- both parts of a list that misses a vertex miss it
 pub Misses-parts : (es : List (ℕ × ℕ)) (z : ℕ) (ps qs : List ℕ) → Misses es z (ps ++ qs)
     → Misses es z ps × Misses es z qs
 Misses-parts es z [] qs m = (tt, m)
 Misses-parts es z (p ∷ ps) qs m = let h = Misses-parts es z ps qs m.1 in ((m.0, h.0), h.1)
 
--- two disjoint lists
+-- two disjoint lists that start apart start apart one behind the other
 pub Apart-append : (es : List (ℕ × ℕ)) (ps qs : List ℕ) → Apart es ps → Apart es qs → Disjoint es ps qs
     → Apart es (ps ++ qs)
 Apart-append es [] qs a b d = b
@@ -50,13 +50,13 @@ Disjoint-none : (es : List (ℕ × ℕ)) (ps : List ℕ) → Disjoint es ps []
 Disjoint-none es [] = tt
 Disjoint-none es (p ∷ ps) = (tt, Disjoint-none es ps)
 
--- a dart more on the other side
+-- a list that is disjoint from another and misses the start of a dart is disjoint from both together
 Disjoint-first : (es : List (ℕ × ℕ)) (ps : List ℕ) (q : ℕ) (qs : List ℕ) → Misses es (start es q) ps → Disjoint es ps qs
     → Disjoint es ps (q ∷ qs)
 Disjoint-first es [] q qs m d = tt
 Disjoint-first es (p ∷ ps) q qs m d = ((λ e. m.0 (sym e), d.0), Disjoint-first es ps q qs m.1 d.1)
 
--- the two lists can be exchanged
+-- where a list is disjoint from another, that is disjoint from it
 pub Disjoint-sym : (es : List (ℕ × ℕ)) (ps qs : List ℕ) → Disjoint es ps qs → Disjoint es qs ps
 Disjoint-sym es [] qs d = Disjoint-none es qs
 Disjoint-sym es (p ∷ ps) qs d = Disjoint-first es qs p ps d.0 (Disjoint-sym es ps qs d.1)
@@ -70,7 +70,7 @@ Disjoint-parts es (x ∷ ds) ps qs d =
     let h = Disjoint-parts es ds ps qs d.1 in
     ((m.0, h.0), (m.1, h.1))
 
--- an edge of the first part
+-- an edge of the first part is one of the whole list
 pub HasEdge-left : (e : ℕ) (ps qs : List ℕ) → HasEdge ps e → HasEdge (ps ++ qs) e
 HasEdge-left e ps qs h = (
   h.0,
@@ -79,7 +79,7 @@ HasEdge-left e ps qs h = (
       (get_or_append_left ps qs 0 h.0 h.1) ∙ h.2,
 )
 
--- an edge of the second part
+-- an edge of the second part is one of the whole list
 pub HasEdge-right : (e : ℕ) (ps qs : List ℕ) → HasEdge qs e → HasEdge (ps ++ qs) e
 HasEdge-right e ps qs h = (
   length ps + h.0,
@@ -102,7 +102,7 @@ HasEdge-cases e ps qs h =
     ))
     (cases_lt h.0 (length ps))
 
--- the vertex between two parts
+-- a way in two parts leads to some vertex and on from there
 pub Leads-parts : (es : List (ℕ × ℕ)) (x z : ℕ) (ps qs : List ℕ) → Leads es x (ps ++ qs) z
     → (y : ℕ) × Leads es x ps y × Leads es y qs z
 Leads-parts es x z [] qs l = (x, refl, l)
@@ -195,6 +195,7 @@ HasEdge-back : (e : ℕ) (ds : List ℕ) → HasEdge ds e → HasEdge (back ds) 
 HasEdge-back e [] h = absurd (omega (arith, h.1))
 HasEdge-back e (d ∷ ds) h = last h.0 h.1 h.2 (λ g. HasEdge-back e ds g)
   where
+    -- the edge of some dart is of the way back: that of the first dart at its end, the others before
     last : (i : ℕ) → i < length (d ∷ ds) → get_or (d ∷ ds) i 0 / 2 ≡ e → (HasEdge ds e → HasEdge (back ds) e)
         → HasEdge (back ds ++ twin d ∷ []) e
     last zero lt f rest = (
@@ -263,31 +264,40 @@ pub ring_at : (es : List (ℕ × ℕ)) (ds : List ℕ) (a : ℕ) → IsSimpleCyc
     → (turned : List ℕ) × Ring es (start es (get_or ds a 0)) turned × ((e : ℕ) → HasEdge ds e → HasEdge turned e)
 ring_at es ds a cy lt = (qs ++ ps, ring, moved)
   where
+    -- the darts before the one that the cycle is to begin at
     ps : List ℕ
     ps = take a ds
 
+    -- the darts from that one on
     qs : List ℕ
     qs = drop a ds
 
+    -- the cycle is the one part and then the other
     whole : ds ≡ ps ++ qs
     whole = sym (take-append-drop a ds)
 
+    -- the vertex that the cycle started at
     x : ℕ
     x = start es (get_or ds 0 0)
 
+    -- the vertex between the two parts, with a way to it and one from it
     parts : (y : ℕ) × Leads es x ps y × Leads es y qs x
     parts = Leads-parts es x x ps qs (subst (λ (fs : List ℕ). Leads es x fs x) whole (ring_leads es ds cy))
 
+    -- how long the first part is
     size_ps : length ps ≡ a
     size_ps = length-take-le a ds (omega arith)
 
+    -- how long the second part is
     size_qs : length qs ≡ length ds - a
     size_qs = length-drop a ds
 
+    -- the vertex between the parts is the start of the dart that the cycle is to begin at
     at : parts.0 ≡ start es (get_or ds a 0)
     at = sym (Leads-first es parts.0 x qs parts.2 (omega (arith, size_qs)))
         ∙ ap (start es) (get_or-drop a ds 0 0 ∙ ap (λ (k : ℕ). get_or ds k 0) (omega arith))
 
+    -- each dart of the turned list is one of the cycle, at the place turned by a
     same : (i : ℕ) → i < length (qs ++ ps)
         → (j : ℕ) × (j < length ds) × (get_or (qs ++ ps) i 0 ≡ get_or ds j 0)
         × (((i < length qs) × (j ≡ a + i)) ⊎ ((length qs ≤ i) × (j + length qs ≡ i)))
@@ -303,10 +313,12 @@ ring_at es ds a cy lt = (qs ++ ps, ring, moved)
         ))
         (cases_lt i (length qs))
 
+    -- the parts start apart and are disjoint
     apart : Apart es ps × Apart es qs × Disjoint es ps qs
     apart = Apart-parts es ps qs (subst (Apart es) whole
         (apart_from es ds (λ i j l ltj e. let f : j ≡ i = cy.vertices_differ j i ltj (omega arith) e in omega arith)))
 
+    -- where the turned list has two darts, they are of two edges
     differ : length (qs ++ ps) ≡ 2 → get_or (qs ++ ps) 0 0 / 2 ≡ get_or (qs ++ ps) 1 0 / 2 → ⊥
     differ n e =
         let one = same 0 (omega arith) in
@@ -315,6 +327,7 @@ ring_at es ds a cy lt = (qs ++ ps, ring, moved)
         (ap (λ (k : ℕ). k / 2) (sym one.2) ∙ e ∙ ap (λ (k : ℕ). k / 2) two.2) in
         omega (arith, one.3, two.3, size_qs, size_ps, length-append qs ps)
 
+    -- the turned list is a ring
     ring : Ring es (start es (get_or ds a 0)) (qs ++ ps)
     ring = record {
       leads = subst (λ (y : ℕ). Leads es y (qs ++ ps) y) at (Leads-append es parts.0 x parts.0 qs ps parts.2 parts.1);
@@ -323,6 +336,7 @@ ring_at es ds a cy lt = (qs ++ ps, ring, moved)
       differ = differ;
     }
 
+    -- each edge of the cycle is one of the turned list
     moved : (e : ℕ) → HasEdge ds e → HasEdge (qs ++ ps) e
     moved e h = ⊎_elim (λ l. HasEdge-right e qs ps l) (λ r. HasEdge-left e qs ps r)
         (HasEdge-cases e ps qs (subst (λ (fs : List ℕ). HasEdge fs e) whole h))
@@ -463,6 +477,7 @@ edge_cases e (d ∷ ds) =
     (edge_cases e ds))
     (cases_eq (d / 2) e)
   where
+    -- the edge of a single dart is that of the first
     single : (i : ℕ) → i < length (d ∷ []) → get_or (d ∷ []) i 0 / 2 ≡ e → d / 2 ≡ e
     single i lt f = let z : i ≡ 0 = omega arith in ap (λ (k : ℕ). get_or (d ∷ []) k 0 / 2) (sym z) ∙ f
 
@@ -484,27 +499,35 @@ ear_ring : (es : List (ℕ × ℕ)) (v e g y d : ℕ) (ring : List ℕ) → Ring
 ear_ring es v e g y d ring r he no_g lt edge from to h =
     ⊎_elim forward backward (HasEdge-cases e ps qs (subst (λ (fs : List ℕ). HasEdge fs e) h.on.whole he))
   where
+    -- the ring up to the vertex that the path hits
     ps : List ℕ
     ps = h.on.front
 
+    -- the ring from that vertex on
     qs : List ℕ
     qs = h.on.rest
 
+    -- the dart of g and then the path to the ring
     way : List ℕ
     way = d ∷ h.darts
 
+    -- it leads from v to the vertex of the ring
     leads : Leads es v way h.hit
     leads = (lt, from, subst (λ (z : ℕ). Leads es z h.darts h.hit) (sym to) h.leads)
 
+    -- the ring has a dart before that vertex
     some : 0 < length ps
     some = some_front es v h.hit ps h.on.there h.other
 
+    -- the two parts of the ring start apart and are disjoint
     ring_apart : Apart es ps × Apart es qs × Disjoint es ps qs
     ring_apart = Apart-parts es ps qs (subst (Apart es) h.on.whole r.apart)
 
+    -- the path is disjoint from either part of the ring
     off : Disjoint es h.darts ps × Disjoint es h.darts qs
     off = Disjoint-parts es h.darts ps qs (subst (Disjoint es h.darts) h.on.whole h.off)
 
+    -- the way starts apart
     apart : Apart es way
     apart = (
       subst (λ (z : ℕ). Misses es z h.darts) (sym from)
@@ -512,10 +535,12 @@ ear_ring es v e g y d ring r he no_g lt edge from to h =
       h.apart,
     )
 
+    -- no part of the ring has the edge g
     only : (fs : List ℕ) → HasEdge ps g ⊎ HasEdge qs g → ⊥
     only fs k = no_g (subst (λ (xs : List ℕ). HasEdge xs g) (sym h.on.whole)
         (⊎_elim (λ l. HasEdge-left g ps qs l) (λ m. HasEdge-right g ps qs m) k))
 
+    -- where e is in the first part, that part and the way back make a ring with e and g
     forward : HasEdge ps e → AreInOneBlock es e g
     forward k = inr (
       ps ++ back way,
@@ -542,6 +567,7 @@ ear_ring es v e g y d ring r he no_g lt edge from to h =
       HasEdge-right g ps (back way) (HasEdge-back g way (0, omega arith, edge)),
     )
 
+    -- where e is in the second part, the way and that part make a ring with e and g
     backward : HasEdge qs e → AreInOneBlock es e g
     backward k = inr (
       way ++ qs,
@@ -577,6 +603,7 @@ block_step es v e f g x y ltf ltg jf jg nex ney block same =
     (λ q. on_cycle q.0 q.1 q.2 q.3)
     block
   where
+    -- where e and f lie on a simple cycle, g is in one block with e
     on_cycle : (ds : List ℕ) → IsSimpleCycle es ds → HasEdge ds e → HasEdge ds f → AreInOneBlock es e g
     on_cycle ds cy he hf =
         let a : (a : ℕ) × (a < length ds) × (start es (get_or ds a 0) ≡ v) = end_at es ds v f x cy hf jf in

@@ -22,10 +22,12 @@ blocks_at es n v least parts w none labelled g = record {
   by_least = g.by_least;
 }
   where
+    -- the key of an edge at v is the label of its other end where v is removed
     label : (e : ℕ) → e < length es → touches es v e ≡ true
         → key_of es v least e ≡ labels (without_vertex v es) (other_end es v e)
     label e lt t = labelled (other_end es v e) (other_within es n v e w lt t)
 
+    -- items of two parts are in one block exactly where the parts are one
     by_block : (i j k l : ℕ) → i < length parts → j < length parts → k < length (get_or parts i [])
         → l < length (get_or parts j []) → AreInOneBlock es (item parts i k) (item parts j l) ↔ (i ≡ j)
     by_block i j k l lti ltj ltk ltl =

@@ -27,20 +27,20 @@ ConnectedWithout-swap g u v x y c =
     kept_of (avoids v) (without_vertex u (pairs g)) e (kept_of (avoids u) (pairs g) e i.0 h.1) i.1)
     c
 
--- connection goes back
+-- connection without u and v can be read the other way
 pub ConnectedWithout-sym : (g : NamedGraph) (u v x y : ℕ) → ConnectedWithout g u v x y → ConnectedWithout g u v y x
 ConnectedWithout-sym g u v x y c = Connected-sym (without_vertex u (without_vertex v (pairs g))) x y c
 
--- connection goes on
+-- two vertices that are connected without u and v to a third are connected so
 pub ConnectedWithout-trans : (g : NamedGraph) (u v x y z : ℕ) → ConnectedWithout g u v x y
     → ConnectedWithout g u v y z → ConnectedWithout g u v x z
 ConnectedWithout-trans g u v x y z c d = Connected-trans (without_vertex u (without_vertex v (pairs g))) x y z c d
 
--- nothing else is connected to the one vertex that is removed
+-- nothing else is connected to the first of the vertices that are removed
 pub ConnectedWithout-first : (g : NamedGraph) (u v x : ℕ) → ConnectedWithout g u v x u → x ≡ u
 ConnectedWithout-first g u v x c = removed_alone u (without_vertex v (pairs g)) x c
 
--- nor to the other
+-- nothing else is connected to the second of the vertices that are removed
 pub ConnectedWithout-second : (g : NamedGraph) (u v x : ℕ) → ConnectedWithout g u v x v → x ≡ v
 ConnectedWithout-second g u v x c = removed_alone v (without_vertex u (pairs g)) x (ConnectedWithout-swap g u v x v c)
 
@@ -64,9 +64,11 @@ first_onward g u v e = head_or 0 (onward g u v e)
 pub onward-GoesOn : (g : NamedGraph) (u v e f : ℕ) → Contains (onward g u v e) f ↔ GoesOn g u v e f
 onward-GoesOn g u v e f = by_end (eqb (far g u e) v) refl
   where
+    -- the far end of edge k of v is connected to that of e where u and v are removed
     joins : ℕ → Bool
     joins k = joined_without g u v (far g u e) (far g v k)
 
+    -- the edges onward are right, where it is known whether e ends at v
     by_end : (b : Bool) → eqb (far g u e) v ≡ b
         → Contains (cond b (e ∷ []) (filter (λ k. joined_without g u v (far g u e) (far g v k)) (edges_at g v))) f
         ↔ GoesOn g u v e f
@@ -165,6 +167,7 @@ module _ (g : NamedGraph) (u v : ℕ) (bond : IsBond g u v) where
   IsAlong-first_onward e c =
       (onward-GoesOn g u v e (first_onward g u v e)).0 (first (onward g u v e) (onward_filled e c))
     where
+      -- a list that is not empty contains its first item
       first : (xs : List ℕ) → 0 < length xs → Contains xs (head_or 0 xs)
       first [] lt = absurd (omega arith)
       first (x ∷ xs) lt = Contains-head x xs

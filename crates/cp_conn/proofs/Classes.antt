@@ -22,11 +22,13 @@ numbered_components es n least numbers size labelled same counted = record {
   };
 }
   where
+    -- the number of a vertex counts the labels below its own
     count_is : (x : ℕ) → x < n → get_or numbers x 0 ≡ classes (labels es x) es
     count_is x lt = counted x (omega arith) ∙ ap (λ (k : ℕ). count k (λ y. eqb (get_or least y 0) y)) (labelled x lt)
         ∙ count_agree (labels es x) (λ y. eqb (get_or least y 0) y) (λ y. eqb (labels es y) y)
         (λ y l. ap (λ (k : ℕ). eqb k y) (labelled y (omega (arith, labels-le es x))))
 
+    -- the number of a vertex counts the least vertices of components below its own
     count_at : (x : ℕ) → x < n → IsCount (IsLeast (Connected es)) (labels es x) (get_or numbers x 0)
     count_at x lt = subst (λ (k : ℕ). IsCount (IsLeast (Connected es)) (labels es x) k) (sym (count_is x lt))
         (IsCount-classes (labels es x) es)
@@ -44,7 +46,7 @@ labelled_leads es n least size labelled x lt =
     ap (λ (k : ℕ). get_or least k 0) (labelled x (omega arith)) ∙ labelled (labels es x) (omega (arith, labels-le es x))
     ∙ labels-labels es x ∙ sym (labelled x (omega arith))
 
--- the same, as a program reads the list
+-- the numbers of the components, as a program reads the list of least vertices
 pub numbered_parts : (es : List (ℕ × ℕ)) (n : ℕ) (least seen numbers : List ℕ) → seen ≡ least → length least ≡ n
     → ((x : ℕ) → x < n → get_or least x 0 ≡ labels es x) → length numbers ≡ length seen
     → ((x : ℕ) → x < length seen → get_or numbers x 0 ≡ count (get_or seen x 0) (λ y. eqb (get_or seen y 0) y))

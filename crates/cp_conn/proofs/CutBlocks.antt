@@ -41,6 +41,7 @@ pub record HasBlocksApart (es : List (ℕ × ℕ)) (v : ℕ) : Type 0 where
 pub cut_vertex_by_blocks : (es : List (ℕ × ℕ)) (v : ℕ) → HaveNoLoop es → IsCutVertex es v ↔ HasBlocksApart es v
 cut_vertex_by_blocks es v none = (blocks, cuts)
   where
+    -- at a cut vertex two edges are in different blocks
     blocks : IsCutVertex es v → HasBlocksApart es v
     blocks cut =
         let e : ℕ = cut.near_one.contained.0 in
@@ -63,6 +64,7 @@ cut_vertex_by_blocks es v none = (blocks, cuts)
           apart = λ b. cut.apart ((parts_are_blocks es v e f cut.one cut.two none lte ltf je jf).0 b);
         }
 
+    -- a vertex with edges in different blocks is a cut vertex
     cuts : HasBlocksApart es v → IsCutVertex es v
     cuts h =
         let x : (w : ℕ) × Joins (get_or es h.one (0, 0)) v w = touch_joins es v h.one h.one_touches in

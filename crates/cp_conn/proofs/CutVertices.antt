@@ -14,6 +14,7 @@ use Rattle.cp_conn.proofs.DartChains.{Contains-at, within_pair, within_joined}
 pub Contains-split : {X : Type 0} (x e : X) (es : List X) → Contains (x ∷ es) e → (x ≡ e) ⊎ Contains es e
 Contains-split x e es c = split_at c.0 c.1 c.2
   where
+    -- what stands at a place is the first item or in the rest
     split_at : (k : ℕ) → k < length (x ∷ es) → get_or (x ∷ es) k e ≡ e → (x ≡ e) ⊎ Contains es e
     split_at zero lt f = inl f
     split_at (suc k) lt f = inr (k, omega arith, f)
@@ -85,6 +86,7 @@ cuts_no es n v label least w labelled none cut =
     (sym (labelled cut.one (near_within n es v cut.one w cut.near_one)) ∙ same cut.one cut.near_one
     ∙ sym (same cut.two cut.near_two) ∙ labelled cut.two (near_within n es v cut.two w cut.near_two)))
   where
+    -- each neighbour of v has the label
     same : (x : ℕ) → IsNeighbour es v x → get_or least x 0 ≡ label
     same x near = ⊎_elim (λ e. e) (λ ne. absurd (none (record { which = x; near = near; differs = ne })))
         (cases_eq (get_or least x 0) label)
@@ -105,9 +107,11 @@ cuts_told es n bound v near read rest least b w bound_is rest_is size labelled i
     (λ apart. cuts_yes es n v near least w known is (subst (HasNeighbourApart es v least) at apart))
     (λ none. cuts_no es n v read least w known none)
   where
+    -- the list tells the labels of the vertices where v is removed
     known : (x : ℕ) → x < n → get_or least x 0 ≡ labels (without_vertex v es) x
     known x lt = labelled x (omega arith) ∙ ap (λ (fs : List (ℕ × ℕ)). labels fs x) rest_is
 
+    -- what was read is the label of the neighbour
     at : read ≡ get_or least near 0
     at = get_or_read least near read (omega (arith, near_within n es v near w is)) read_is 0
 
@@ -125,10 +129,12 @@ avoided v e x y t j is =
     ∙ and_left_true (not (eqb e.0 v)) (not (eqb e.1 v)) t))
     j
   where
+    -- where both hold, the first does
     and_left_true : (a b : Bool) → (a && b) ≡ true → a ≡ true
     and_left_true true b u = refl
     and_left_true false b u = u
 
+    -- where both hold, the second does
     and_right_true : (a b : Bool) → (a && b) ≡ true → b ≡ true
     and_right_true true b u = u
     and_right_true false b u = absurd (false≢true u)

@@ -60,9 +60,11 @@ dart_at es e x y lt j =
     ))
     j
   where
+    -- the even dart of e is of edge e
     even : get_or es (2 * e / 2) (0, 0) ≡ get_or es e (0, 0)
     even = let at : 2 * e / 2 ≡ e = omega arith in ap (λ (k : ℕ). get_or es k (0, 0)) at
 
+    -- the odd dart of e is of edge e
     odd : get_or es ((2 * e + 1) / 2) (0, 0) ≡ get_or es e (0, 0)
     odd = let at : (2 * e + 1) / 2 ≡ e = omega arith in ap (λ (k : ℕ). get_or es k (0, 0)) at
 
@@ -82,7 +84,7 @@ pub within_pair : (n : ℕ) (es : List (ℕ × ℕ)) (e : ℕ × ℕ) → AreWit
 within_pair n es e w c = subst (λ (p : ℕ × ℕ). (p.0 < n) × (p.1 < n)) (get_or_default es c.0 (0, 0) e c.1 ∙ c.2)
     (w c.0 c.1)
 
--- what a pair joins are vertices
+-- what a pair of a graph joins to something is a vertex
 pub within_joined : (n : ℕ) (es : List (ℕ × ℕ)) (e : ℕ × ℕ) (x y : ℕ) → AreWithin n es → Contains es e → Joins e x y
     → y < n
 within_joined n es e x y w c j =
@@ -141,10 +143,12 @@ AreChained-more n es d v entries lower ch at lt = record {
       (ch.lower_of k (omega arith))) (cases_eq k d);
 }
   where
+    -- the changed entry is that of v
     entry_at : (w : ℕ) → w ≡ v → get_or (set entries v (d + 1)) w 0 ≡ d + 1
     entry_at w e = ap (λ (k : ℕ). get_or (set entries v (d + 1)) k 0) e
         ∙ get_or-set_same entries v (d + 1) 0 (omega (arith, ch.entry_each))
 
+    -- the new dart is the highest that starts at v
     own : (w : ℕ) → w ≡ v → IsEntry es w (d + 1) (d + 1)
     own w e = record {
       below = omega arith;
@@ -152,6 +156,7 @@ AreChained-more n es d v entries lower ch at lt = record {
       highest = λ k le l f. omega arith;
     }
 
+    -- the entry of another vertex stays right
     kept : (w : ℕ) → (w ≡ v → ⊥) → IsEntry es w d (get_or entries w 0) → IsEntry es w (d + 1) (get_or entries w 0)
     kept w ne is = record {
       below = omega (arith, is.below);
@@ -160,14 +165,16 @@ AreChained-more n es d v entries lower ch at lt = record {
           (cases_eq k d);
     }
 
+    -- the last item of the list is the entry before
     lower_at : (k : ℕ) → k ≡ d → get_or (lower ++ get_or entries v 0 ∷ []) k 0 ≡ get_or entries v 0
     lower_at k e = get_or_push lower (get_or entries v 0) 0 k (ch.lower_each ∙ sym e)
 
+    -- the new dart leads to the next lower one that starts at v
     last : (k : ℕ) → k ≡ d → IsEntry es (start es k) k (get_or entries v 0)
     last k e = subst (λ (j : ℕ). IsEntry es (start es j) j (get_or entries v 0)) (sym e)
         (subst (λ (w : ℕ). IsEntry es w d (get_or entries v 0)) (sym at) (ch.entry_of v lt))
 
--- the same, as a program reads the entry
+-- the next dart is put into the table, as a program reads the entry of its vertex
 pub AreChained-step : (n : ℕ) (es : List (ℕ × ℕ)) (d v read : ℕ) (entries lower longer : List ℕ)
     → AreChained n es d entries lower → AreWithin n es → d < 2 * length es → v ≡ start es d
     → read ≡ get_or entries v read → longer ≡ lower ++ read ∷ []

@@ -103,7 +103,7 @@ along_back g u v bond once equal along back there and_back e c =
     (GoesOn-within g u v e (along e) c (there e c))
     (GoesOn-back g u v bond e (along e) c (there e c))
 
--- and each edge of the other
+-- where both bonds have the same number of edges, going back and along again leads to each edge of v itself
 pub back_along : (g : NamedGraph) (u v : ℕ) → IsBond g u v → Distinct g.edges
     → length (edges_at g u) ≡ length (edges_at g v) → (along back : ℕ → ℕ) → IsAlong g u v along → IsAlong g v u back
     → (f : ℕ) → Contains (edges_at g v) f → along (back f) ≡ f

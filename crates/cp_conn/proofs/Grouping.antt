@@ -14,7 +14,7 @@ IsPart-higher p key bound part is = record {
   filled = is.filled;
 }
 
--- a part of one item
+-- one number that passes is a part
 IsPart-one : (p : ℕ → Bool) (key : ℕ → ℕ) (bound : ℕ) → p bound ≡ true → IsPart p key (bound + 1) (bound ∷ [])
 IsPart-one p key bound t = record {
   member = λ k lt. let e : k ≡ 0 = omega arith in
@@ -24,11 +24,11 @@ IsPart-one p key bound t = record {
   filled = omega arith;
 }
 
--- the first item stays the first
+-- the first item stays the first where one is put at the end
 first_stays : (part : List ℕ) (e : ℕ) → 0 < length part → get_or (part ++ e ∷ []) 0 0 ≡ get_or part 0 0
 first_stays part e lt = get_or_append_left part (e ∷ []) 0 0 lt
 
--- an item more
+-- a part with one item more, of its key, is a part
 IsPart-more : (p : ℕ → Bool) (key : ℕ → ℕ) (bound : ℕ) (part : List ℕ) → IsPart p key bound part → p bound ≡ true
     → key bound ≡ key (get_or part 0 0) → IsPart p key (bound + 1) (part ++ bound ∷ [])
 IsPart-more p key bound part is t same = record {
@@ -50,9 +50,11 @@ IsPart-more p key bound part is t same = record {
   filled = omega (arith, length_push part bound);
 }
   where
+    -- the number is below the new bound, passes, and has the key of the longer part
     Good : ℕ → Type 0
     Good x = (x < bound + 1) × (p x ≡ true) × (key x ≡ key (get_or (part ++ bound ∷ []) 0 0))
 
+    -- the items of the part stay where they are
     old : (k : ℕ) → k < length part → get_or (part ++ bound ∷ []) k 0 ≡ get_or part k 0
     old k lt = get_or_append_left part (bound ∷ []) 0 k lt
 
@@ -127,19 +129,24 @@ AreGrouped-new p key bound parts g t new = record {
       (cases_eq j (length parts));
 }
   where
+    -- there is one part more
     size : length (parts ++ (bound ∷ []) ∷ []) ≡ length parts + 1
     size = length_push parts (bound ∷ [])
 
+    -- the parts before stay as they are
     old : (i : ℕ) → i < length parts → get_or (parts ++ (bound ∷ []) ∷ []) i [] ≡ get_or parts i []
     old i lt = get_or_append_left parts ((bound ∷ []) ∷ []) [] i lt
 
+    -- the last part has the new number alone
     last : (i : ℕ) → i ≡ length parts → get_or (parts ++ (bound ∷ []) ∷ []) i [] ≡ bound ∷ []
     last i e = get_or_push parts (bound ∷ []) [] i (sym e)
 
+    -- the first items of the parts before stay
     old_first : (i : ℕ) → i < length parts
         → get_or (get_or (parts ++ (bound ∷ []) ∷ []) i []) 0 0 ≡ get_or (get_or parts i []) 0 0
     old_first i lt = ap (λ (part : List ℕ). get_or part 0 0) (old i lt)
 
+    -- the first item of the last part is the new number
     last_first : (i : ℕ) → i ≡ length parts → get_or (get_or (parts ++ (bound ∷ []) ∷ []) i []) 0 0 ≡ bound
     last_first i e = ap (λ (part : List ℕ). get_or part 0 0) (last i e)
 
@@ -202,15 +209,19 @@ AreGrouped-more p key bound k parts g t lt same = record {
   by_least = λ i j l ltj. omega (arith, firsts i, firsts j, g.by_least i j l (omega (arith, size)));
 }
   where
+    -- the part with the new number at its end
     part : List ℕ
     part = get_or parts k [] ++ bound ∷ []
 
+    -- there are as many parts as before
     size : length (set parts k part) ≡ length parts
     size = length-set parts k part
 
+    -- the changed part stands at place k
     at : (i : ℕ) → i ≡ k → get_or (set parts k part) i [] ≡ part
     at i e = ap (λ (j : ℕ). get_or (set parts k part) j []) e ∙ get_or-set_same parts k part [] lt
 
+    -- the first items of all parts stay
     firsts : (i : ℕ) → get_or (get_or (set parts k part) i []) 0 0 ≡ get_or (get_or parts i []) 0 0
     firsts i = firsts_stay parts k bound i lt (g.each k lt).filled
 
@@ -240,24 +251,30 @@ IsPlaced-put p key n bound parts places more moved g pl lt put =
     (subst (IsPlaced key n (set parts h.0 (get_or parts h.0 [] ++ bound ∷ []))) (sym h.3) (kept h.0 s.0)))
     put
   where
+    -- there is one part more
     size : length (parts ++ (bound ∷ []) ∷ []) ≡ length parts + 1
     size = length_push parts (bound ∷ [])
 
+    -- the first items of the parts before stay
     old_first : (i : ℕ) → i < length parts
         → get_or (get_or (parts ++ (bound ∷ []) ∷ []) i []) 0 0 ≡ get_or (get_or parts i []) 0 0
     old_first i l = ap (λ (part : List ℕ). get_or part 0 0) (get_or_append_left parts ((bound ∷ []) ∷ []) [] i l)
 
+    -- the first item of the last part is the new number
     last_first : (i : ℕ) → i ≡ length parts → get_or (get_or (parts ++ (bound ∷ []) ∷ []) i []) 0 0 ≡ bound
     last_first i e = ap (λ (part : List ℕ). get_or part 0 0) (get_or_push parts (bound ∷ []) [] i (sym e))
 
+    -- the place of the new key is that of the last part
     place_at : (l : ℕ) → l ≡ key bound → get_or (set places (key bound) (length parts + 1)) l 0 ≡ length parts + 1
     place_at l e = ap (λ (k : ℕ). get_or (set places (key bound) (length parts + 1)) k 0) e
         ∙ get_or-set_same places (key bound) (length parts + 1) 0 (omega (arith, pl.size))
 
+    -- the places of other keys stay
     place_other : (l : ℕ) → (l ≡ key bound → ⊥)
         → get_or (set places (key bound) (length parts + 1)) l 0 ≡ get_or places l 0
     place_other l ne = get_or-set_other places (key bound) l (length parts + 1) 0 ne
 
+    -- the places are right where a part of a new key was added
     fresh : IsPlaced key n (parts ++ (bound ∷ []) ∷ []) (set places (key bound) (length parts + 1))
     fresh = record {
       size = length-set places (key bound) (length parts + 1) ∙ pl.size;
@@ -277,6 +294,7 @@ IsPlaced-put p key n bound parts places more moved g pl lt put =
           (cases_eq l (key bound));
     }
 
+    -- the places stay right where a number was put at the end of a part
     kept : (k : ℕ) → k < length parts → IsPlaced key n (set parts k (get_or parts k [] ++ bound ∷ [])) places
     kept k ltk = record {
       size = pl.size;

@@ -47,7 +47,7 @@ map_has f xs x c =
 pub length-pairs : (g : NamedGraph) → length (pairs g) ≡ length g.edges
 length-pairs g = length-map g.edges g.ends
 
--- the pair of an edge
+-- the ends of an edge are one of the pairs
 pub pairs_have : (g : NamedGraph) (e : ℕ) → Contains g.edges e → Contains (pairs g) (g.ends e)
 pairs_have g e c = map_has g.ends g.edges e c
 
@@ -92,7 +92,7 @@ joins_ends g v x e j =
     (λ h. or_right (eqb (g.ends e).0 v) (eqb (g.ends e).1 v) (eq-eqb (g.ends e).1 v h.1))
     j
 
--- and x is its far end
+-- where an edge joins v to x, its far end from v is x
 pub joins_far : (g : NamedGraph) (v x e : ℕ) → Joins (g.ends e) v x → far g v e ≡ x
 joins_far g v x e j = Joins-same (g.ends e) v (far g v e) x (far_joins g v e (joins_ends g v x e j)) j
 
@@ -115,7 +115,7 @@ pair_joins g v e c =
     let h = edges_at-Contains g v e c in
     subst (λ (p : ℕ × ℕ). Joins p v (far g v e)) (sym (pair_of_edge g e h.0).1) (far_joins g v e h.1)
 
--- the edge at a place
+-- what stands at a place is an edge, with the ends that stand there among the pairs
 pub edge_at : (g : NamedGraph) (i : ℕ) → i < length (pairs g)
     → Contains g.edges (get_or g.edges i 0) × (g.ends (get_or g.edges i 0) ≡ get_or (pairs g) i (0, 0))
 edge_at g i lt =

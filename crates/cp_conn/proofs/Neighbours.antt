@@ -10,7 +10,7 @@ use Rattle.cp_conn.proofs.DartChains.{Contains-at}
 abbrev pub AllNear : List (ℕ × ℕ) → ℕ → (ℕ → Type 0) → ℕ → Type 0
 AllNear es v P i = (k : ℕ) → k < i → (x : ℕ) → Joins (get_or es k (0, 0)) v x → (x ≡ v → ⊥) → P x
 
--- one edge more
+-- where a fact holds for the neighbours by the first edges and by the next, it holds by one edge more
 pub AllNear-more : (es : List (ℕ × ℕ)) (v : ℕ) (P : ℕ → Type 0) (i first second : ℕ)
     → get_or es i (0, 0) ≡ (first, second) → (first ≡ v → (second ≡ v → ⊥) → P second)
     → (second ≡ v → (first ≡ v → ⊥) → P first) → AllNear es v P i → AllNear es v P (i + 1)
@@ -23,7 +23,7 @@ AllNear-more es v P i first second at one two all k lt x j ne =
     (λ nk. all k (omega arith) x j ne)
     (cases_eq k i)
 
--- all edges
+-- where a fact holds for the neighbours by all edges, it holds for each neighbour
 pub AllNear-end : (es : List (ℕ × ℕ)) (v : ℕ) (P : ℕ → Type 0) (i x : ℕ) → length es ≡ i → AllNear es v P i
     → IsNeighbour es v x → P x
 AllNear-end es v P i x all_of all near =

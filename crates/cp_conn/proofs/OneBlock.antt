@@ -43,6 +43,7 @@ one_edge es c d e =
     (cases_eq (d % 2) 0))
     (cases_eq (c % 2) 0)
   where
+    -- what is read of the edges of the two darts is equal
     same : (g : ℕ × ℕ → ℕ) → g (get_or es (c / 2) (0, 0)) ≡ g (get_or es (d / 2) (0, 0))
     same g = ap (λ (k : ℕ). g (get_or es k (0, 0))) e
 
@@ -72,6 +73,7 @@ cycle_of es x ds l a two differ = record {
         (λ ne. (suc i, omega arith, Leads-linked es x x ds i l (omega arith), inl refl))
         (cases_eq (suc i) (length ds))
 
+    -- a later dart of the cycle is of another edge
     later : (i j : ℕ) → i < j → j < length ds → get_or ds i 0 / 2 ≡ get_or ds j 0 / 2 → ⊥
     later i j lt ltj e =
         ⊎_elim
@@ -104,21 +106,27 @@ one_block_of es v e f x y lte ltf differ je jf ney c =
       ),
     )
   where
+    -- a simple path from x to y that does not touch v
     p : SimplePath es v x y
     p = simple_path es v y x c
 
+    -- the dart of e from v to x
     first : (d : ℕ) × (d < 2 * length es) × (d / 2 ≡ e) × (start es d ≡ v) × (finish es d ≡ x)
     first = dart_at es e v x lte je
 
+    -- the dart of f from y to v
     last : (d : ℕ) × (d < 2 * length es) × (d / 2 ≡ f) × (start es d ≡ y) × (finish es d ≡ v)
     last = dart_at es f y v ltf (Joins-sym (get_or es f (0, 0)) v y jf)
 
+    -- the dart of e, the path, and the dart of f
     ds : List ℕ
     ds = first.0 ∷ (p.darts ++ last.0 ∷ [])
 
+    -- how many darts these are
     size : length ds ≡ length p.darts + 2
     size = omega (arith, length_push p.darts last.0)
 
+    -- they lead from v to v
     leads : Leads es v ds v
     leads = (
       first.1,
@@ -127,6 +135,7 @@ one_block_of es v e f x y lte ltf differ je jf ney c =
           (Leads-append es x y v p.darts (last.0 ∷ []) p.leads (last.1, last.3, last.4)),
     )
 
+    -- no two of them start at one vertex
     apart : Apart es ds
     apart = (
       subst (λ (z : ℕ). Misses es z (p.darts ++ last.0 ∷ [])) (sym first.3)
@@ -134,6 +143,7 @@ one_block_of es v e f x y lte ltf differ je jf ney c =
       Apart-last es last.0 p.darts p.apart (subst (λ (z : ℕ). Misses es z p.darts) (sym last.3) p.ends),
     )
 
+    -- where they are two, they are of two edges
     two : length ds ≡ 2 → get_or ds 0 0 / 2 ≡ get_or ds 1 0 / 2 → ⊥
     two n g = differ (sym first.2 ∙ g ∙ ap (λ (k : ℕ). k / 2) (get_or_push p.darts last.0 0 0 (omega (arith, size)))
         ∙ last.2)
@@ -164,9 +174,11 @@ clear_dart es v d lt from to =
     (⊎_elim (λ h. avoids_of v pair (λ g. from (sym h.0 ∙ g)) (λ g. to (sym h.1 ∙ g)))
     (λ h. avoids_of v pair (λ g. to (sym h.0 ∙ g)) (λ g. from (sym h.1 ∙ g))) joins)) joins
   where
+    -- the edge of the dart
     pair : ℕ × ℕ
     pair = get_or es (d / 2) (0, 0)
 
+    -- it joins the two ends of the dart
     joins : Joins (get_or es (d / 2) (0, 0)) (start es d) (finish es d)
     joins = dart_joins es d lt
 
@@ -223,19 +235,24 @@ corner es ds v a cy lt at =
     })
     (cases_eq a 0)
   where
+    -- the label of a vertex where v is removed
     g : ℕ → ℕ
     g x = labels (without_vertex v es) x
 
+    -- the label of the start of dart i where v is removed
     h : ℕ → ℕ
     h i = labels (without_vertex v es) (start es (get_or ds i 0))
 
+    -- a dart that starts at v is dart a
     leaves : (i : ℕ) → i < length ds → start es (get_or ds i 0) ≡ v → i ≡ a
     leaves i lti e = cy.vertices_differ i a lti lt (e ∙ sym at)
 
+    -- each dart ends where the next starts
     next : (i : ℕ) → suc i < length ds → finish es (get_or ds i 0) ≡ start es (get_or ds (suc i) 0)
     next i lti = let e : i + 1 ≡ suc i = omega arith in cy.linked i (omega arith)
         ∙ ap (λ (k : ℕ). start es (get_or ds k 0)) e
 
+    -- the label stays the same along a dart that does not touch v
     steps : (j : ℕ) → suc j < length ds → (j ≡ a → ⊥) → (suc j ≡ a → ⊥) → h j ≡ h (suc j)
     steps j ltj one two =
         clear_dart es v (get_or ds j 0) (cy.within j (omega arith)) (λ e. one (leaves j (omega arith) e))
@@ -251,6 +268,7 @@ at_corner es ds v e x i c cy lt is j =
     (λ h. let at : i ≡ c.b = c.enters i lt h.0 in inr (at, ap (λ (k : ℕ). start es (get_or ds k 0)) (sym at) ∙ h.1))
     (Joins_cases (get_or es e (0, 0)) (start es (get_or ds i 0)) (finish es (get_or ds i 0)) v x joins j)
   where
+    -- edge e joins the two ends of dart i
     joins : Joins (get_or es e (0, 0)) (start es (get_or ds i 0)) (finish es (get_or ds i 0))
     joins = subst (λ (k : ℕ). Joins (get_or es k (0, 0)) (start es (get_or ds i 0)) (finish es (get_or ds i 0))) is
         (dart_joins es (get_or ds i 0) (cy.within i lt))
@@ -268,6 +286,7 @@ corner_at es ds v e x i cy lt is j =
     (cases_eq (suc i) (length ds)))
     (Joins_cases (get_or es e (0, 0)) (start es (get_or ds i 0)) (finish es (get_or ds i 0)) v x joins j)
   where
+    -- edge e joins the two ends of dart i
     joins : Joins (get_or es e (0, 0)) (start es (get_or ds i 0)) (finish es (get_or ds i 0))
     joins = subst (λ (k : ℕ). Joins (get_or es k (0, 0)) (start es (get_or ds i 0)) (finish es (get_or ds i 0))) is
         (dart_joins es (get_or ds i 0) (cy.within i lt))
@@ -282,6 +301,7 @@ connected_of es v e f x y differ je jf block =
     (λ q. on_cycle q.0 q.1 q.2 q.3)
     block
   where
+    -- the other ends of two edges of a simple cycle are connected where v is removed
     on_cycle : (ds : List ℕ) → IsSimpleCycle es ds → HasEdge ds e → HasEdge ds f
         → labels (without_vertex v es) x ≡ labels (without_vertex v es) y
     on_cycle ds cy he hf =

@@ -54,7 +54,7 @@ cut es p w x y (d ∷ ds) l a m n =
     (λ ne. ⊎_elim (λ q. inl q) (λ r. inr (ne, r)) (cut es p w (finish es d) y ds l.2 a.1 m.1 n.1))
     (cases_eq (start es d) w)
 
--- a dart before a simple path
+-- a dart before a simple path gives a simple path, which is cut short where it meets the start of the dart
 before : (es : List (ℕ × ℕ)) (p : ℕ × ℕ → Bool) (w x y d : ℕ) → PassingPath es p x y → d < 2 * length es
     → start es d ≡ w → finish es d ≡ x → p (get_or es (d / 2) (0, 0)) ≡ true → PassingPath es p w y
 before es p w x y d path lt from to passes =
@@ -106,13 +106,13 @@ simple_path es v x y c =
       avoids = Pass-Misses es v y x path.darts path.leads path.pass;
     }
 
--- darts one after the other
+-- darts that lead to a vertex, and darts that lead on from it, lead on together
 pub Leads-append : (es : List (ℕ × ℕ)) (x y z : ℕ) (ds fs : List ℕ) → Leads es x ds y → Leads es y fs z
     → Leads es x (ds ++ fs) z
 Leads-append es x y z [] fs l m = subst (λ (w : ℕ). Leads es w fs z) (sym l) m
 Leads-append es x y z (d ∷ ds) fs l m = (l.0, l.1, Leads-append es (finish es d) y z ds fs l.2 m)
 
--- one dart more that starts elsewhere
+-- darts miss a vertex also with one more that starts elsewhere
 pub Misses-last : (es : List (ℕ × ℕ)) (z f : ℕ) (ds : List ℕ) → Misses es z ds → (start es f ≡ z → ⊥)
     → Misses es z (ds ++ f ∷ [])
 Misses-last es z f [] m ne = (ne, tt)
@@ -131,7 +131,7 @@ Misses_at es z [] i m lt e = omega arith
 Misses_at es z (d ∷ ds) zero m lt e = m.0 e
 Misses_at es z (d ∷ ds) (suc i) m lt e = Misses_at es z ds i m.1 (omega arith) e
 
--- darts that lead somewhere are darts
+-- darts that lead somewhere are darts of the graph
 pub Leads-within : (es : List (ℕ × ℕ)) (x y : ℕ) (ds : List ℕ) (i : ℕ) → Leads es x ds y → i < length ds
     → get_or ds i 0 < 2 * length es
 Leads-within es x y [] i l lt = absurd (omega arith)

@@ -19,7 +19,7 @@ kept_more removed v x lt =
     ∙ sym (ap (λ (b : Bool). not b && not (get_or removed x false)) (ne_eqb x v off)))
     (cases_eq x v)
 
--- four facts in another order
+-- the second and the third of four facts can be exchanged
 and_middle : (a b c d : Bool) → ((a && b) && (c && d)) ≡ ((a && c) && (b && d))
 and_middle true true c d = refl
 and_middle true false true d = refl
@@ -41,6 +41,7 @@ filter_both p q r (e ∷ es) both =
     ap (λ (b : Bool). cond b (e ∷ filter r es) (filter r es)) (both e)
     ∙ by_tests (p e) (q e) refl (filter_both p q r es both)
   where
+    -- the two filters agree on a list with one pair more, where the tests of that pair are known
     by_tests : (a b : Bool) → p e ≡ a → filter r es ≡ filter p (filter q es)
         → cond (a && b) (e ∷ filter r es) (filter r es) ≡ filter p (cond b (e ∷ filter q es) (filter q es))
     by_tests true true pa rest =
@@ -69,6 +70,7 @@ none_removed n (e ∷ es) =
     (unmarked e.0) (unmarked e.1)
     ∙ ap (λ (fs : List (ℕ × ℕ)). e ∷ fs) (none_removed n es)
   where
+    -- no vertex is removed
     unmarked : (x : ℕ) → get_or (replicate n false) x false ≡ false
     unmarked x =
         ⊎_elim
@@ -76,7 +78,7 @@ none_removed n (e ∷ es) =
         (λ ge. get_or_past (replicate n false) x false (omega (arith, length-replicate n false)))
         (cases_lt x n)
 
--- one vertex is removed
+-- where v alone is removed, the pairs that do not touch v are left
 pub one_removed : (n v : ℕ) (es : List (ℕ × ℕ)) → v < n
     → without_removed (set (replicate n false) v true) es ≡ without_vertex v es
 one_removed n v es lt =

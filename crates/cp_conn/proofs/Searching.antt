@@ -60,27 +60,32 @@ HasGoneOn-one es n least queue to label met lt new low is = record {
   );
 }
   where
+    -- the vertex that is met has the label
     at : (x : ℕ) → x ≡ to → get_or (set least to label) x 0 ≡ label
     at x e = ap (λ (k : ℕ). get_or (set least to label) k 0) e
         ∙ get_or-set_same least to label 0 (omega (arith, met.size))
 
+    -- the labels of other vertices stay
     other : (x : ℕ) → (x ≡ to → ⊥) → get_or (set least to label) x 0 ≡ get_or least x 0
     other x ne = get_or-set_other least to x label 0 ne
 
+    -- a vertex that was met stays met
     stays : (x : ℕ) → x < n → get_or least x 0 < n → get_or (set least to label) x 0 < n
     stays x ltx m = ⊎_elim (λ e. omega (arith, at x e)) (λ ne. omega (arith, other x ne)) (cases_eq x to)
 
+    -- a vertex of the queue stays one that was met
     old : (k : ℕ) → (get_or queue k 0 < n) × (get_or least (get_or queue k 0) 0 < n)
         → (get_or queue k 0 < n) × (get_or (set least to label) (get_or queue k 0) 0 < n)
     old k h = (h.0, stays (get_or queue k 0) h.0 h.1)
 
+    -- the vertices that are not met are those before without the new one
     fewer : (x : ℕ) → x < n → without (is_unmet n least) to x ≡ is_unmet n (set least to label) x
     fewer x ltx = ⊎_elim
         (λ e. without_at (is_unmet n least) to x e ∙ sym (unmet_false n (set least to label) x (omega (arith, at x e))))
         (λ ne. without_other (is_unmet n least) to x ne ∙ ap (λ (z : ℕ). not (ltb z n)) (sym (other x ne)))
         (cases_eq x to)
 
--- no step
+-- a search that stays as it is goes on
 pub HasGoneOn-same : (es : List (ℕ × ℕ)) (n : ℕ) (least queue : List ℕ) → AreMet es n least queue
     → HasGoneOn es n least queue least queue
 HasGoneOn-same es n least queue met = record {
@@ -91,7 +96,7 @@ HasGoneOn-same es n least queue met = record {
   same_places = refl;
 }
 
--- one step and then another
+-- a search that goes on twice goes on
 pub HasGoneOn-trans : (es : List (ℕ × ℕ)) (n : ℕ) (a p b q c r : List ℕ) → HasGoneOn es n a p b q
     → HasGoneOn es n b q c r → HasGoneOn es n a p c r
 HasGoneOn-trans es n a p b q c r one two = record {
@@ -107,14 +112,14 @@ pub AreNear-stays : (es : List (ℕ × ℕ)) (n : ℕ) (a b : List ℕ) (x : ℕ
     → ((y : ℕ) → y < n → get_or a y 0 < n → get_or b y 0 < n) → AreNear es n a x → AreNear es n b x
 AreNear-stays es n a b x w stays near e y c j = stays y (within_joined n es e x y w c j) (near e y c j)
 
--- what is done stays done
+-- where the search goes on, the vertices whose neighbours were all met stay so
 pub AreDone-stays : (es : List (ℕ × ℕ)) (n : ℕ) (a p b q : List ℕ) (done : ℕ) → AreWithin n es → HasGoneOn es n a p b q
     → done ≤ length p → AreDone es n a p done → AreDone es n b q done
 AreDone-stays es n a p b q done w goes le all k lt =
     subst (AreNear es n b) (sym (goes.front k (omega arith)))
     (AreNear-stays es n a b (get_or p k 0) w goes.stays (all k lt))
 
--- one more is done
+-- one vertex more of the queue is done where its neighbours were met
 pub AreDone-more : (es : List (ℕ × ℕ)) (n : ℕ) (a p : List ℕ) (done x : ℕ) → AreDone es n a p done → get_or p done 0 ≡ x
     → AreNear es n a x → AreDone es n a p (done + 1)
 AreDone-more es n a p done x all at near k lt =
@@ -128,7 +133,7 @@ pub record Meeting (es : List (ℕ × ℕ)) (n : ℕ) (least queue more longer :
   pub starts : (d : ℕ) → suc d ≡ entry → start es d ≡ vertex
   pub higher : (d : ℕ) → entry ≤ d → d < 2 * length es → start es d ≡ vertex → get_or more (finish es d) 0 < n
 
--- before the first dart
+-- before the first dart of a vertex, its entry is the highest of its darts
 pub Meeting-start : (es : List (ℕ × ℕ)) (n : ℕ) (least queue entries lower : List ℕ) (vertex : ℕ)
     → AreMet es n least queue → AreChained n es (2 * length es) entries lower → vertex < n
     → Meeting es n least queue least queue vertex (get_or entries vertex 0)
@@ -139,7 +144,7 @@ Meeting-start es n least queue entries lower vertex met ch lt = record {
   higher = λ d le l e. absurd ((ch.entry_of vertex lt).highest d le l e);
 }
 
--- after a dart
+-- after a dart whose end was met, the entry is the next lower dart
 pub Meeting-more : (es : List (ℕ × ℕ)) (n : ℕ) (least queue a p b q entries lower : List ℕ) (vertex entry d : ℕ)
     → AreWithin n es → Meeting es n least queue a p vertex entry → suc d ≡ entry
     → AreChained n es (2 * length es) entries lower → HasGoneOn es n a p b q → get_or b (finish es d) 0 < n
@@ -152,12 +157,15 @@ Meeting-more es n least queue a p b q entries lower vertex entry d w m is ch goe
       (cases_lt k (suc d));
 }
   where
+    -- the next lower dart that starts where d does
     link : IsEntry es (start es d) d (get_or lower d 0)
     link = ch.lower_of d (omega (arith, m.entry_within))
 
+    -- the ends of the darts of the vertex from the one after d on were met
     upper_ones : (k : ℕ) → suc d ≤ k → k < 2 * length es → start es k ≡ vertex → get_or b (finish es k) 0 < n
     upper_ones k above lt e = goes.stays (finish es k) (finish_within n es k w lt) (m.higher k (omega arith) lt e)
 
+    -- the ends of its darts up to d and above the next lower one were met
     lower_ones : (k : ℕ) → get_or lower d 0 ≤ k → k < suc d → start es k ≡ vertex → get_or b (finish es k) 0 < n
     lower_ones k le under e = ⊎_elim (λ f. subst (λ (j : ℕ). get_or b (finish es j) 0 < n) (sym f) met)
         (λ nf. absurd (link.highest k le (omega arith) (e ∙ sym (m.starts d is)))) (cases_eq k d)
@@ -183,6 +191,7 @@ unmet_label : (es : List (ℕ × ℕ)) (n : ℕ) (least queue : List ℕ) (x : �
 unmet_label es n least queue x w met done =
     labels-keeps (is_unmet n least) es (Respects-from (is_unmet n least) es both) x
   where
+    -- either both ends of an edge were met or neither was
     both : (e : ℕ × ℕ) → Contains es e → is_unmet n least e.0 ≡ is_unmet n least e.1
     both e c =
         let ends : (e.0 < n) × (e.1 < n) = within_pair n es e w c in
@@ -229,21 +238,27 @@ follow_step es n least queue dart from to old label longer w met lt begun from_i
     (HasGoneOn-one es n least queue to label met to_lt (omega (arith, read_old))
     (omega (arith, read_label, from_met)) label_of)
   where
+    -- the dart ends at a vertex
     to_lt : to < n
     to_lt = subst (λ (x : ℕ). x < n) (sym to_is) (finish_within n es dart w lt)
 
+    -- the dart starts at a vertex
     from_lt : from < n
     from_lt = subst (λ (x : ℕ). x < n) (sym from_is) (start_within n es dart w lt)
 
+    -- the vertex that the dart starts at was met
     from_met : get_or least from 0 < n
     from_met = subst (λ (x : ℕ). get_or least x 0 < n) (sym from_is) begun
 
+    -- what was read is the label of the end
     read_old : old ≡ get_or least to 0
     read_old = get_or_read least to old (omega (arith, met.size, to_lt)) old_is 0
 
+    -- what was read is the label of the start
     read_label : label ≡ get_or least from 0
     read_label = get_or_read least from label (omega (arith, met.size, from_lt)) label_is 0
 
+    -- the label is that of the component of the end
     label_of : label ≡ labels es to
     label_of = read_label ∙ met.right from from_lt from_met ∙ ap (labels es) from_is ∙ labels_dart es dart lt
         ∙ ap (labels es) (sym to_is)
@@ -257,6 +272,7 @@ visit_step es n least queue v old longer w met done lower lt old_is new longer_i
     subst (HasGoneOn es n least queue (set least v v)) (sym longer_is)
     (HasGoneOn-one es n least queue v v met lt unmet lt (root_label es n least queue v w met done lower unmet))
   where
+    -- the vertex was not met
     unmet : n ≤ get_or least v 0
     unmet = omega (arith, get_or_read least v old (omega (arith, met.size)) old_is 0)
 

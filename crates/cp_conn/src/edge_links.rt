@@ -3,6 +3,7 @@ ghost use Rattle.std.specs.Prelude.{◌≡◌, ℕ, ◌<◌, length, slice_index
 ghost use Rattle.cp_base.specs.Graphs.{AreWithin};
 ghost use Rattle.cp_conn.specs.Links.{AreBlockLinks};
 ghost use Rattle.cp_conn.specs.Blocks.{HaveNoLoop};
+ghost use Rattle.cp_conn.specs.SearchForest.{forest_of};
 ghost use Rattle.cp_conn.specs.TreeLinks.{deeper, AreEdgeLinks, AddsTreeLinks, LinksUp};
 
 use crate::low_points::low_points;
@@ -31,7 +32,7 @@ fn edge_links(
 ) -> Result<Vec<(usize, usize)>, Memory>
     requires ends_within { AreWithin (length forest.now.number.items) ends.now }
     requires edge_each { length forest.now.edge.items ≡ length forest.now.number.items }
-    ensures { IfOk result (λ links. AreEdgeLinks ends.now forest.now.number.items forest.now.edge.items (length ends.now) links.items) }
+    ensures { IfOk result (λ links. AreEdgeLinks ends.now (forest_of forest.now) (length ends.now) links.items) }
 {
     let mut links = Vec::new(alloc);
     for edge in 0..ends.len() {
@@ -55,7 +56,7 @@ fn link_up(
     requires edge_each { length forest.now.edge.items ≡ length low.now }
     requires vertex_within { vertex < length low.now }
     requires parent_within { slice_index forest.now.parent.items vertex < length low.now }
-    ensures { OnOk result (LinksUp forest.now.number.items forest.now.parent.items forest.now.edge.items low.now vertex links.old.items links.new.items) }
+    ensures { OnOk result (LinksUp (forest_of forest.now) low.now vertex links.old.items links.new.items) }
 {
     let parent = forest.parent[vertex];
     if low[vertex] < forest.number[parent] {
@@ -75,7 +76,7 @@ fn link_tree_edges(
     requires parent_each { length forest.now.parent.items ≡ length low.now }
     requires edge_each { length forest.now.edge.items ≡ length low.now }
     requires parents_within { (v : ℕ) → v < length low.now → slice_index forest.now.parent.items v < length low.now }
-    ensures { OnOk result (AddsTreeLinks forest.now.number.items forest.now.parent.items forest.now.edge.items low.now (length low.now) links.old.items links.new.items) }
+    ensures { OnOk result (AddsTreeLinks (forest_of forest.now) low.now (length low.now) links.old.items links.new.items) }
 {
     for vertex in 0..low.len() {
         link_up(forest, low, vertex, links)?;

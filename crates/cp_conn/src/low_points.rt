@@ -2,7 +2,7 @@
 ghost use Rattle.std.specs.Prelude.{◌≡◌, ℕ, ◌*◌, ◌<◌, min, length, slice_index, slice_set, IfOk, OnOk};
 ghost use Rattle.cp_base.specs.Graphs.{AreWithin};
 ghost use Rattle.cp_conn.specs.Deepening.{IsGrown};
-ghost use Rattle.cp_conn.specs.SearchForest.{IsSearchForest};
+ghost use Rattle.cp_conn.specs.SearchForest.{forest_of, IsSearchForest};
 ghost use Rattle.cp_conn.specs.LowPoints.{AreLowPoints, AreReached, AreLow};
 
 use crate::darts::{finish_of, start_of};
@@ -26,10 +26,10 @@ fn lowest_near(
     forest: &SearchForest,
 ) -> Result<Vec<usize>, Memory>
     requires ends_within { AreWithin vertices ends.now }
-    requires grown { IsGrown ends.now vertices forest.now.number.items forest.now.parent.items forest.now.edge.items forest.now.order.items }
+    requires grown { IsGrown ends.now vertices (forest_of forest.now) }
     requires all_met { (v : ℕ) → v < vertices → slice_index forest.now.number.items v < vertices }
-    ensures reached { IfOk result (λ low. AreReached ends.now vertices forest.now.number.items forest.now.parent.items low.items) }
-    ensures low { IfOk result (λ low. AreLow ends.now forest.now.number.items low.items (2 * length ends.now)) }
+    ensures reached { IfOk result (λ low. AreReached ends.now vertices (forest_of forest.now) low.items) }
+    ensures low { IfOk result (λ low. AreLow ends.now (forest_of forest.now) low.items (2 * length ends.now)) }
 {
     let mut low = vec![in alloc; vertices; vertices]?;
     for dart in 0..2 * ends.len() {
@@ -49,10 +49,10 @@ pub(crate) fn low_points(
     forest: &SearchForest,
 ) -> Result<Vec<usize>, Memory>
     requires ends_within { AreWithin vertices ends.now }
-    requires grown { IsGrown ends.now vertices forest.now.number.items forest.now.parent.items forest.now.edge.items forest.now.order.items }
+    requires grown { IsGrown ends.now vertices (forest_of forest.now) }
     requires all_met { (v : ℕ) → v < vertices → slice_index forest.now.number.items v < vertices }
-    requires forest { IsSearchForest ends.now vertices forest.now.number.items forest.now.parent.items forest.now.edge.items }
-    ensures { IfOk result (λ low. AreLowPoints ends.now vertices forest.now.number.items forest.now.parent.items low.items) }
+    requires forest { IsSearchForest ends.now vertices (forest_of forest.now) }
+    ensures { IfOk result (λ low. AreLowPoints ends.now vertices (forest_of forest.now) low.items) }
 {
     let mut low = lowest_near(alloc, vertices, ends, forest)?;
     let mut left = forest.order.len();

@@ -4,7 +4,7 @@ ghost use Rattle.cp_base.specs.Graphs.{AreWithin};
 ghost use Rattle.cp_orbits.specs.Connected.{Joins, Connected};
 ghost use Rattle.cp_conn.specs.CutVertex.{AreBiconnected, IsNeighbour};
 ghost use Rattle.cp_conn.specs.Deepening.{IsGrown};
-ghost use Rattle.cp_conn.specs.SearchForest.{IsSearchForest};
+ghost use Rattle.cp_conn.specs.SearchForest.{forest_of, IsSearchForest};
 ghost use Rattle.cp_conn.specs.SearchTree.{IsSearchTree};
 
 use crate::darts::dart_table;
@@ -58,9 +58,9 @@ fn forest_from(
     requires ends_within { AreWithin vertices ends.now }
     requires joined { IsNeighbour ends.now s t }
     requires connected { (v : ℕ) → v < vertices → Connected ends.now s v }
-    ensures grown { IfOk result (λ f. IsGrown ends.now vertices f.number.items f.parent.items f.edge.items f.order.items) }
+    ensures grown { IfOk result (λ f. IsGrown ends.now vertices (forest_of f)) }
     ensures all_met { IfOk result (λ f. (v : ℕ) → v < vertices → slice_index f.number.items v < vertices) }
-    ensures forest { IfOk result (λ f. IsSearchForest ends.now vertices f.number.items f.parent.items f.edge.items) }
+    ensures forest { IfOk result (λ f. IsSearchForest ends.now vertices (forest_of f)) }
     ensures first { IfOk result (λ f. slice_index f.order.items 0 ≡ s) }
     ensures second { IfOk result (λ f. slice_index f.order.items 1 ≡ t) }
 {

@@ -1,9 +1,8 @@
 // A search through a graph, depth first.
-ghost use Rattle.std.specs.Prelude.{◌≡◌, ◌++◌, ◌∷◌, [], ℕ, ◌+◌, ◌*◌, ◌<◌, ◌≤◌, ◌⊎◌, length, slice_index, slice_set, replicate, IfOk, OnOk};
+ghost use Rattle.std.specs.Prelude.{◌≡◌, ℕ, ◌+◌, ◌<◌, ◌≤◌, length, slice_index, IfOk, OnOk};
 ghost use Rattle.std.specs.List.{sum_by};
 ghost use Rattle.cp_base.specs.Graphs.{AreWithin};
-ghost use Rattle.cp_conn.specs.Darts.{AreChained};
-ghost use Rattle.cp_conn.specs.SearchForest.{IsSearchForest};
+ghost use Rattle.cp_conn.specs.SearchForest.{forest_of, no_forest, with_vertex, IsVertex, IsSearchForest};
 ghost use Rattle.cp_conn.specs.Deepening.{LeadDown, IsGrown, StandsAt, Rests, StayMet, IsFurther, IsNearer};
 
 use crate::darts::{dart_table, finish_of};
@@ -26,10 +25,7 @@ pub(crate) struct SearchForest {
 
 // A forest of no vertex.
 pub(crate) fn empty_forest(alloc: Global, vertices: usize) -> Result<SearchForest, Memory>
-    ensures number { IfOk result (λ f. f.number.items ≡ replicate vertices vertices) }
-    ensures parent { IfOk result (λ f. f.parent.items ≡ replicate vertices 0) }
-    ensures edge { IfOk result (λ f. f.edge.items ≡ replicate vertices 0) }
-    ensures order { IfOk result (λ f. f.order.items ≡ []) }
+    ensures { IfOk result (λ f. forest_of f ≡ no_forest vertices) }
 {
     Ok(SearchForest {
         number: vec![in alloc; vertices; vertices]?,
@@ -46,13 +42,8 @@ pub(crate) fn meet(
     parent: usize,
     edge: usize,
 ) -> Result<(), Memory>
-    requires number_within { vertex < length forest.old.number.items }
-    requires parent_within { vertex < length forest.old.parent.items }
-    requires edge_within { vertex < length forest.old.edge.items }
-    ensures number { OnOk result (forest.new.number.items ≡ slice_set forest.old.number.items vertex (length forest.old.order.items)) }
-    ensures parent { OnOk result (forest.new.parent.items ≡ slice_set forest.old.parent.items vertex parent) }
-    ensures edge { OnOk result (forest.new.edge.items ≡ slice_set forest.old.edge.items vertex edge) }
-    ensures order { OnOk result (forest.new.order.items ≡ forest.old.order.items ++ vertex ∷ []) }
+    requires { IsVertex (forest_of forest.old) vertex }
+    ensures { OnOk result (forest_of forest.new ≡ with_vertex (forest_of forest.old) vertex parent edge) }
 {
     forest.number[vertex] = forest.order.len();
     forest.parent[vertex] = parent;
@@ -71,11 +62,11 @@ fn follow_next(
 ) -> Result<usize, Memory>
     requires ends_within { AreWithin (length next.old.items) ends.now }
     requires lead { LeadDown ends.now lower.now }
-    requires stands { StandsAt ends.now (length next.old.items) forest.old.number.items forest.old.parent.items forest.old.edge.items forest.old.order.items next.old.items vertex }
+    requires stands { StandsAt ends.now (length next.old.items) (forest_of forest.old) next.old.items vertex }
     requires some_left { 0 < slice_index next.old.items vertex }
-    ensures stands { IfOk result (λ now. StandsAt ends.now (length next.old.items) forest.new.number.items forest.new.parent.items forest.new.edge.items forest.new.order.items next.new.items now) }
-    ensures kept { OnOk result (StayMet (length next.old.items) forest.old.number.items forest.new.number.items) }
-    ensures further { OnOk result (IsFurther forest.old.order.items forest.new.order.items) }
+    ensures stands { IfOk result (λ now. StandsAt ends.now (length next.old.items) (forest_of forest.new) next.new.items now) }
+    ensures kept { OnOk result (StayMet (length next.old.items) (forest_of forest.old) (forest_of forest.new)) }
+    ensures further { OnOk result (IsFurther (forest_of forest.old) (forest_of forest.new)) }
     ensures fewer { OnOk result (sum_by (λ k. k) next.new.items < sum_by (λ k. k) next.old.items) }
 {
     let dart = next[vertex] - 1;
@@ -99,11 +90,11 @@ fn go_on(
 ) -> Result<usize, Memory>
     requires ends_within { AreWithin (length next.old.items) ends.now }
     requires lead { LeadDown ends.now lower.now }
-    requires stands { StandsAt ends.now (length next.old.items) forest.old.number.items forest.old.parent.items forest.old.edge.items forest.old.order.items next.old.items vertex }
+    requires stands { StandsAt ends.now (length next.old.items) (forest_of forest.old) next.old.items vertex }
     requires more { slice_index forest.old.parent.items vertex ≡ vertex → 0 < slice_index next.old.items vertex }
-    ensures stands { IfOk result (λ now. StandsAt ends.now (length next.old.items) forest.new.number.items forest.new.parent.items forest.new.edge.items forest.new.order.items next.new.items now) }
-    ensures kept { OnOk result (StayMet (length next.old.items) forest.old.number.items forest.new.number.items) }
-    ensures further { OnOk result (IsFurther forest.old.order.items forest.new.order.items) }
+    ensures stands { IfOk result (λ now. StandsAt ends.now (length next.old.items) (forest_of forest.new) next.new.items now) }
+    ensures kept { OnOk result (StayMet (length next.old.items) (forest_of forest.old) (forest_of forest.new)) }
+    ensures further { OnOk result (IsFurther (forest_of forest.old) (forest_of forest.new)) }
     ensures nearer { IfOk result (λ now. IsNearer next.old.items (slice_index forest.old.number.items vertex) next.new.items (slice_index forest.new.number.items now)) }
 {
     if next[vertex] > 0 {
@@ -123,10 +114,10 @@ pub(crate) fn search_on(
 ) -> Result<(), Memory>
     requires ends_within { AreWithin (length next.old.items) ends.now }
     requires lead { LeadDown ends.now lower.now }
-    requires stands { StandsAt ends.now (length next.old.items) forest.old.number.items forest.old.parent.items forest.old.edge.items forest.old.order.items next.old.items vertex }
-    ensures rests { OnOk result (Rests ends.now (length next.old.items) forest.new.number.items forest.new.parent.items forest.new.edge.items forest.new.order.items next.new.items) }
-    ensures kept { OnOk result (StayMet (length next.old.items) forest.old.number.items forest.new.number.items) }
-    ensures further { OnOk result (IsFurther forest.old.order.items forest.new.order.items) }
+    requires stands { StandsAt ends.now (length next.old.items) (forest_of forest.old) next.old.items vertex }
+    ensures rests { OnOk result (Rests ends.now (length next.old.items) (forest_of forest.new) next.new.items) }
+    ensures kept { OnOk result (StayMet (length next.old.items) (forest_of forest.old) (forest_of forest.new)) }
+    ensures further { OnOk result (IsFurther (forest_of forest.old) (forest_of forest.new)) }
 {
     while next[vertex] > 0 || forest.parent[vertex] != vertex {
         vertex = go_on(ends, lower, vertex, next, forest)?;
@@ -144,11 +135,11 @@ fn search_from(
 ) -> Result<(), Memory>
     requires ends_within { AreWithin (length next.old.items) ends.now }
     requires lead { LeadDown ends.now lower.now }
-    requires rests { Rests ends.now (length next.old.items) forest.old.number.items forest.old.parent.items forest.old.edge.items forest.old.order.items next.old.items }
+    requires rests { Rests ends.now (length next.old.items) (forest_of forest.old) next.old.items }
     requires root_within { root < length next.old.items }
     requires new { length next.old.items ≤ slice_index forest.old.number.items root }
-    ensures rests { OnOk result (Rests ends.now (length next.old.items) forest.new.number.items forest.new.parent.items forest.new.edge.items forest.new.order.items next.new.items) }
-    ensures kept { OnOk result (StayMet (length next.old.items) forest.old.number.items forest.new.number.items) }
+    ensures rests { OnOk result (Rests ends.now (length next.old.items) (forest_of forest.new) next.new.items) }
+    ensures kept { OnOk result (StayMet (length next.old.items) (forest_of forest.old) (forest_of forest.new)) }
     ensures met { OnOk result (slice_index forest.new.number.items root < length next.old.items) }
 {
     meet(forest, root, root, 0)?;
@@ -165,10 +156,10 @@ fn visit(
 ) -> Result<(), Memory>
     requires ends_within { AreWithin (length next.old.items) ends.now }
     requires lead { LeadDown ends.now lower.now }
-    requires rests { Rests ends.now (length next.old.items) forest.old.number.items forest.old.parent.items forest.old.edge.items forest.old.order.items next.old.items }
+    requires rests { Rests ends.now (length next.old.items) (forest_of forest.old) next.old.items }
     requires vertex_within { vertex < length next.old.items }
     requires lower_met { (x : ℕ) → x < vertex → slice_index forest.old.number.items x < length next.old.items }
-    ensures rests { OnOk result (Rests ends.now (length next.old.items) forest.new.number.items forest.new.parent.items forest.new.edge.items forest.new.order.items next.new.items) }
+    ensures rests { OnOk result (Rests ends.now (length next.old.items) (forest_of forest.new) next.new.items) }
     ensures more_met { OnOk result ((x : ℕ) → x < vertex + 1 → slice_index forest.new.number.items x < length next.old.items) }
 {
     if forest.number[vertex] >= next.len() {
@@ -185,9 +176,9 @@ pub(crate) fn search_forest(
     ends: &[(usize, usize)],
 ) -> Result<SearchForest, Memory>
     requires { AreWithin vertices ends.now }
-    ensures grown { IfOk result (λ f. IsGrown ends.now vertices f.number.items f.parent.items f.edge.items f.order.items) }
+    ensures grown { IfOk result (λ f. IsGrown ends.now vertices (forest_of f)) }
     ensures all_met { IfOk result (λ f. (v : ℕ) → v < vertices → slice_index f.number.items v < vertices) }
-    ensures forest { IfOk result (λ f. IsSearchForest ends.now vertices f.number.items f.parent.items f.edge.items) }
+    ensures forest { IfOk result (λ f. IsSearchForest ends.now vertices (forest_of f)) }
 {
     let darts = dart_table(alloc, vertices, ends)?;
     let mut next = darts.entries;

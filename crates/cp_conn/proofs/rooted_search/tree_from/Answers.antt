@@ -1,3 +1,4 @@
+use Rattle.cp_conn.specs.SearchForest.{forest_of}
 use Rattle.cp_conn.proofs.SearchTrees.{connected_all, tree_of, along_read}
 use Rattle.cp_conn.proofs.rooted_search.tree_from.Goals as goal
 
@@ -8,8 +9,8 @@ forest_from-requires-clause-connected c v lt =
 
 pub returns-clause-tree : goal.returns-clause-tree
 returns-clause-tree c =
-    tree_of c.args.ends.now c.args.vertices c.in_ok-forest.forest.number.items c.in_ok-forest.forest.parent.items
-    c.in_ok-forest.forest.edge.items c.in_ok-forest.forest.order.items c.in_ok-points.points.items c.args.s c.args.t
+    tree_of c.args.ends.now c.args.vertices
+    (forest_of c.in_ok-forest.forest) c.in_ok-points.points.items c.args.s c.args.t
     c.in_ok-parents.parents.items c.in_ok-up.up.items c.in_ok-low.low.items
     (record {
       within = c.requires.ends_within;
@@ -17,7 +18,7 @@ returns-clause-tree c =
       joined = c.requires.joined;
       grown = c.in_ok-forest.ensures.grown;
       met = c.in_ok-forest.ensures.all_met;
-      forest = c.in_ok-forest.ensures.forest;
+      searched = c.in_ok-forest.ensures.forest;
       points = c.in_ok-points.ensures;
       first = c.in_ok-forest.ensures.first;
       second = c.in_ok-forest.ensures.second;
