@@ -1,10 +1,12 @@
 -- Blocks are classes: an edge that is in one block with an edge on a cycle can be put on a cycle with it.
-use Rattle.std.proofs.Common.{◌≡◌, ℕ, zero, suc, ◌+◌, ◌-◌, ◌*◌, ◌/◌, ◌%◌, ◌<◌, ◌≤◌, ◌⊎◌, List, [], ◌∷◌, ◌++◌, length, get_or, take, drop, cond, eqb, sym, refl, ap, ◌∙◌, subst, inl, inr, ⊎_elim, arith, length-append}
-use Rattle.std.proofs.lemmas.Bool.{cases_eq, cases_lt, eq-eqb, ne_eqb}
+use Rattle.std.proofs.Common.{◌≡◌, ℕ, zero, suc, ◌+◌, ◌-◌, ◌*◌, ◌/◌, ◌%◌, ◌<◌, ◌≤◌, ◌⊎◌, List, [], ◌∷◌, ◌++◌, length, get_or, take, drop, sym, refl, ap, ◌∙◌, subst, inl, inr, ⊎_elim, arith, length-append}
+use Rattle.std.proofs.lemmas.Bool.{cases_eq, cases_lt}
 use Rattle.std.proofs.lemmas.List.{get_or_push, length_push, get_or_append_left, get_or-append_right, get_or-drop, get_or-take, length-drop, take-append-drop, length-take-le}
 use Rattle.cp_orbits.specs.Connected.{Joins, Connected, here, step}
+use Rattle.cp_orbits.specs.Twins.{twin}
 use Rattle.cp_orbits.specs.Classes.{labels}
 use Rattle.cp_orbits.proofs.ClassLabels.{connected_labels}
+use Rattle.cp_orbits.proofs.Twins.{twin_even, twin_odd, half_twin}
 use Rattle.cp_conn.specs.Darts.{start, finish}
 use Rattle.cp_conn.specs.CutVertex.{avoids, without_vertex}
 use Rattle.cp_conn.specs.Blocks.{IsSimpleCycle, HasEdge, AreInOneBlock}
@@ -108,22 +110,6 @@ pub Leads-parts : (es : List (ℕ × ℕ)) (x z : ℕ) (ps qs : List ℕ) → Le
 Leads-parts es x z [] qs l = (x, refl, l)
 Leads-parts es x z (p ∷ ps) qs l = let h = Leads-parts es (finish es p) z ps qs l.2 in (h.0, (l.0, l.1, h.1), h.2)
 
--- the reverse of a dart
-abbrev pub twin : ℕ → ℕ
-twin d = cond (eqb (d % 2) 0) (d + 1) (d - 1)
-
--- the reverse of an even dart is the next
-twin_even : (d : ℕ) → d % 2 ≡ 0 → twin d ≡ d + 1
-twin_even d e = rw (eq-eqb (d % 2) 0 e) refl
-
--- the reverse of an odd dart is the one before
-twin_odd : (d : ℕ) → (d % 2 ≡ 0 → ⊥) → twin d ≡ d - 1
-twin_odd d ne = rw (ne_eqb (d % 2) 0 ne) refl
-
--- the reverse of a dart is of the same edge
-pub twin-edge : (d : ℕ) → twin d / 2 ≡ d / 2
-twin-edge d = ⊎_elim (λ e. omega (arith, twin_even d e)) (λ ne. omega (arith, twin_odd d ne)) (cases_eq (d % 2) 0)
-
 -- the reverse of a dart is a dart
 pub twin-lt : (n d : ℕ) → d < 2 * n → twin d < 2 * n
 twin-lt n d lt = ⊎_elim (λ e. omega (arith, twin_even d e)) (λ ne. omega (arith, twin_odd d ne)) (cases_eq (d % 2) 0)
@@ -133,8 +119,8 @@ pub start_twin : (es : List (ℕ × ℕ)) (d : ℕ) → start es (twin d) ≡ fi
 start_twin es d =
     ⊎_elim
     (λ e. start_odd es (twin d) (λ f. omega (arith, twin_even d e))
-    ∙ ap (λ (k : ℕ). (get_or es k (0, 0)).1) (twin-edge d) ∙ sym (finish_even es d e))
-    (λ ne. start_even es (twin d) (omega (arith, twin_odd d ne)) ∙ ap (λ (k : ℕ). (get_or es k (0, 0)).0) (twin-edge d)
+    ∙ ap (λ (k : ℕ). (get_or es k (0, 0)).1) (half_twin d) ∙ sym (finish_even es d e))
+    (λ ne. start_even es (twin d) (omega (arith, twin_odd d ne)) ∙ ap (λ (k : ℕ). (get_or es k (0, 0)).0) (half_twin d)
     ∙ sym (finish_odd es d ne))
     (cases_eq (d % 2) 0)
 
@@ -143,8 +129,8 @@ pub finish_twin : (es : List (ℕ × ℕ)) (d : ℕ) → finish es (twin d) ≡ 
 finish_twin es d =
     ⊎_elim
     (λ e. finish_odd es (twin d) (λ f. omega (arith, twin_even d e))
-    ∙ ap (λ (k : ℕ). (get_or es k (0, 0)).0) (twin-edge d) ∙ sym (start_even es d e))
-    (λ ne. finish_even es (twin d) (omega (arith, twin_odd d ne)) ∙ ap (λ (k : ℕ). (get_or es k (0, 0)).1) (twin-edge d)
+    ∙ ap (λ (k : ℕ). (get_or es k (0, 0)).0) (half_twin d) ∙ sym (start_even es d e))
+    (λ ne. finish_even es (twin d) (omega (arith, twin_odd d ne)) ∙ ap (λ (k : ℕ). (get_or es k (0, 0)).1) (half_twin d)
     ∙ sym (start_odd es d ne))
     (cases_eq (d % 2) 0)
 
@@ -202,7 +188,7 @@ HasEdge-back e (d ∷ ds) h = last h.0 h.1 h.2 (λ g. HasEdge-back e ds g)
       length (back ds),
       omega (arith, length_push (back ds) (twin d)),
       ap (λ (k : ℕ). k / 2)
-          (get_or_push (back ds) (twin d) 0 (length (back ds)) refl) ∙ twin-edge d ∙ f,
+          (get_or_push (back ds) (twin d) 0 (length (back ds)) refl) ∙ half_twin d ∙ f,
     )
     last (suc i) lt f rest = HasEdge-left e (back ds) (twin d ∷ []) (rest (i, omega arith, f))
 
@@ -560,7 +546,7 @@ ear_ring es v e g y d ring r he no_g lt edge from to h =
                 ∙ ap (λ (j : ℕ). get_or (back way) j 0)
                 (omega (arith, some, length-append ps (back way), length_push (back h.darts) (twin d)))
                 ∙ get_or_push (back h.darts) (twin d) 0 0
-                (omega (arith, some, length-append ps (back way), length_push (back h.darts) (twin d)))) ∙ twin-edge d
+                (omega (arith, some, length-append ps (back way), length_push (back h.darts) (twin d)))) ∙ half_twin d
                 ∙ edge,
           ))),
       HasEdge-left e ps (back way) k,

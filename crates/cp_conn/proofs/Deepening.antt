@@ -8,6 +8,7 @@ use Rattle.std.proofs.lemmas.List.Sums.{sum_by-set}
 use Rattle.cp_base.specs.Graphs.{AreWithin}
 use Rattle.cp_lists.specs.Count.{without}
 use Rattle.cp_orbits.specs.Connected.{Joins}
+use Rattle.cp_orbits.specs.Twins.{twin}
 use Rattle.cp_lists.proofs.Counting.{count_all, count_agree, count_without, without_at, without_other}
 use Rattle.cp_conn.specs.Darts.{start, finish, IsEntry, AreChained}
 use Rattle.cp_conn.specs.Search.{is_unmet}
@@ -15,7 +16,7 @@ use Rattle.cp_conn.specs.SearchForest.{Forest, forest_with, no_forest, with_vert
 use Rattle.cp_conn.specs.Deepening.{LeadDown, IsGrown, AreFollowed, StandsAt, Rests, StayMet, IsFurther}
 use Rattle.cp_conn.proofs.DartChains.{dart_joins, Joins-sym, start_within, finish_within}
 use Rattle.cp_conn.proofs.Searching.{unmet_true, unmet_false}
-use Rattle.cp_conn.proofs.BlockSteps.{twin, twin-lt, start_twin, finish_twin}
+use Rattle.cp_conn.proofs.BlockSteps.{twin-lt, start_twin, finish_twin}
 use Rattle.cp_conn.proofs.Forests.{above_up, above_root}
 
 -- v is a new root, or hangs by edge e below a vertex x that was met
