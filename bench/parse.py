@@ -9,6 +9,7 @@ Usage: bench/parse.py [PROGRAM] [LARGEST_NUMBER_OF_MEBIBYTES]
 PROGRAM is the built `cplan`; without it the script builds it.
 """
 import os
+import subprocess
 import sys
 import tempfile
 import time
@@ -61,58 +62,25 @@ def clusters(size):
     yield "]" * depth + "]\n"
 
 
-MASK = 2**64 - 1
-
-# How many ids are chosen, and the most that the run of nodes with chosen ids may take, in runs with other ids.
-CHOSEN = 10000
+# How many ids are chosen (2.5 MB of nodes), and the most that the run of nodes with chosen ids may take, in runs with
+# other ids.
+CHOSEN = 120000
 MOST_TIMES = 3
 
 
-def turned(x, bits):
-    return ((x << bits) | (x >> (64 - bits))) & MASK
-
-
-def sip_round(v0, v1, v2, v3):
-    v0 = (v0 + v1) & MASK
-    v1 = turned(v1, 13) ^ v0
-    v0 = turned(v0, 32)
-    v2 = (v2 + v3) & MASK
-    v3 = turned(v3, 16) ^ v2
-    v0 = (v0 + v3) & MASK
-    v3 = turned(v3, 21) ^ v0
-    v2 = (v2 + v1) & MASK
-    v1 = turned(v1, 17) ^ v2
-    return v0, v1, turned(v2, 32), v3
-
-
-def sip(number):
-    """SipHash-1-3 with both keys 0 of a number in four bytes."""
-    block = 4 << 56 | number
-    v0, v1, v2, v3 = 0x736F6D6570736575, 0x646F72616E646F6D, 0x6C7967656E657261, 0x7465646279746573
-    v0, v1, v2, v3 = sip_round(v0, v1, v2, v3 ^ block)
-    v0 ^= block
-    v2 ^= 0xFF
-    for _ in range(3):
-        v0, v1, v2, v3 = sip_round(v0, v1, v2, v3)
-    return v0 ^ v1 ^ v2 ^ v3
-
-
 def chosen_ids():
-    """Ids that a table hashed with both keys 0 puts into one place: the halves of their hashes, added without
-    carry, have their low 14 bits in a short range."""
-    ids = []
-    number = 0
-    while len(ids) < CHOSEN:
-        number += 1
-        value = sip(number)
-        if (value ^ value >> 32) & 0x3FFF < 128:
-            ids.append(number)
-    return ids
+    """Ids that a table hashed with both keys 0 puts into one place. A program in C seeks them, in a few seconds."""
+    source = os.path.join(os.path.dirname(os.path.abspath(__file__)), "chosen_ids.c")
+    with tempfile.TemporaryDirectory() as folder:
+        program = os.path.join(folder, "chosen_ids")
+        subprocess.run(["cc", "-O2", "-o", program, source], check=True)
+        found = subprocess.run([program, str(CHOSEN)], capture_output=True, check=True)
+    return [int(number) for number in found.stdout.split()]
 
 
 def other_ids():
-    """As many ids of as many digits, at even distances."""
-    return range(1000003, 1000003 + 211 * CHOSEN, 211)
+    """As many ids of nearly as many digits, at even distances."""
+    return range(1000003, 1000003 + 2039 * CHOSEN, 2039)
 
 
 def measured_ids(program, path):

@@ -1,2 +1,3 @@
 pub mod Permutations
 mod TurnLemmas
+pub mod Bits

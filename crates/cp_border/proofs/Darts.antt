@@ -6,8 +6,8 @@ use Rattle.std.proofs.lemmas.List.{get_or_append_left, get_or-append-add, get_or
 use Rattle.cp_cgraph.specs.Clustered.{Clustered, edges, clusters, source, target}
 use Rattle.cp_cgraph.specs.declared.layout.Layout.{Layout}
 use Rattle.cp_rot.specs.Systems.{place_after}
-use Rattle.cp_border.specs.Borders.{borders, before, cluster_list, crossed, first_border, border_vertex, first_segment, segments, first_border_edge, segment_ends, border_ends}
-use Rattle.cp_border.proofs.Numbering.{Place, located, before_within, pieces_length, piece_at, pairs, length-pairs, pairs_first, pairs_second}
+use Rattle.cp_border.specs.Borders.{borders, sum_below, cluster_list, crossed, first_border, border_vertex, first_segment, segments, first_border_edge, segment_ends, border_ends}
+use Rattle.cp_border.proofs.Numbering.{Place, located, sum_below-within, pieces_length, piece_at, pairs, length-pairs, pairs_first, pairs_second}
 
 -- the dart of segment i of edge e that stands at its end, which is the border vertex of crossing i
 abbrev pub toward_source : Clustered → ℕ → ℕ → ℕ
@@ -63,22 +63,22 @@ length-border_ends g l c = length-pairs (λ i. border_vertex g (slice_index (clu
     (length (cluster_list l c))
 
 -- the sum of doubled values is the doubled sum
-before_doubled : (q : ℕ → ℕ) (n : ℕ) → before (λ e. 2 * q e) n ≡ 2 * before q n
-before_doubled q zero = refl
-before_doubled q (suc n) = omega (arith, before_doubled q n)
+sum_below-doubled : (q : ℕ → ℕ) (n : ℕ) → sum_below (λ e. 2 * q e) n ≡ 2 * sum_below q n
+sum_below-doubled q zero = refl
+sum_below-doubled q (suc n) = omega (arith, sum_below-doubled q n)
 
 -- the sum of twice one more than each value
-before_pairs : (q : ℕ → ℕ) (n : ℕ) → before (λ e. 2 * (q e + 1)) n ≡ 2 * (n + before q n)
-before_pairs q zero = refl
-before_pairs q (suc n) = omega (arith, before_pairs q n)
+sum_below-pairs : (q : ℕ → ℕ) (n : ℕ) → sum_below (λ e. 2 * (q e + 1)) n ≡ 2 * (n + sum_below q n)
+sum_below-pairs q zero = refl
+sum_below-pairs q (suc n) = omega (arith, sum_below-pairs q n)
 
 -- how many darts the segments of the edges before one have
-pub segment_sizes : (g : Clustered) (e : ℕ) → before (segment_size g) e ≡ 2 * first_segment g e
-segment_sizes g e = before_pairs (crossed g) e
+pub segment_sizes : (g : Clustered) (e : ℕ) → sum_below (segment_size g) e ≡ 2 * first_segment g e
+segment_sizes g e = sum_below-pairs (crossed g) e
 
 -- how many darts the borders before one have
-pub border_sizes : (l : Layout) (k : ℕ) → before (border_size l) k ≡ 2 * before (border_length l) k
-border_sizes l k = before_doubled (border_length l) k
+pub border_sizes : (l : Layout) (k : ℕ) → sum_below (border_size l) k ≡ 2 * sum_below (border_length l) k
+border_sizes l k = sum_below-doubled (border_length l) k
 
 -- each edge adds the darts of its segments
 segment_piece : (g : Clustered) (k : ℕ) → length (segment_ends g (0 + k)) ≡ segment_size g k
@@ -97,34 +97,34 @@ length-segment_at g = pieces_length (segment_ends g) (segment_size g) 0 (edges g
 
 -- how many darts all borders have
 pub length-border_at : (g : Clustered) (l : Layout) →
-    length (border_at g l) ≡ 2 * before (border_length l) (length g.parents)
+    length (border_at g l) ≡ 2 * sum_below (border_length l) (length g.parents)
 length-border_at g l = pieces_length (border_ends g l) (border_size l) 1 (length g.parents) (λ k lt. border_piece g l k)
     ∙ border_sizes l (length g.parents)
 
 -- the darts are two for each segment and each border edge
 pub length-borders_at : (g : Clustered) (l : Layout) →
-    length (borders g l).at ≡ 2 * (segments g + before (border_length l) (length g.parents))
+    length (borders g l).at ≡ 2 * (segments g + sum_below (border_length l) (length g.parents))
 length-borders_at g l =
     length-append (segment_at g) (border_at g l) ∙ ap₂ (λ (a b : ℕ). a + b) (length-segment_at g) (length-border_at g l)
-    ∙ (let h : 2 * segments g + 2 * before (border_length l) (length g.parents) ≡ 2
-    * (segments g + before (border_length l) (length g.parents)) = omega arith in h)
+    ∙ (let h : 2 * segments g + 2 * sum_below (border_length l) (length g.parents) ≡ 2
+    * (segments g + sum_below (border_length l) (length g.parents)) = omega arith in h)
 
 -- segments are numbered below all border edges
 pub first_segment-le : (g : Clustered) (e i : ℕ) → e < edges g → i ≤ crossed g e → first_segment g e + i < segments g
 first_segment-le g e i lt within =
-    let h : before (segment_size g) e + 2 * i < before (segment_size g) (edges g) =
-    before_within (segment_size g) e (2 * i) (edges g) lt (omega arith) in
+    let h : sum_below (segment_size g) e + 2 * i < sum_below (segment_size g) (edges g) =
+    sum_below-within (segment_size g) e (2 * i) (edges g) lt (omega arith) in
     omega (arith, segment_sizes g e, segment_sizes g (edges g))
 
 -- dart j of the segments of edge e
 segment_stands : (g : Clustered) (l : Layout) (e j : ℕ) → e < edges g → j < segment_size g e →
     slice_index (borders g l).at (2 * first_segment g e + j) ≡ slice_index (segment_ends g e) j
 segment_stands g l e j lt within =
-    let below : before (segment_size g) e + j < before (segment_size g) (edges g) =
-    before_within (segment_size g) e j (edges g) lt within in
-    ap (slice_index (borders g l).at) (let h : 2 * first_segment g e + j ≡ before (segment_size g) e + j = omega
+    let below : sum_below (segment_size g) e + j < sum_below (segment_size g) (edges g) =
+    sum_below-within (segment_size g) e j (edges g) lt within in
+    ap (slice_index (borders g l).at) (let h : 2 * first_segment g e + j ≡ sum_below (segment_size g) e + j = omega
     (arith, segment_sizes g e) in h)
-    ∙ get_or_append_left (segment_at g) (border_at g l) 0 (before (segment_size g) e + j)
+    ∙ get_or_append_left (segment_at g) (border_at g l) 0 (sum_below (segment_size g) e + j)
     (omega (arith, length-segment_at g, segment_sizes g (edges g)))
     ∙ piece_at (segment_ends g) (segment_size g) 0 (edges g) e j 0 (λ k lt. segment_piece g k) lt within
     ∙ ap (λ (m : ℕ). slice_index (segment_ends g m) j) (let h : 0 + e ≡ e = omega arith in h)
@@ -136,8 +136,8 @@ border_stands g l c j above lt within =
     let same : border_size l (c - 1) ≡ 2 * length (cluster_list l c) =
     ap (λ (m : ℕ). 2 * length (cluster_list l m)) (let h : c - 1 + 1 ≡ c = omega arith in h) in
     ap (slice_index (borders g l).at) (let h : 2 * first_border_edge g l c + j ≡ length (segment_at g)
-    + (before (border_size l) (c - 1) + j) = omega (arith, length-segment_at g, border_sizes l (c - 1)) in h)
-    ∙ get_or-append-add (segment_at g) (border_at g l) (before (border_size l) (c - 1) + j) 0
+    + (sum_below (border_size l) (c - 1) + j) = omega (arith, length-segment_at g, border_sizes l (c - 1)) in h)
+    ∙ get_or-append-add (segment_at g) (border_at g l) (sum_below (border_size l) (c - 1) + j) 0
     ∙ piece_at (border_ends g l) (border_size l) 1 (length g.parents) (c - 1) j 0 (λ k lt. border_piece g l k)
     (omega arith) (omega arith)
     ∙ ap (λ (m : ℕ). slice_index (border_ends g l m) j) (let h : 1 + (c - 1) ≡ c = omega arith in h)
@@ -238,10 +238,10 @@ segment_kind g l x e j lt within is =
 
 -- a dart of the border of cluster k + 1, by its place among the darts of that border
 border_kind : (g : Clustered) (l : Layout) (x k j : ℕ) → k < length g.parents → j < border_size l k →
-    x ≡ 2 * (segments g + before (border_length l) k) + j → DartOf g l x
+    x ≡ 2 * (segments g + sum_below (border_length l) k) + j → DartOf g l x
 border_kind g l x k j lt within is =
-    let start : first_border_edge g l (k + 1) ≡ segments g + before (border_length l) k =
-    ap (λ (m : ℕ). segments g + before (border_length l) m) (let h : k + 1 - 1 ≡ k = omega arith in h) in
+    let start : first_border_edge g l (k + 1) ≡ segments g + sum_below (border_length l) k =
+    ap (λ (m : ℕ). segments g + sum_below (border_length l) m) (let h : k + 1 - 1 ≡ k = omega arith in h) in
     ⊎_elim
     (λ even. begins_border (k + 1) (j / 2) (omega arith) (omega arith) (omega arith) (omega arith))
     (λ odd. finishes_border (k + 1) (j / 2) (omega arith) (omega arith) (omega arith) (omega arith))

@@ -6,10 +6,10 @@ use Rattle.cp_cgraph.specs.Clustered.{Clustered, IsClustered, nodes, edges, clus
 use Rattle.cp_cgraph.specs.Crossings.{crossings}
 use Rattle.cp_cgraph.specs.declared.layout.Layout.{Layout}
 use Rattle.cp_rot.specs.Systems.{list_of}
-use Rattle.cp_border.specs.Borders.{borders, before, node_list, cluster_list, crossed, first_border, first_border_edge}
+use Rattle.cp_border.specs.Borders.{borders, sum_below, node_list, cluster_list, crossed, first_border, first_border_edge}
 use Rattle.cp_border.specs.Good.{IsArranged}
 use Rattle.cp_border.specs.Tables.{list_at, border_at}
-use Rattle.cp_border.proofs.Numbering.{before-le}
+use Rattle.cp_border.proofs.Numbering.{sum_below-le}
 use Rattle.cp_border.proofs.Darts.{border_length}
 use Rattle.cp_border.proofs.Rotation.{crossing_of, item_at, list_of_border}
 use Rattle.cp_border.proofs.RotationLaw.{begin_dart-lt, border_vertex-lt, border_edges-vertices}
@@ -33,7 +33,7 @@ list_of_item g l is ar c k above lt within =
     (crossings g (slice_index (cluster_list l c) k))) item.edge cross.within)
 
 -- the first border edge, and where the border edges of a cluster begin and end
-pub start_first : (g : Clustered) (l : Layout) (sum : ℕ) → sum ≡ before (crossed g) (edges g) →
+pub start_first : (g : Clustered) (l : Layout) (sum : ℕ) → sum ≡ sum_below (crossed g) (edges g) →
     2 * (edges g + sum) ≡ 2 * first_border_edge g l 1
 start_first g l sum is = omega arith
 
@@ -41,25 +41,25 @@ start_first g l sum is = omega arith
 pub start_next : (g : Clustered) (l : Layout) (c start count : ℕ) → 0 < c → start ≡ 2 * first_border_edge g l c →
     count ≡ length (cluster_list l c) → start + 2 * count ≡ 2 * first_border_edge g l (c + 1)
 start_next g l c start count above is size =
-    let more : before (border_length l) (suc (c - 1)) ≡ before (border_length l) (c + 1 - 1) =
-    ap (before (border_length l)) (let h : suc (c - 1) ≡ c + 1 - 1 = omega arith in h) in
+    let more : sum_below (border_length l) (suc (c - 1)) ≡ sum_below (border_length l) (c + 1 - 1) =
+    ap (sum_below (border_length l)) (let h : suc (c - 1) ≡ c + 1 - 1 = omega arith in h) in
     let this : border_length l (c - 1) ≡ length (cluster_list l c) =
     ap (λ (m : ℕ). length (cluster_list l m)) (let h : c - 1 + 1 ≡ c = omega arith in h) in
     omega arith
 
 -- where the border edges of a cluster begin is a small number
 pub start-lt : (g : Clustered) (l : Layout) → IsClustered g → IsArranged g l → (c start : ℕ) → c ≤ clusters g →
-    edges g < 2 ^ 60 → nodes g + before (crossed g) (edges g) < 2 ^ 59 → start ≡ 2 * first_border_edge g l c →
+    edges g < 2 ^ 60 → nodes g + sum_below (crossed g) (edges g) < 2 ^ 59 → start ≡ 2 * first_border_edge g l c →
     start < 2 ^ 62
 start-lt g l is ar c start lt few size at =
-    let all : before (border_length l) (c - 1) ≤ before (border_length l) (length g.parents) =
-    before-le (border_length l) (c - 1) (length g.parents) (omega arith) in
+    let all : sum_below (border_length l) (c - 1) ≤ sum_below (border_length l) (length g.parents) =
+    sum_below-le (border_length l) (c - 1) (length g.parents) (omega arith) in
     omega (arith, border_edges-vertices g l is ar)
 
 -- the darts of the border edges are few
 pub border_dart-lt : (g : Clustered) (l : Layout) → IsClustered g → IsArranged g l → (c k : ℕ) → 0 < c →
     c < clusters g →
-    k < length (cluster_list l c) → edges g + 2 * before (crossed g) (edges g) < 2 ^ 59
+    k < length (cluster_list l c) → edges g + 2 * sum_below (crossed g) (edges g) < 2 ^ 59
     → 2 * (first_border_edge g l c + k) + 1 < 2 ^ 60
 border_dart-lt g l is ar c k above lt within few =
     omega (arith, (begin_dart-lt g l c k above lt within).1, border_edges-vertices g l is ar)

@@ -4,27 +4,27 @@ use Rattle.std.specs.List.{flat_map, range_with_len}
 use Rattle.std.proofs.lemmas.Bool.{cases_lt, cases_eq, cases_order}
 use Rattle.std.proofs.lemmas.List.{get_or_append_left, get_or-append-add, append_assoc, append-nil}
 use Rattle.cp_lists.specs.Count.{count}
-use Rattle.cp_border.specs.Borders.{before}
+use Rattle.cp_border.specs.Borders.{sum_below}
 
 -- sums of values that agree below n
-pub before_agree : (f h : ℕ → ℕ) (n : ℕ) → ((k : ℕ) → k < n → f k ≡ h k) → before f n ≡ before h n
-before_agree f h zero same = refl
-before_agree f h (suc n) same =
-    ap₂ (λ (a b : ℕ). a + b) (before_agree f h n (λ k lt. same k (omega arith))) (same n (lt-suc_self n))
+pub sum_below-agree : (f h : ℕ → ℕ) (n : ℕ) → ((k : ℕ) → k < n → f k ≡ h k) → sum_below f n ≡ sum_below h n
+sum_below-agree f h zero same = refl
+sum_below-agree f h (suc n) same =
+    ap₂ (λ (a b : ℕ). a + b) (sum_below-agree f h n (λ k lt. same k (omega arith))) (same n (lt-suc_self n))
 
 -- prefix sums rise
-pub before-le : (f : ℕ → ℕ) (i n : ℕ) → i ≤ n → before f i ≤ before f n
-before-le f i zero le = let e : i ≡ 0 = omega arith in rw e (omega arith)
-before-le f i (suc n) le = ⊎_elim (λ e. rw e (omega arith)) (λ ne. omega (arith, before-le f i n (omega arith)))
+pub sum_below-le : (f : ℕ → ℕ) (i n : ℕ) → i ≤ n → sum_below f i ≤ sum_below f n
+sum_below-le f i zero le = let e : i ≡ 0 = omega arith in rw e (omega arith)
+sum_below-le f i (suc n) le = ⊎_elim (λ e. rw e (omega arith)) (λ ne. omega (arith, sum_below-le f i n (omega arith)))
     (cases_eq i (suc n))
 
 -- a piece ends before the next begins
-pub before_next : (f : ℕ → ℕ) (i n : ℕ) → i < n → before f i + f i ≤ before f n
-before_next f i n lt = let h : before f (suc i) ≤ before f n = before-le f (suc i) n (omega arith) in h
+pub sum_below-next : (f : ℕ → ℕ) (i n : ℕ) → i < n → sum_below f i + f i ≤ sum_below f n
+sum_below-next f i n lt = let h : sum_below f (suc i) ≤ sum_below f n = sum_below-le f (suc i) n (omega arith) in h
 
 -- a place in a piece lies below the sum of all pieces
-pub before_within : (f : ℕ → ℕ) (i j n : ℕ) → i < n → j < f i → before f i + j < before f n
-before_within f i j n lt within = omega (arith, before_next f i n lt)
+pub sum_below-within : (f : ℕ → ℕ) (i j n : ℕ) → i < n → j < f i → sum_below f i + j < sum_below f n
+sum_below-within f i j n lt within = omega (arith, sum_below-next f i n lt)
 
 -- each number below the sum lies in a piece
 pub record Place (f : ℕ → ℕ) (n x : ℕ) : Type 0 where
@@ -32,10 +32,10 @@ pub record Place (f : ℕ → ℕ) (n x : ℕ) : Type 0 where
   pub place : ℕ
   pub is_piece : piece < n
   pub is_place : place < f piece
-  pub is : x ≡ before f piece + place
+  pub is : x ≡ sum_below f piece + place
 
 -- each number below the sum of all pieces lies in one piece, at one place
-pub located : (f : ℕ → ℕ) (n x : ℕ) → x < before f n → Place f n x
+pub located : (f : ℕ → ℕ) (n x : ℕ) → x < sum_below f n → Place f n x
 located f zero x lt = absurd (omega arith)
 located f (suc n) x lt =
     ⊎_elim
@@ -49,22 +49,23 @@ located f (suc n) x lt =
     })
     (λ more. record {
       piece = n;
-      place = x - before f n;
+      place = x - sum_below f n;
       is_piece = omega arith;
       is_place = omega arith;
       is =
           omega arith;
     })
-    (cases_lt x (before f n))
+    (cases_lt x (sum_below f n))
 
 -- and in one piece only, at one place
-pub before_apart : (f : ℕ → ℕ) (i j h k : ℕ) → j < f i → k < f h → before f i + j ≡ before f h + k → (i ≡ h) × (j ≡ k)
-before_apart f i j h k within_i within_h e =
+pub sum_below-apart : (f : ℕ → ℕ) (i j h k : ℕ) → j < f i → k < f h → sum_below f i + j ≡ sum_below f h + k
+    → (i ≡ h) × (j ≡ k)
+sum_below-apart f i j h k within_i within_h e =
     ⊎_elim
-    (λ same. let s : before f i ≡ before f h = ap (before f) same in (same, omega arith))
+    (λ same. let s : sum_below f i ≡ sum_below f h = ap (sum_below f) same in (same, omega arith))
     (⊎_elim
-    (λ less. absurd (omega (arith, before_next f i h less)))
-    (λ more. absurd (omega (arith, before_next f h i more))))
+    (λ less. absurd (omega (arith, sum_below-next f i h less)))
+    (λ more. absurd (omega (arith, sum_below-next f h i more))))
     (cases_order i h)
 
 -- one piece more
@@ -79,7 +80,7 @@ flat_map_last {A = A} F a (suc n) =
 
 -- the pieces together are as long as the sum of their lengths
 pub pieces_length : {A : Type 0} (F : ℕ → List A) (f : ℕ → ℕ) (a n : ℕ) → ((k : ℕ) → k < n → length (F (a + k)) ≡ f k) →
-    length (flat_map F (range_with_len a n)) ≡ before f n
+    length (flat_map F (range_with_len a n)) ≡ sum_below f n
 pieces_length F f a zero same = refl
 pieces_length F f a (suc n) same =
     ap length (flat_map_last F a n) ∙ length-append (flat_map F (range_with_len a n)) (F (a + n))
@@ -88,20 +89,20 @@ pieces_length F f a (suc n) same =
 -- item j of piece i stands behind the earlier pieces
 pub piece_at : {A : Type 0} (F : ℕ → List A) (f : ℕ → ℕ) (a n i j : ℕ) (d : A) →
     ((k : ℕ) → k < n → length (F (a + k)) ≡ f k) → i < n → j < f i →
-    get_or (flat_map F (range_with_len a n)) (before f i + j) d ≡ get_or (F (a + i)) j d
+    get_or (flat_map F (range_with_len a n)) (sum_below f i + j) d ≡ get_or (F (a + i)) j d
 piece_at F f a zero i j d same lt within = absurd (omega arith)
 piece_at {A = A} F f a (suc n) i j d same lt within =
-    let so_long : length (flat_map F (range_with_len a n)) ≡ before f n =
+    let so_long : length (flat_map F (range_with_len a n)) ≡ sum_below f n =
     pieces_length F f a n (λ k l. same k (omega arith)) in
-    ap (λ (xs : List A). get_or xs (before f i + j) d) (flat_map_last F a n)
+    ap (λ (xs : List A). get_or xs (sum_below f i + j) d) (flat_map_last F a n)
     ∙ ⊎_elim
     (λ e.
-    ap (λ (m : ℕ). get_or (flat_map F (range_with_len a n) ++ F (a + n)) (m + j) d) (ap (before f) e ∙ sym so_long)
+    ap (λ (m : ℕ). get_or (flat_map F (range_with_len a n) ++ F (a + n)) (m + j) d) (ap (sum_below f) e ∙ sym so_long)
     ∙ get_or-append-add (flat_map F (range_with_len a n)) (F (a + n)) j d
     ∙ ap (λ (m : ℕ). get_or (F (a + m)) j d) (sym e))
     (λ ne.
-    get_or_append_left (flat_map F (range_with_len a n)) (F (a + n)) d (before f i + j)
-    (omega (arith, before_within f i j n (omega arith) within))
+    get_or_append_left (flat_map F (range_with_len a n)) (F (a + n)) d (sum_below f i + j)
+    (omega (arith, sum_below-within f i j n (omega arith) within))
     ∙ piece_at F f a n i j d (λ k l. same k (omega arith)) (omega arith) within)
     (cases_eq i n)
 
@@ -131,32 +132,33 @@ pairs_second A B a (suc n) (suc k) lt =
     ∙ pairs_second A B (a + 1) n k (omega arith) ∙ ap B (let e : a + 1 + k ≡ a + suc k = omega arith in e)
 
 -- sums of sums, and of what counts one by one
-before_sum : (f h : ℕ → ℕ) (n : ℕ) → before (λ k. f k + h k) n ≡ before f n + before h n
-before_sum f h zero = refl
-before_sum f h (suc n) = omega (arith, before_sum f h n)
+sum_below-sum : (f h : ℕ → ℕ) (n : ℕ) → sum_below (λ k. f k + h k) n ≡ sum_below f n + sum_below h n
+sum_below-sum f h zero = refl
+sum_below-sum f h (suc n) = omega (arith, sum_below-sum f h n)
 
 -- the sum of ones for what passes is how many pass
-before_ones : (p : ℕ → Bool) (n : ℕ) → before (λ e. cond (p e) 1 0) n ≡ count n p
-before_ones p zero = refl
-before_ones p (suc n) = omega (arith, before_ones p n)
+sum_below-ones : (p : ℕ → Bool) (n : ℕ) → sum_below (λ e. cond (p e) 1 0) n ≡ count n p
+sum_below-ones p zero = refl
+sum_below-ones p (suc n) = omega (arith, sum_below-ones p n)
 
 -- the sum of zeros is zero
-before_nothing : (n : ℕ) → before (λ e. 0) n ≡ 0
-before_nothing zero = refl
-before_nothing (suc n) = omega (arith, before_nothing n)
+sum_below-nothing : (n : ℕ) → sum_below (λ e. 0) n ≡ 0
+sum_below-nothing zero = refl
+sum_below-nothing (suc n) = omega (arith, sum_below-nothing n)
 
 -- counting pairs by the first number and by the second gives one sum
-pub counted_twice : (p : ℕ → ℕ → Bool) (m n : ℕ) → before (λ k. count n (p k)) m ≡ before (λ e. count m (λ k. p k e)) n
-counted_twice p zero n = sym (before_nothing n)
+pub counted_twice : (p : ℕ → ℕ → Bool) (m n : ℕ)
+    → sum_below (λ k. count n (p k)) m ≡ sum_below (λ e. count m (λ k. p k e)) n
+counted_twice p zero n = sym (sum_below-nothing n)
 counted_twice p (suc m) n =
-    let rest : before (λ k. count n (p k)) m ≡ before (λ e. count m (λ k. p k e)) n = counted_twice p m n in
-    let now : before (λ e. cond (p m e) 1 0) n ≡ count n (p m) = before_ones (p m) n in
-    let split : before (λ e. cond (p m e) 1 0 + count m (λ k. p k e)) n ≡ before (λ e. cond (p m e) 1 0) n + before
-    (λ e. count m (λ k. p k e)) n =
-    before_sum (λ e. cond (p m e) 1 0) (λ e. count m (λ k. p k e)) n in
+    let rest : sum_below (λ k. count n (p k)) m ≡ sum_below (λ e. count m (λ k. p k e)) n = counted_twice p m n in
+    let now : sum_below (λ e. cond (p m e) 1 0) n ≡ count n (p m) = sum_below-ones (p m) n in
+    let split : sum_below (λ e. cond (p m e) 1 0 + count m (λ k. p k e)) n ≡ sum_below (λ e. cond (p m e) 1 0) n
+    + sum_below (λ e. count m (λ k. p k e)) n =
+    sum_below-sum (λ e. cond (p m e) 1 0) (λ e. count m (λ k. p k e)) n in
     ap₂ (λ (a b : ℕ). a + b) rest (sym now)
-    ∙ (let e : before (λ e. count m (λ k. p k e)) n + before (λ e. cond (p m e) 1 0) n ≡ before
-    (λ e. cond (p m e) 1 0) n + before (λ e. count m (λ k. p k e)) n = omega arith in e) ∙ sym split
+    ∙ (let e : sum_below (λ e. count m (λ k. p k e)) n + sum_below (λ e. cond (p m e) 1 0) n ≡ sum_below
+    (λ e. cond (p m e) 1 0) n + sum_below (λ e. count m (λ k. p k e)) n = omega arith in e) ∙ sym split
 
 -- a test that fails at 0 counts as much from 1 on
 pub count_from_one : (n : ℕ) (p : ℕ → Bool) → p 0 ≡ false → count (suc n) p ≡ count n (λ k. p (k + 1))

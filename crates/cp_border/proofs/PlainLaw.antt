@@ -11,7 +11,7 @@ use Rattle.cp_cgraph.specs.Crossings.{around, crossings, contains, outward}
 use Rattle.cp_cgraph.specs.declared.layout.Layout.{Layout}
 use Rattle.cp_rot.specs.Systems.{System, IsRotation, Arranges}
 use Rattle.cp_rot.specs.FirstWrong.{IsRightList, IsFirstWrong}
-use Rattle.cp_border.specs.Borders.{borders, before, crossed, node_list, first_border, first_segment, end_dart, segment_ends, border_ends, border_list}
+use Rattle.cp_border.specs.Borders.{borders, sum_below, crossed, node_list, first_border, first_segment, end_dart, segment_ends, border_ends, border_list}
 use Rattle.cp_border.specs.Good.{IsRightNode, IsRightCluster, IsArranged, IsFirstWrongNode}
 use Rattle.cp_border.proofs.Pieces.{flat_map_places, flat_map_empty, map_same}
 
@@ -44,13 +44,13 @@ pub plain_crossed : (g : Clustered) → IsClustered g → g.parents ≡ [] → (
 plain_crossed g is none e = ap length (plain_crossings g is none e)
 
 -- a sum of nothing
-before_zero : (f : ℕ → ℕ) → ((x : ℕ) → f x ≡ 0) → (n : ℕ) → before f n ≡ 0
-before_zero f none zero = refl
-before_zero f none (suc n) = omega (arith, before_zero f none n, none n)
+sum_below-zero : (f : ℕ → ℕ) → ((x : ℕ) → f x ≡ 0) → (n : ℕ) → sum_below f n ≡ 0
+sum_below-zero f none zero = refl
+sum_below-zero f none (suc n) = omega (arith, sum_below-zero f none n, none n)
 
 -- each edge is one segment, of the same number
 plain_first_segment : (g : Clustered) → IsClustered g → g.parents ≡ [] → (e : ℕ) → first_segment g e ≡ e
-plain_first_segment g is none e = omega (arith, before_zero (crossed g) (plain_crossed g is none) e)
+plain_first_segment g is none e = omega (arith, sum_below-zero (crossed g) (plain_crossed g is none) e)
 
 -- the dart of a segment that is an edge, by the side
 side_dart : (d q c : ℕ) → q ≡ d / 2 → c ≡ 0 → cond (d % 2 == 0) (2 * q) (2 * (q + c) + 1) ≡ d
@@ -77,7 +77,7 @@ pub borders-plain : (g : Clustered) (l : Layout) → IsClustered g → g.parents
     borders g l ≡ record { vertices = nodes g; at = dart_nodes g.ends; lists = l.nodes }
 borders-plain g l is none =
     let same_vertices : first_border g (edges g) ≡ nodes g =
-    omega (arith, before_zero (crossed g) (plain_crossed g is none) (edges g)) in
+    omega (arith, sum_below-zero (crossed g) (plain_crossed g is none) (edges g)) in
     let same_segments : flat_map (segment_ends g) (range_with_len 0 (edges g)) ≡ dart_nodes g.ends =
     flat_map_places (segment_ends g) (λ e. e.0 ∷ e.1 ∷ []) (0, 0) 0 g.ends
     (λ i lt. ap (segment_ends g) (let e : 0 + i ≡ i = omega arith in e) ∙ plain_segment_ends g is none i) in

@@ -12,9 +12,9 @@ use Rattle.cp_cgraph.specs.Crossings.{leaves, crossings}
 use Rattle.cp_cgraph.specs.declared.layout.Layout.{Layout}
 use Rattle.cp_cgraph.proofs.Crossing.{crossings-Exactly}
 use Rattle.cp_rot.specs.Systems.{list_of}
-use Rattle.cp_border.specs.Borders.{borders, before, node_list, cluster_list, crossed, first_border, first_segment, segments, end_dart, border_list}
+use Rattle.cp_border.specs.Borders.{borders, sum_below, node_list, cluster_list, crossed, first_border, first_segment, segments, end_dart, border_list}
 use Rattle.cp_border.specs.Good.{IsArranged}
-use Rattle.cp_border.proofs.Numbering.{before_apart, pieces_length, piece_at}
+use Rattle.cp_border.proofs.Numbering.{sum_below-apart, pieces_length, piece_at}
 use Rattle.cp_border.proofs.Darts.{segment_size, segment_sizes, length-borders_at, first_segment-le, stands_source, stands_target}
 
 -- the crossing of edge e at place i: a cluster but the root, which the edge leaves, and its place is i
@@ -133,9 +133,9 @@ list_of_border g l ar e i lt within =
     let long : length (map (map (end_dart g)) l.nodes) ≡ nodes g = length-map l.nodes (map (end_dart g))
     ∙ length-node_lists g l ar in
     ap (λ (m : ℕ). slice_index_or (borders g l).lists m []) (let h : first_border g e + i ≡ length
-    (map (map (end_dart g)) l.nodes) + (before (crossed g) e + i) = omega arith in h)
+    (map (map (end_dart g)) l.nodes) + (sum_below (crossed g) e + i) = omega arith in h)
     ∙ get_or-append-add (map (map (end_dart g)) l.nodes) (flat_map (edge_lists g l) (range_with_len 0 (edges g)))
-    (before (crossed g) e + i) []
+    (sum_below (crossed g) e + i) []
     ∙ piece_at (edge_lists g l) (crossed g) 0 (edges g) e i [] (λ k less. edge_piece g l k) lt within
     ∙ ap (λ (m : ℕ). slice_index_or (edge_lists g l m) i []) (let h : 0 + e ≡ e = omega arith in h)
     ∙ get_or-map-range_with_len (border_list g l e) 0 (crossed g e) i i [] within (omega arith)
@@ -186,7 +186,7 @@ end_dart_stands g l d lt =
 segment_place : (g : Clustered) (e j h k : ℕ) → j < segment_size g e → k < segment_size g h →
     2 * first_segment g e + j ≡ 2 * first_segment g h + k → (e ≡ h) × (j ≡ k)
 segment_place g e j h k within_e within_h same =
-    before_apart (segment_size g) e j h k within_e within_h (omega (arith, segment_sizes g e, segment_sizes g h))
+    sum_below-apart (segment_size g) e j h k within_e within_h (omega (arith, segment_sizes g e, segment_sizes g h))
 
 -- darts whose segments end alike are one dart
 pub end_dart-apart : (g : Clustered) (d b : ℕ) → end_dart g d ≡ end_dart g b → d ≡ b

@@ -11,10 +11,10 @@ use Rattle.cp_cgraph.specs.Crossings.{contains, leaves, crossings}
 use Rattle.cp_cgraph.specs.declared.layout.Layout.{Layout}
 use Rattle.cp_cgraph.proofs.Crossing.{crossings-Exactly}
 use Rattle.cp_rot.specs.Systems.{IsRotation, Arranges, list_of, place_after}
-use Rattle.cp_border.specs.Borders.{borders, before, node_list, cluster_list, crossed, first_border, border_vertex, first_segment, segments, end_dart, first_border_edge, border_list, place_before}
+use Rattle.cp_border.specs.Borders.{borders, sum_below, node_list, cluster_list, crossed, first_border, border_vertex, first_segment, segments, end_dart, first_border_edge, border_list, place_before}
 use Rattle.cp_border.specs.Good.{IsArranged}
 use Rattle.cp_border.proofs.PlainLaw.{node_of-is_node}
-use Rattle.cp_border.proofs.Numbering.{Place, located, before_agree, before_within, before_apart, counted_twice, count_from_one}
+use Rattle.cp_border.proofs.Numbering.{Place, located, sum_below-agree, sum_below-within, sum_below-apart, counted_twice, count_from_one}
 use Rattle.cp_border.proofs.Darts.{DartOf, leaves_source, reaches_target, looks_to_source, looks_to_target, begins_border, finishes_border, dart_is, toward_source, toward_target, begin_dart, finish_dart, border_length, length-borders_at, first_segment-le, stands_toward_source, stands_toward_target, stands_begin, stands_finish}
 use Rattle.cp_border.proofs.Cyclic.{place_after-lt, place_before-lt, place_before_after, place_after_before}
 use Rattle.cp_border.proofs.Arrangements.{IsFour, IsFour-turned, Exactly-four, Exactly-map}
@@ -90,7 +90,7 @@ stands_at g l is ar x (finishes_border c k above lt within same) =
 -- border vertices come behind the nodes
 pub border_vertex-lt : (g : Clustered) (e i : ℕ) → e < edges g → i < crossed g e →
     first_border g e + i < first_border g (edges g)
-border_vertex-lt g e i lt within = omega (arith, before_within (crossed g) e i (edges g) lt within)
+border_vertex-lt g e i lt within = omega (arith, sum_below-within (crossed g) e i (edges g) lt within)
 
 -- the list of a node is exact
 node_arranged : (g : Clustered) (l : Layout) → IsClustered g → IsArranged g l → (v : ℕ) → v < nodes g →
@@ -111,13 +111,13 @@ node_arranged g l is ar v lt =
 
 -- the four darts at a border vertex
 pub begin_dart-lt : (g : Clustered) (l : Layout) (c k : ℕ) → 0 < c → c < clusters g → k < length (cluster_list l c) →
-    (segments g ≤ first_border_edge g l c + k) × (first_border_edge g l c + k < segments g + before (border_length l)
+    (segments g ≤ first_border_edge g l c + k) × (first_border_edge g l c + k < segments g + sum_below (border_length l)
     (length g.parents))
 begin_dart-lt g l c k above lt within =
     let same : border_length l (c - 1) ≡ length (cluster_list l c) =
     ap (λ (m : ℕ). length (cluster_list l m)) (let h : c - 1 + 1 ≡ c = omega arith in h) in
-    let inside : before (border_length l) (c - 1) + k < before (border_length l) (length g.parents) =
-    before_within (border_length l) (c - 1) k (length g.parents) (omega arith) (omega arith) in
+    let inside : sum_below (border_length l) (c - 1) + k < sum_below (border_length l) (length g.parents) =
+    sum_below-within (border_length l) (c - 1) k (length g.parents) (omega arith) (omega arith) in
     (omega arith, omega arith)
 
 -- where no other dart stands at a border vertex, its four darts are exactly those that stand there
@@ -171,7 +171,7 @@ border_others : (g : Clustered) (l : Layout) → IsClustered g → IsArranged g 
 border_others g l is ar e i lt within x stands (at_node d ltd same node) = let h : node_of g d < nodes g =
     node_of-is_node g is d ltd in absurd (omega arith)
 border_others g l is ar e i lt within x stands (at_border b j ltb within_b vertex four) =
-    let same : (b ≡ e) × (j ≡ i) = before_apart (crossed g) b j e i within_b within (omega arith) in
+    let same : (b ≡ e) × (j ≡ i) = sum_below-apart (crossed g) b j e i within_b within (omega arith) in
     subst (λ (m : ℕ). IsAtBorder g l m i x) same.0 (subst (λ (m : ℕ). IsAtBorder g l b m x) same.1 four)
 
 -- so the list of a border vertex is exact
@@ -218,18 +218,18 @@ IsRotation-borders g l is ar = record {
 
 -- as many border edges as border vertices: both count the pairs of an edge and a cluster that it leaves
 pub border_edges-vertices : (g : Clustered) (l : Layout) → IsClustered g → IsArranged g l →
-    before (border_length l) (length g.parents) ≡ before (crossed g) (edges g)
+    sum_below (border_length l) (length g.parents) ≡ sum_below (crossed g) (edges g)
 border_edges-vertices g l is ar =
-    before_agree (border_length l) (λ k. count (edges g) (leaves g (k + 1))) (length g.parents)
+    sum_below-agree (border_length l) (λ k. count (edges g) (leaves g (k + 1))) (length g.parents)
     (λ k lt. Exactly-length (edges g) (leaves g (k + 1)) (cluster_list l (k + 1))
     ((ar.clusters_right (k + 1)).present (omega arith) (omega arith)).1)
     ∙ counted_twice (λ k e. leaves g (k + 1) e) (length g.parents) (edges g)
-    ∙ before_agree (λ e. count (length g.parents) (λ k. leaves g (k + 1) e)) (crossed g) (edges g) (λ e lt.
+    ∙ sum_below-agree (λ e. count (length g.parents) (λ k. leaves g (k + 1) e)) (crossed g) (edges g) (λ e lt.
     sym (count_from_one (length g.parents) (λ c. leaves g c e) refl)
     ∙ ap (λ (n : ℕ). count n (λ c. leaves g c e)) (let h : suc (length g.parents) ≡ clusters g = omega arith in h)
     ∙ sym (Exactly-length (clusters g) (λ c. leaves g c e) (crossings g e) (crossings-Exactly g is e lt)))
 
 -- so the number of darts is known from the graph alone
 pub length-borders_at-graph : (g : Clustered) (l : Layout) → IsClustered g → IsArranged g l →
-    length (borders g l).at ≡ 2 * (segments g + before (crossed g) (edges g))
+    length (borders g l).at ≡ 2 * (segments g + sum_below (crossed g) (edges g))
 length-borders_at-graph g l is ar = omega (arith, length-borders_at g l, border_edges-vertices g l is ar)

@@ -5,9 +5,9 @@ use Rattle.std.proofs.lemmas.List.{get_or-set_same, get_or-set_other, get_or_app
 use Rattle.cp_cgraph.specs.Clustered.{Clustered, edges, clusters, source, target}
 use Rattle.cp_cgraph.specs.declared.layout.Layout.{Layout}
 use Rattle.cp_rot.specs.Systems.{vertex_of, place_after}
-use Rattle.cp_border.specs.Borders.{borders, before, border_vertex, cluster_list, crossed, first_border_edge, first_border, first_segment, segments}
+use Rattle.cp_border.specs.Borders.{borders, sum_below, border_vertex, cluster_list, crossed, first_border_edge, first_border, first_segment, segments}
 use Rattle.cp_border.specs.Tables.{HoldsTable, segment_vertices}
-use Rattle.cp_border.proofs.Numbering.{before_next}
+use Rattle.cp_border.proofs.Numbering.{sum_below-next}
 use Rattle.cp_border.proofs.RotationLaw.{begin_dart-lt}
 use Rattle.cp_border.proofs.Darts.{border_length, length-borders_at, begin_dart, finish_dart, stands_begin, stands_finish, toward_source, toward_target, border_at, length-segment_at, first_segment-le, stands_source, stands_target, stands_toward_source, stands_toward_target}
 
@@ -32,20 +32,20 @@ pub HoldsTable-same : (n m : ℕ) (xs : List ℕ) (f : ℕ → ℕ) → n ≡ m 
 HoldsTable-same n m xs f e table = subst (λ k. HoldsTable k xs f) e table
 
 -- the sums: the first, and the next
-pub first-start : (first : List ℕ) (q : ℕ → ℕ) → 0 < length first → HoldsTable (0 + 1) (set first 0 0) (before q)
-first-start first q lt = HoldsTable-more 0 first (before q) 0 (HoldsTable-none first (before q)) lt refl
+pub first-start : (first : List ℕ) (q : ℕ → ℕ) → 0 < length first → HoldsTable (0 + 1) (set first 0 0) (sum_below q)
+first-start first q lt = HoldsTable-more 0 first (sum_below q) 0 (HoldsTable-none first (sum_below q)) lt refl
 
 -- the next sum
-pub first-more : (first : List ℕ) (q : ℕ → ℕ) (e : ℕ) → HoldsTable (e + 1) first (before q) → e + 1 < length first →
-    HoldsTable (e + 1 + 1) (set first (e + 1) (slice_index first e + q e)) (before q)
+pub first-more : (first : List ℕ) (q : ℕ → ℕ) (e : ℕ) → HoldsTable (e + 1) first (sum_below q) → e + 1 < length first →
+    HoldsTable (e + 1 + 1) (set first (e + 1) (slice_index first e + q e)) (sum_below q)
 first-more first q e table lt =
-    HoldsTable-more (e + 1) first (before q) (slice_index first e + q e) table lt
-    (ap (λ (n : ℕ). n + q e) (table.told e (omega arith)) ∙ ap (before q) (let h : suc e ≡ e + 1 = omega arith in h))
+    HoldsTable-more (e + 1) first (sum_below q) (slice_index first e + q e) table lt
+    (ap (λ (n : ℕ). n + q e) (table.told e (omega arith)) ∙ ap (sum_below q) (let h : suc e ≡ e + 1 = omega arith in h))
 
 -- a sum of the first values and the next stays below the whole sum
-pub first-le : (first : List ℕ) (q : ℕ → ℕ) (e n : ℕ) → HoldsTable (e + 1) first (before q) → e < n →
-    slice_index first e + q e ≤ before q n
-first-le first q e n table lt = omega (arith, table.told e (omega arith), before_next q e n lt)
+pub first-le : (first : List ℕ) (q : ℕ → ℕ) (e n : ℕ) → HoldsTable (e + 1) first (sum_below q) → e < n →
+    slice_index first e + q e ≤ sum_below q n
+first-le first q e n table lt = omega (arith, table.told e (omega arith), sum_below-next q e n lt)
 
 -- where the darts of segments stand, without a layout
 no_layout : Layout
@@ -79,8 +79,8 @@ edge-more g at e i lt within room table =
     let low : first_segment g e + (i + 1) < segments g = first_segment-le g e (i + 1) lt (omega arith) in
     let one : HoldsTable (2 * first_segment g e + 2 * i + 1 + 1) (set at (2 * first_segment g e + 2 * i + 1)
     (first_border g e + i)) (slice_index (segment_vertices g)) =
-    HoldsTable-more (2 * first_segment g e + 2 * i + 1) at (slice_index (segment_vertices g)) (first_border g e + i) table
-    (omega arith)
+    HoldsTable-more (2 * first_segment g e + 2 * i + 1) at (slice_index (segment_vertices g)) (first_border g e + i)
+    table (omega arith)
     (alone g (toward_source g e i) (first_border g e + i) (omega arith) (stands_toward_source g no_layout e i lt within)
     ∙ ap (slice_index (segment_vertices g)) (let h : toward_source g e i ≡ 2 * first_segment g e + 2 * i + 1 = omega
     arith in h)) in
@@ -105,13 +105,13 @@ pub edge-end : (g : Clustered) (at : List ℕ) (e : ℕ) → e < edges g → 2 *
     (slice_index (segment_vertices g))
 edge-end g at e lt room table =
     let low : first_segment g e + crossed g e < segments g = first_segment-le g e (crossed g e) lt (omega arith) in
-    let next : before (crossed g) (e + 1) ≡ before (crossed g) e + crossed g e =
-    ap (before (crossed g)) (let h : e + 1 ≡ suc e = omega arith in h) in
+    let next : sum_below (crossed g) (e + 1) ≡ sum_below (crossed g) e + crossed g e =
+    ap (sum_below (crossed g)) (let h : e + 1 ≡ suc e = omega arith in h) in
     HoldsTable-same (2 * first_segment g e + 2 * crossed g e + 1 + 1) (2 * first_segment g (e + 1))
     (set at (2 * first_segment g e + 2 * crossed g e + 1) (target g e)) (slice_index (segment_vertices g))
     (omega arith)
-    (HoldsTable-more (2 * first_segment g e + 2 * crossed g e + 1) at (slice_index (segment_vertices g)) (target g e) table
-    (omega arith)
+    (HoldsTable-more (2 * first_segment g e + 2 * crossed g e + 1) at (slice_index (segment_vertices g)) (target g e)
+    table (omega arith)
     (alone g (2 * (first_segment g e + crossed g e) + 1) (target g e) (omega arith) (stands_target g no_layout e lt)
     ∙ ap (slice_index (segment_vertices g)) (let h : 2 * (first_segment g e + crossed g e) + 1 ≡ 2 * first_segment g
     e + 2 * crossed g e + 1 = omega arith in h)))
@@ -132,12 +132,13 @@ segments-whole g l at table = record {
 pub border-more : (g : Clustered) (l : Layout) (at : List ℕ) (c k start : ℕ) → 0 < c → c < clusters g →
     k < length (cluster_list l c) → length (borders g l).at ≤ length at → start ≡ 2 * first_border_edge g l c →
     HoldsTable (start + 2 * k) at (vertex_of (borders g l)) →
-    HoldsTable (start + 2 * (k + 1)) (set (set at (start + 2 * k) (border_vertex g (slice_index (cluster_list l c) k) c))
-    (start + 2 * k + 1) (border_vertex g (slice_index (cluster_list l c)
-    (place_after (length (cluster_list l c)) k)) c)) (vertex_of (borders g l))
+    HoldsTable (start + 2 * (k + 1))
+    (set (set at (start + 2 * k) (border_vertex g (slice_index (cluster_list l c) k) c)) (start + 2 * k + 1)
+    (border_vertex g (slice_index (cluster_list l c) (place_after (length (cluster_list l c)) k)) c))
+    (vertex_of (borders g l))
 border-more g l at c k start above lt within room is table =
     let range = begin_dart-lt g l c k above lt within in
-    let size : length (borders g l).at ≡ 2 * (segments g + before (border_length l) (length g.parents)) =
+    let size : length (borders g l).at ≡ 2 * (segments g + sum_below (border_length l) (length g.parents)) =
     length-borders_at g l in
     let one : HoldsTable (start + 2 * k + 1)
     (set at (start + 2 * k) (border_vertex g (slice_index (cluster_list l c) k) c)) (vertex_of (borders g l)) =
@@ -157,19 +158,20 @@ border-more g l at c k start above lt within room is table =
 pub next_border_edge : (g : Clustered) (l : Layout) (c : ℕ) → 0 < c →
     first_border_edge g l (c + 1) ≡ first_border_edge g l c + length (cluster_list l c)
 next_border_edge g l c above =
-    let place : before (border_length l) (c + 1 - 1) ≡ before (border_length l) (suc (c - 1)) =
-    ap (before (border_length l)) (let h : c + 1 - 1 ≡ suc (c - 1) = omega arith in h) in
+    let place : sum_below (border_length l) (c + 1 - 1) ≡ sum_below (border_length l) (suc (c - 1)) =
+    ap (sum_below (border_length l)) (let h : c + 1 - 1 ≡ suc (c - 1) = omega arith in h) in
     let same : border_length l (c - 1) ≡ length (cluster_list l c) =
     ap (λ (m : ℕ). length (cluster_list l m)) (let h : c - 1 + 1 ≡ c = omega arith in h) in
-    let sum : before (border_length l) (suc (c - 1)) ≡ before (border_length l) (c - 1) + border_length l (c - 1) =
+    let sum : sum_below (border_length l) (suc (c - 1))
+    ≡ sum_below (border_length l) (c - 1) + border_length l (c - 1) =
     refl in
     omega arith
 
 -- behind the last cluster all darts are told
 pub last_border_edge : (g : Clustered) (l : Layout) → 2 * first_border_edge g l (clusters g) ≡ length (borders g l).at
 last_border_edge g l =
-    let place : before (border_length l) (clusters g - 1) ≡ before (border_length l) (length g.parents) =
-    ap (before (border_length l)) (let h : clusters g - 1 ≡ length g.parents = omega arith in h) in
+    let place : sum_below (border_length l) (clusters g - 1) ≡ sum_below (border_length l) (length g.parents) =
+    ap (sum_below (border_length l)) (let h : clusters g - 1 ≡ length g.parents = omega arith in h) in
     omega (arith, length-borders_at g l)
 
 -- the darts of the segments and of the borders of the clusters below c are told
@@ -179,14 +181,15 @@ pub record HasBorders (g : Clustered) (l : Layout) (c start : ℕ) (at : List �
 
 -- before the first border
 pub HasBorders-start : (g : Clustered) (l : Layout) (first at : List ℕ) →
-    HoldsTable (edges g + 1) first (before (crossed g)) → HoldsTable (2 * segments g) at (slice_index (segment_vertices g)) →
+    HoldsTable (edges g + 1) first (sum_below (crossed g)) →
+    HoldsTable (2 * segments g) at (slice_index (segment_vertices g)) →
     HasBorders g l 1 (2 * (edges g + slice_index first (edges g))) at
 HasBorders-start g l first at sums table =
-    let told : slice_index first (edges g) ≡ before (crossed g) (edges g) = sums.told (edges g) (omega arith) in
+    let told : slice_index first (edges g) ≡ sum_below (crossed g) (edges g) = sums.told (edges g) (omega arith) in
     record {
       begins = omega arith;
-      table = HoldsTable-same (2 * segments g) (2 * (edges g + slice_index first (edges g))) at (vertex_of (borders g l))
-          (omega arith) (segments-whole g l at table);
+      table = HoldsTable-same (2 * segments g) (2 * (edges g + slice_index first (edges g))) at
+          (vertex_of (borders g l)) (omega arith) (segments-whole g l at table);
     }
 
 -- one border more

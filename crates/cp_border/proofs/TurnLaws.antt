@@ -9,7 +9,7 @@ use Rattle.cp_cgraph.specs.Crossings.{crossings}
 use Rattle.cp_cgraph.specs.declared.layout.Layout.{Layout}
 use Rattle.cp_rot.specs.Systems.{System, IsRotation, darts, list_of, next, place_after, vertex_of}
 use Rattle.cp_rot.proofs.Rotations.{in_list, item_stands, next_of_item}
-use Rattle.cp_border.specs.Borders.{borders, before, cluster_list, crossed, first_border, border_vertex}
+use Rattle.cp_border.specs.Borders.{borders, sum_below, cluster_list, crossed, first_border, border_vertex}
 use Rattle.cp_border.specs.Good.{IsArranged}
 use Rattle.cp_border.specs.Tables.{list_at, border_at}
 use Rattle.cp_border.specs.Views.{HasTurn, IsViewed, IsViewedUpto}
@@ -99,7 +99,7 @@ IsViewedUpto-first g l table begins had = record {
 -- the next border vertex
 pub IsViewedUpto-more : (g : Clustered) (l : Layout) → IsClustered g → IsArranged g l →
     (c k : ℕ) (table after begins items : List ℕ) (x : ℕ) → 0 < c → c < clusters g → k < length (cluster_list l c) →
-    before (crossed g) (edges g) ≤ length begins → items ≡ list_at g l c k → IsWritten items table after →
+    sum_below (crossed g) (edges g) ≤ length begins → items ≡ list_at g l c k → IsWritten items table after →
     x ≡ slice_index items 0 → IsViewedUpto g l c k table begins →
     IsViewedUpto g l c (k + 1) after (set begins (border_at g l c k - nodes g) x)
 IsViewedUpto-more g l is ar c k table after begins items x above lt within room same w begin so =

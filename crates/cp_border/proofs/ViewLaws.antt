@@ -7,7 +7,7 @@ use Rattle.cp_cgraph.specs.Crossings.{contains, crossings}
 use Rattle.cp_cgraph.specs.declared.layout.Layout.{Layout}
 use Rattle.cp_rot.specs.Systems.{System, IsRotation, darts, list_of, next, vertex_of}
 use Rattle.cp_rot.proofs.Rotations.{item_stands, next_of_item, place_after_other}
-use Rattle.cp_border.specs.Borders.{borders, before, border_list, crossed, end_dart, first_border, node_list}
+use Rattle.cp_border.specs.Borders.{borders, sum_below, border_list, crossed, end_dart, first_border, node_list}
 use Rattle.cp_border.specs.Good.{IsArranged}
 use Rattle.cp_border.specs.Tables.{Tables, HasPlacesFor, HoldsTable}
 use Rattle.cp_border.specs.Views.{IsViewedUpto, IsTold}
@@ -45,7 +45,8 @@ item_after r is table v k dart told ltv ltk at =
 
 -- the tables as they are filled
 pub tables_told : (g : Clustered) (l : Layout) (t : Tables) → IsClustered g → IsArranged g l → HasPlacesFor g t →
-    HoldsTable (edges g + 1) t.first (before (crossed g)) → HoldsTable (darts (borders g l)) t.at (vertex_of (borders g l)) →
+    HoldsTable (edges g + 1) t.first (sum_below (crossed g)) →
+    HoldsTable (darts (borders g l)) t.at (vertex_of (borders g l)) →
     IsViewedUpto g l (clusters g) 0 t.following t.begins → IsTold g l t
 tables_told g l t is ar places first_told at_told viewed = record {
   clustered = is;

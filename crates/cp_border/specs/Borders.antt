@@ -8,9 +8,9 @@ use Rattle.cp_cgraph.specs.declared.layout.Layout.{Layout}
 use Rattle.cp_rot.specs.Systems.{System, place_after}
 
 -- the sum of the first n values of f
-abbrev pub before : (ℕ → ℕ) → ℕ → ℕ
-before f zero = 0
-before f (suc n) = before f n + f n
+abbrev pub sum_below : (ℕ → ℕ) → ℕ → ℕ
+sum_below f zero = 0
+sum_below f (suc n) = sum_below f n + f n
 
 -- the list of a node, and of a cluster other than the root
 abbrev pub node_list : Layout → ℕ → List ℕ
@@ -22,7 +22,7 @@ cluster_list l c = slice_index_or l.clusters (c - 1) []
 
 -- Vertices: the nodes, and behind them one border vertex for each crossing, by edge and along it.
 abbrev pub first_border : Clustered → ℕ → ℕ
-first_border g e = nodes g + before (crossed g) e
+first_border g e = nodes g + sum_below (crossed g) e
 
 -- where edge e crosses the border of cluster c
 abbrev pub border_vertex : Clustered → ℕ → ℕ → ℕ
@@ -30,7 +30,7 @@ border_vertex g e c = first_border g e + position_or_len (λ x. x == c) (crossin
 
 -- Edges: the segments, by edge and along it in its direction, and behind them the border edges.
 abbrev pub first_segment : Clustered → ℕ → ℕ
-first_segment g e = e + before (crossed g) e
+first_segment g e = e + sum_below (crossed g) e
 
 -- the number of segments of all edges
 abbrev pub segments : Clustered → ℕ
@@ -42,7 +42,7 @@ end_dart g d = cond (d % 2 == 0) (2 * first_segment g (d / 2)) (2 * (first_segme
 
 -- the border edges of cluster c, by its place in the list of c where each begins
 abbrev pub first_border_edge : Clustered → Layout → ℕ → ℕ
-first_border_edge g l c = segments g + before (λ k. length (cluster_list l (k + 1))) (c - 1)
+first_border_edge g l c = segments g + sum_below (λ k. length (cluster_list l (k + 1))) (c - 1)
 
 -- the place before place i in a cyclic list of n items
 abbrev pub place_before : ℕ → ℕ → ℕ

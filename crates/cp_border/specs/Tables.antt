@@ -4,7 +4,7 @@ use Rattle.std.specs.List.{flat_map, position_or_len, range_with_len}
 use Rattle.cp_cgraph.specs.Clustered.{Clustered, nodes, edges}
 use Rattle.cp_cgraph.specs.Crossings.{crossings}
 use Rattle.cp_cgraph.specs.declared.layout.Layout.{Layout}
-use Rattle.cp_border.specs.Borders.{before, crossed, border_vertex, segment_ends, cluster_list, border_list}
+use Rattle.cp_border.specs.Borders.{sum_below, crossed, border_vertex, segment_ends, cluster_list, border_list}
 
 -- the first n places of the list hold the first n values of f
 pub record HoldsTable (n : ℕ) (xs : List ℕ) (f : ℕ → ℕ) : Type 0 where
@@ -31,7 +31,7 @@ pub record HasPlaces (nodes edges borders : ℕ) (t : Tables) : Type 0 where
 
 -- the tables have the places for a graph
 abbrev pub HasPlacesFor : Clustered → Tables → Type 0
-HasPlacesFor g t = HasPlaces (nodes g) (edges g) (before (crossed g) (edges g)) t
+HasPlacesFor g t = HasPlaces (nodes g) (edges g) (sum_below (crossed g) (edges g)) t
 
 -- the vertices at which the darts of the segments stand
 abbrev pub segment_vertices : Clustered → List ℕ

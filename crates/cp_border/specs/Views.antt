@@ -3,7 +3,7 @@ use Rattle.std.specs.Prelude.{◌≡◌, ℕ, ◌+◌, ◌-◌, ◌<◌, ◌≤�
 use Rattle.cp_cgraph.specs.Clustered.{Clustered, IsClustered, nodes, edges}
 use Rattle.cp_cgraph.specs.declared.layout.Layout.{Layout}
 use Rattle.cp_rot.specs.Systems.{System, darts, list_of, next, vertex_of}
-use Rattle.cp_border.specs.Borders.{borders, before, cluster_list, crossed, first_border}
+use Rattle.cp_border.specs.Borders.{borders, sum_below, cluster_list, crossed, first_border}
 use Rattle.cp_border.specs.Good.{IsArranged}
 use Rattle.cp_border.specs.Tables.{Tables, HoldsTable, HasPlacesFor, border_at}
 
@@ -11,7 +11,8 @@ use Rattle.cp_border.specs.Tables.{Tables, HoldsTable, HasPlacesFor, border_at}
 abbrev pub HasTurn : System → List ℕ → ℕ → Type 0
 HasTurn r table v = (d : ℕ) → d < darts r → vertex_of r d ≡ v → slice_index table d ≡ next r d
 
--- it does so at border vertex v, and the first dart of the list of v is noted behind those of the border vertices before it
+-- it does so at border vertex v, and the first dart of the list of v is noted behind those of the border vertices
+-- before it
 pub record IsViewed (g : Clustered) (l : Layout) (table begins : List ℕ) (v : ℕ) : Type 0 where
   pub turn : HasTurn (borders g l) table v
   pub begin : slice_index begins (v - nodes g) ≡ slice_index (list_of (borders g l) v) 0
@@ -37,7 +38,7 @@ pub record IsTold (g : Clustered) (l : Layout) (t : Tables) : Type 0 where
   pub clustered : IsClustered g
   pub arranged : IsArranged g l
   pub places : HasPlacesFor g t
-  pub first_told : HoldsTable (edges g + 1) t.first (before (crossed g))
+  pub first_told : HoldsTable (edges g + 1) t.first (sum_below (crossed g))
   pub at_told : HoldsTable (darts (borders g l)) t.at (vertex_of (borders g l))
   pub next_told : HoldsTable (darts (borders g l)) t.following (next (borders g l))
   pub begins_told : (v : ℕ) → nodes g ≤ v → v < first_border g (edges g)

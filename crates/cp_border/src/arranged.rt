@@ -1,10 +1,10 @@
 // A graph and an arranged layout of it, with the numbers of the border vertices before each edge.
-ghost use Rattle.std.specs.Prelude.{◌≡◌, ◌==◌, ℕ, true, ◌+◌, ◌*◌, ◌^◌, ◌<◌, ◌≤◌, length, map, slice_index};
+ghost use Rattle.std.specs.Prelude.{◌≡◌, ◌==◌, true, ◌+◌, ◌*◌, ◌^◌, ◌<◌, length, map, slice_index};
 ghost use Rattle.std.specs.List.{position_or_len};
 ghost use Rattle.cp_cgraph.specs.Clustered.{IsClustered, nodes, edges, clusters};
 ghost use Rattle.cp_cgraph.specs.Crossings.{crossings, leaves};
 ghost use Rattle.cp_rot.specs.Systems.{darts, place_after};
-ghost use Rattle.cp_border.specs.Borders.{borders, before, border_vertex, cluster_list, crossed, end_dart, first_border, first_border_edge, first_segment, node_list, place_before};
+ghost use Rattle.cp_border.specs.Borders.{borders, sum_below, border_vertex, cluster_list, crossed, end_dart, first_border, first_border_edge, first_segment, node_list, place_before};
 ghost use Rattle.cp_border.specs.Good.{IsArranged};
 ghost use Rattle.cp_border.specs.ArrangedFacts.{IsArranged-prop};
 ghost use Rattle.cp_border.specs.Tables.{HoldsTable, list_at};
@@ -21,8 +21,8 @@ pub(crate) struct Arranged<'a> {
     ghost clustered: { IsClustered graph.now },
     ghost arranged: { IsArranged graph.now layout.now } by { IsArranged-prop graph.now layout.now },
     ghost few_vertices: { first_border graph.now (edges graph.now) < 2 ^ 59 },
-    ghost few_edges: { edges graph.now + 2 * before (crossed graph.now) (edges graph.now) < 2 ^ 59 },
-    ghost first_told: { HoldsTable (edges graph.now + 1) first.now (before (crossed graph.now)) },
+    ghost few_edges: { edges graph.now + 2 * sum_below (crossed graph.now) (edges graph.now) < 2 ^ 59 },
+    ghost first_told: { HoldsTable (edges graph.now + 1) first.now (sum_below (crossed graph.now)) },
 }
 
 // The place behind place `k` in a cyclic list of `count` items.

@@ -96,10 +96,8 @@ fn count_edge(g: &CGraph, e: usize, counts: &mut [usize])
     requires counted { (c : ℕ) → c < clusters g.now → slice_index counts.old c ≡ count e (leaves g.now c) }
     ensures { (c : ℕ) → c < clusters g.now → slice_index counts.new c ≡ count (e + 1) (leaves g.now c) }
 {
+    g.is_clustered();
     let (source, target) = g.ends(e);
-    let _nodes = g.nodes();
-    let _edges = g.edges();
-    let _clusters = g.clusters();
     let mut outer = g.home(source);
     let mut inner = g.home(target);
     while outer != inner {

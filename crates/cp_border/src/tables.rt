@@ -1,9 +1,9 @@
 // The tables by which the border graph is looked up.
 ghost use Rattle.std.specs.Prelude.{◌≡◌, ◌+◌, ◌*◌, ◌^◌, ◌<◌, ◌≤◌, IfOk, IfSome, length};
 ghost use Rattle.cp_cgraph.specs.Clustered.{nodes, edges};
-ghost use Rattle.cp_border.specs.Borders.{before, crossed};
+ghost use Rattle.cp_border.specs.Borders.{sum_below, crossed};
 ghost use Rattle.cp_border.specs.Good.{IsArranged};
-ghost use Rattle.cp_border.specs.Tables.{HasPlaces, HasPlacesFor, HoldsTable};
+ghost use Rattle.cp_border.specs.Tables.{HasPlacesFor, HoldsTable};
 ghost use Rattle.cp_border.specs.Views.{IsTold};
 
 use crate::arranged::Arranged;
@@ -18,7 +18,7 @@ const MOST: usize = 1 << 59;
 
 // The number of border vertices, unless the border graph is too great.
 fn border_count(g: &CGraph) -> Option<usize>
-    ensures { IfSome result (λ n. (n ≡ before (crossed g.now) (edges g.now)) × (nodes g.now + n < 2 ^ 59) × (edges g.now + 2 * n < 2 ^ 59)) }
+    ensures { IfSome result (λ n. (n ≡ sum_below (crossed g.now) (edges g.now)) × (nodes g.now + n < 2 ^ 59) × (edges g.now + 2 * n < 2 ^ 59)) }
 {
     let mut count = 0;
     for e in 0..g.edges() {
@@ -91,8 +91,8 @@ impl BorderTables {
 // Writes for each edge the number of border vertices of the edges before it, and last that of all.
 fn write_first(g: &CGraph, first: &mut [usize])
     requires room { edges g.now + 1 ≤ length first.old }
-    requires size { before (crossed g.now) (edges g.now) < 2 ^ 60 }
-    ensures { HoldsTable (edges g.now + 1) first.new (before (crossed g.now)) }
+    requires size { sum_below (crossed g.now) (edges g.now) < 2 ^ 60 }
+    ensures { HoldsTable (edges g.now + 1) first.new (sum_below (crossed g.now)) }
 {
     first[0] = 0;
     for e in 0..g.edges() {
@@ -113,7 +113,7 @@ fn write_slices(
     requires places { HasPlacesFor g.now record { first = first.old; at = at.old; following = next.old; begins = begins.old } }
     ensures { IsTold g.now lay.now record { first = first.new; at = at.new; following = next.new; begins = begins.new } }
 {
-    let _nodes = g.nodes();
+    g.is_clustered();
     write_first(g, first);
     let arranged = Arranged {
         graph: g,

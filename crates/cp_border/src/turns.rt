@@ -3,7 +3,7 @@
 ghost use Rattle.std.specs.Prelude.{◌≡◌, ◌≢◌, ℕ, ◌+◌, ◌*◌, ◌<◌, ◌≤◌, length, slice_index, slice_set};
 ghost use Rattle.cp_cgraph.specs.Clustered.{nodes, edges, clusters};
 ghost use Rattle.cp_rot.specs.Systems.{darts, place_after};
-ghost use Rattle.cp_border.specs.Borders.{borders, before, cluster_list, crossed, first_border_edge};
+ghost use Rattle.cp_border.specs.Borders.{borders, sum_below, cluster_list, crossed, first_border_edge};
 ghost use Rattle.cp_border.specs.Views.{HasTurn, IsViewedUpto};
 
 use crate::arranged::{Arranged, place_behind};
@@ -62,7 +62,7 @@ impl<'a> Arranged<'a> {
         requires place { k < length (cluster_list self.now.layout.now c) }
         requires start { start ≡ 2 * first_border_edge self.now.graph.now self.now.layout.now c }
         requires room { darts (borders self.now.graph.now self.now.layout.now) ≤ length next.old }
-        requires vertices { before (crossed self.now.graph.now) (edges self.now.graph.now) ≤ length begins.old }
+        requires vertices { sum_below (crossed self.now.graph.now) (edges self.now.graph.now) ≤ length begins.old }
         requires done { IsViewedUpto self.now.graph.now self.now.layout.now c k next.old begins.old }
         ensures { IsViewedUpto self.now.graph.now self.now.layout.now c (k + 1) next.new begins.new }
     {
@@ -78,7 +78,7 @@ impl<'a> Arranged<'a> {
         requires cluster { c < clusters self.now.graph.now }
         requires start { start ≡ 2 * first_border_edge self.now.graph.now self.now.layout.now c }
         requires room { darts (borders self.now.graph.now self.now.layout.now) ≤ length next.old }
-        requires vertices { before (crossed self.now.graph.now) (edges self.now.graph.now) ≤ length begins.old }
+        requires vertices { sum_below (crossed self.now.graph.now) (edges self.now.graph.now) ≤ length begins.old }
         requires done { IsViewedUpto self.now.graph.now self.now.layout.now c 0 next.old begins.old }
         ensures { IsViewedUpto self.now.graph.now self.now.layout.now (c + 1) 0 next.new begins.new }
     {
@@ -91,7 +91,7 @@ impl<'a> Arranged<'a> {
     // border vertex the first dart of its list.
     pub(crate) fn write_turns(&self, next: &mut [usize], begins: &mut [usize])
         requires room { darts (borders self.now.graph.now self.now.layout.now) ≤ length next.old }
-        requires vertices { before (crossed self.now.graph.now) (edges self.now.graph.now) ≤ length begins.old }
+        requires vertices { sum_below (crossed self.now.graph.now) (edges self.now.graph.now) ≤ length begins.old }
         ensures { IsViewedUpto self.now.graph.now self.now.layout.now (clusters self.now.graph.now) 0 next.new begins.new }
     {
         self.write_nodes(next);

@@ -160,7 +160,8 @@ Contains-reverse xs x c =
       length xs - 1 - c.0,
       omega arith,
       get_or-reverse xs (length xs - 1 - c.0) x (omega arith)
-          ∙ ap (λ (k : ℕ). slice_index_or xs k x) (let e : length xs - 1 - (length xs - 1 - c.0) ≡ c.0 = omega arith in e)
+          ∙ ap (λ (k : ℕ). slice_index_or xs k x)
+          (let e : length xs - 1 - (length xs - 1 - c.0) ≡ c.0 = omega arith in e)
           ∙ c.2,
     )
 
@@ -331,7 +332,8 @@ IsBetween-left g is e outer inner left entered so lt =
       outer_cluster = omega (arith, so.outer_cluster);
       inner_cluster = so.inner_cluster;
       walked =
-          HasWalked-first g.parents low (home g (source g e)) (home g (target g e)) outer inner left entered so.walked lt;
+          HasWalked-first g.parents low (home g (source g e)) (home g (target g e)) outer inner left entered
+          so.walked lt;
     }
 
 -- or from the higher number, which is entered
@@ -345,7 +347,8 @@ IsBetween-entered g is e outer inner left entered so lt =
       outer_cluster = so.outer_cluster;
       inner_cluster = omega (arith, so.inner_cluster);
       walked =
-          HasWalked-second g.parents low (home g (source g e)) (home g (target g e)) outer inner left entered so.walked lt;
+          HasWalked-second g.parents low (home g (source g e)) (home g (target g e)) outer inner left entered
+          so.walked lt;
     }
 
 -- where both ends meet, what was left and then what was entered, reversed, is crossed

@@ -8,7 +8,7 @@ use Rattle.cp_cgraph.specs.Nested.{parents, names, wrong_entries}
 use Rattle.cp_cgraph.specs.GraphFaults.{Fault, known_ids, edge_entries, node_entries, root_tree, roots, root_faults, graph_faults, graph_list, nodes_faults, names_faults, edge_faults, ids_of_node}
 use Rattle.cp_cgraph.specs.GraphOf.{ends_of_edge, home_by, graph_of}
 use Rattle.cp_cgraph.specs.Passes.{read}
-use Rattle.cp_cgraph.specs.Parts.{AreParts}
+use Rattle.cp_cgraph.specs.Parts.{AreReadFrom}
 use Rattle.cp_cgraph.specs.declared.clusters.Clusters.{Clusters}
 use Rattle.cp_cgraph.specs.declared.clusters.Name.{Name}
 use Rattle.cp_cgraph.proofs.ReadParts.{read-all}
@@ -27,7 +27,7 @@ pub gathered : (end : ℕ) (es gl : List Entry) (new_ids ids : List ℤ) (ends :
     → k3 ≡ k2 ++ flat_map (edge_faults ids) (keyed (codes "edge") gl)
     → out ≡ read 0 (root_tree es) record { parents = []; names = []; faults = k3 ++ root_faults (roots es) }
     → ms ≡ out.names → named ≡ map (λ (m : Name). m.id) ms → fs ≡ out.faults ++ names_faults ids [] ms
-    → AreParts end es record {
+    → AreReadFrom end es record {
       ids = ids;
       ends = ends;
       parents = out.parents;

@@ -7,7 +7,8 @@ use Rattle.cp_cgraph.specs.GraphFaults.{known_ids, edge_entries, root_tree, faul
 use Rattle.cp_cgraph.specs.GraphOf.{ends_of_edge}
 use Rattle.cp_cgraph.specs.declared.reader.Parts.{Parts}
 
-pub record AreParts (end : ℕ) (es : List Entry) (p : Parts) : Type 0 where
+-- the tables are what the entries of a graph list, which ends at byte `end`, say; the faults are all that they have
+pub record AreReadFrom (end : ℕ) (es : List Entry) (p : Parts) : Type 0 where
   pub ids : p.ids ≡ known_ids es
   pub ends : p.ends ≡ flat_map (ends_of_edge (known_ids es)) (edge_entries es)
   pub parents : p.parents ≡ parents 0 1 (root_tree es)

@@ -56,9 +56,12 @@ impl CGraph {
         })
     }
 
-    // Edges end at nodes, homes and parents are clusters, and parents have lower numbers.
-    fn is_clustered(&self)
-        ensures { IsClustered self.now }
+    /// A law, which does nothing when it runs: edges end at nodes, homes and parents are clusters, and
+    /// parents have lower numbers; neither edges nor clusters are more than 2^60.
+    pub fn is_clustered(&self)
+        ensures clustered { IsClustered self.now }
+        ensures few_edges { edges self.now < 2 ^ 60 }
+        ensures few_clusters { clusters self.now ≤ 2 ^ 60 }
     {
         self.stored.is_clustered();
     }
@@ -68,7 +71,6 @@ impl CGraph {
         requires { c < clusters self.now }
         ensures { AreFromTo self.now c result }
     {
-        let _clusters = self.clusters();
         self.lasts[c]
     }
 
@@ -77,7 +79,6 @@ impl CGraph {
         requires { c < clusters self.now }
         ensures { result ≡ depth self.now c }
     {
-        let _clusters = self.clusters();
         self.depths[c]
     }
 
@@ -202,7 +203,6 @@ impl CGraph {
         ensures bound { result < 2 ^ 61 }
     {
         self.is_clustered();
-        let _clusters = self.clusters();
         self.crossed[e]
     }
 

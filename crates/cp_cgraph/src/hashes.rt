@@ -1,6 +1,5 @@
 // Hashes of ids whose seed is a digest of all ids, so that no ids can be chosen beforehand that all fall into
 // one place of a table.
-ghost use Rattle.std.specs.Prelude.{◌≡◌};
 
 use crate::clusters::Name;
 use cp_gml::{Entry, GmlValue};

@@ -3,7 +3,7 @@ ghost use Rattle.std.specs.Prelude.{◌≡◌, [], IfOk, IfErr};
 ghost use Rattle.cp_gml.specs.declared.tree.GmlList.{out-GmlList};
 ghost use Rattle.cp_cgraph.specs.GraphFaults.{IfGraph, IsFaultOf, faults};
 ghost use Rattle.cp_cgraph.specs.GraphOf.{IsGraphOf, graph_of};
-ghost use Rattle.cp_cgraph.specs.Parts.{AreParts};
+ghost use Rattle.cp_cgraph.specs.Parts.{AreReadFrom};
 
 use crate::clusters::{Clusters, Name};
 use crate::edges::read_edges;
@@ -33,7 +33,7 @@ struct Parts {
 
 // Reads a list that ends at `end`.
 fn read_parts(alloc: Global, entries: &[Entry], end: usize) -> Result<Parts, Memory>
-    ensures { IfOk result (AreParts end entries.now) }
+    ensures { IfOk result (AreReadFrom end entries.now) }
 {
     let mut known = Items::new(alloc);
     let graph = graph_list(entries, end, &mut known)?;
@@ -57,7 +57,7 @@ fn read_parts(alloc: Global, entries: &[Entry], end: usize) -> Result<Parts, Mem
 
 // The tables of the graph of the parts of some entries.
 fn tables(alloc: Global, parts: &Parts, end: usize, entries: &[Entry]) -> Result<Stored, Memory>
-    requires { AreParts end entries.now parts.now }
+    requires { AreReadFrom end entries.now parts.now }
     ensures { IfOk result (λ g. g ≡ graph_of entries.now) }
 {
     let ids = Vec::from_slice(alloc, parts.ids.ids())?;
@@ -69,7 +69,7 @@ fn tables(alloc: Global, parts: &Parts, end: usize, entries: &[Entry]) -> Result
 
 // The graph of the parts of some entries.
 fn graph(alloc: Global, parts: &Parts, end: usize, entries: &[Entry]) -> Result<CGraph, Memory>
-    requires { AreParts end entries.now parts.now }
+    requires { AreReadFrom end entries.now parts.now }
     ensures { IfOk result (λ g. g ≡ graph_of entries.now) }
 {
     let stored = tables(alloc, parts, end, entries)?;

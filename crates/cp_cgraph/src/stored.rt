@@ -1,11 +1,11 @@
 // The tables of a clustered graph that are read.
-ghost use Rattle.std.specs.Prelude.{◌≡◌, ◌^◌, ◌<◌, ◌≤◌};
+ghost use Rattle.std.specs.Prelude.{◌≡◌, ◌^◌, ◌<◌, ◌≤◌, length};
 ghost use Rattle.cp_cgraph.specs.Clustered.{IsClustered, nodes, edges, clusters, source, target, parent, home, id};
 
 use std::marker::Model;
 
 // The ids of the nodes, the two end nodes of each edge, the parent of each cluster from cluster 1 on,
-// and the home of each node.
+// and the home of each node. No memory holds more than 2^60 ends or parents.
 #[derive(Debug, Drop)]
 pub(crate) struct Stored {
     ids: Vec<i32>,
@@ -15,13 +15,14 @@ pub(crate) struct Stored {
 }
 
 impl Model for Stored {
+    ghost use Rattle.std.specs.Prelude.{◌^◌, ◌<◌, length};
     ghost use Rattle.cp_cgraph.specs.Clustered.{Clustered, IsClustered};
 
     ghost Value = { Clustered };
 
     ghost view = { λ g. record { ids = g.ids.items; ends = g.ends.items; parents = g.parents.items; homes = g.homes.items } };
 
-    ghost invariant = { λ g. IsClustered record { ids = g.ids.items; ends = g.ends.items; parents = g.parents.items; homes = g.homes.items } };
+    ghost invariant = { λ g. IsClustered record { ids = g.ids.items; ends = g.ends.items; parents = g.parents.items; homes = g.homes.items } × (length g.ends.items < 2 ^ 60) × (length g.parents.items < 2 ^ 60) };
 }
 
 impl Stored {
@@ -32,7 +33,9 @@ impl Stored {
         parents: Vec<usize>,
         homes: Vec<usize>,
     ) -> Stored
-        requires { IsClustered record { ids = ids.items; ends = ends.items; parents = parents.items; homes = homes.items } }
+        requires clustered { IsClustered record { ids = ids.items; ends = ends.items; parents = parents.items; homes = homes.items } }
+        requires few_edges { length ends.items < 2 ^ 60 }
+        requires few_parents { length parents.items < 2 ^ 60 }
         ensures { result ≡ record { ids = ids.items; ends = ends.items; parents = parents.items; homes = homes.items } }
     {
         Stored {
@@ -43,9 +46,12 @@ impl Stored {
         }
     }
 
-    // Edges end at nodes, homes and parents are clusters, and parents have lower numbers.
+    // Edges end at nodes, homes and parents are clusters, and parents have lower numbers; neither edges
+    // nor clusters are more than 2^60.
     pub(crate) fn is_clustered(&self)
-        ensures { IsClustered self.now }
+        ensures clustered { IsClustered self.now }
+        ensures few_edges { edges self.now < 2 ^ 60 }
+        ensures few_clusters { clusters self.now ≤ 2 ^ 60 }
     {
         let _ = &self.homes;
     }

@@ -1,6 +1,6 @@
 // Walks outward through nested clusters.
-ghost use Rattle.std.specs.Prelude.{◌≡◌, ◌<◌, ◌^◌, ◌++◌, IfOk, length, reverse};
-ghost use Rattle.cp_cgraph.specs.Clustered.{IsClustered, edges};
+ghost use Rattle.std.specs.Prelude.{◌≡◌, ◌<◌, ◌≤◌, ◌^◌, ◌++◌, IfOk, length, reverse};
+ghost use Rattle.cp_cgraph.specs.Clustered.{IsClustered, clusters, edges};
 ghost use Rattle.cp_cgraph.specs.Crossings.{crossings};
 
 use crate::stored::Stored;
@@ -47,12 +47,12 @@ pub(crate) fn with_reversed(first: Vec<usize>, second: Vec<usize>) -> Result<Vec
 // The number of clusters that edge `e` leaves.
 pub(crate) fn crossing_count(g: &Stored, e: usize) -> usize
     requires clustered { IsClustered g.now }
+    requires few_clusters { clusters g.now ≤ 2 ^ 60 }
     requires edge { e < edges g.now }
     ensures value { result ≡ length (crossings g.now e) }
     ensures bound { result < 2 ^ 61 }
 {
     let (source, target) = g.ends(e);
-    let _clusters = g.clusters();
     let mut left = 0;
     let mut entered = 0;
     let mut outer = g.home(source);

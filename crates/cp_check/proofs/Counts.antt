@@ -1,5 +1,5 @@
 -- How large the counts of a border graph are, and what they tell of a layout.
-use Rattle.std.proofs.Common.{◌≡◌, ℕ, ◌+◌, ◌*◌, ◌/◌, ◌^◌, ◌<◌, Option, None, Some, MatchOption, subst, Fits as FitsIn, w64, arith}
+use Rattle.std.proofs.Common.{◌≡◌, ℕ, ◌+◌, ◌*◌, ◌/◌, ◌^◌, ◌<◌, Option, None, Some, MatchOption, subst, Fits, w64, arith}
 use Rattle.cp_cgraph.specs.Clustered.{Clustered}
 use Rattle.cp_cgraph.specs.declared.layout.Layout.{Layout}
 use Rattle.cp_rot.specs.Systems.{System, darts}
@@ -13,7 +13,7 @@ use Rattle.cp_check.specs.declared.verdict.Reject.TheVariants.{NoLayout, NodeLin
 
 -- counts that are not too many fit 64 bits
 pub small_sums : (r : System) (v n f c : ℕ) → v ≡ r.vertices → n ≡ darts r → v < 2 ^ 60 → n < 2 ^ 60 → FaceCount r f →
-    ComponentCount r c → FitsIn w64 (v + f) × FitsIn w64 (2 * c) × FitsIn w64 (n / 2 + 2 * c)
+    ComponentCount r c → Fits w64 (v + f) × Fits w64 (2 * c) × Fits w64 (n / 2 + 2 * c)
 small_sums r v n f c ev en bv bn faces components =
     let few = FaceCount-le r f faces in
     let fewer = ComponentCount-le r c components in

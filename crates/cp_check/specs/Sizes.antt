@@ -1,7 +1,7 @@
 -- How much room the check of a layout needs.
 use Rattle.std.specs.Prelude.{◌≡◌, ℕ, ◌+◌, ◌*◌}
 use Rattle.cp_cgraph.specs.Clustered.{Clustered, nodes, edges, clusters}
-use Rattle.cp_border.specs.Borders.{before, crossed}
+use Rattle.cp_border.specs.Borders.{sum_below, crossed}
 use Rattle.cp_border.specs.Tables.{Tables, HasPlaces}
 
 -- numbers of nodes, edges, clusters and border vertices
@@ -13,10 +13,10 @@ pub record Sizes : Type 0 where
 
 -- how many border vertices the edges of a graph have
 abbrev pub border_vertices : Clustered → ℕ
-border_vertices g = before (crossed g) (edges g)
+border_vertices g = sum_below (crossed g) (edges g)
 
 -- the graph has these numbers
-pub record Fits (s : Sizes) (g : Clustered) : Type 0 where
+pub record AreSizesOf (s : Sizes) (g : Clustered) : Type 0 where
   pub nodes_fit : s.nodes ≡ nodes g
   pub edges_fit : s.edges ≡ edges g
   pub clusters_fit : s.clusters ≡ clusters g

@@ -5,7 +5,7 @@ ghost use Rattle.cp_rot.specs.Genus.{HasGenusZero};
 ghost use Rattle.cp_border.specs.Good.{IsArranged, IsCPlanar, IsFirstWrongNode, IsGood, IsRightCluster, IsRightNode};
 ghost use Rattle.cp_border.specs.Lines.{IsFirstWrongBorder};
 ghost use Rattle.cp_check.specs.Judging.{IsGenusReason, IsGoodReport, IsLayoutReason, IsVerdict};
-ghost use Rattle.cp_check.specs.Sizes.{Fits};
+ghost use Rattle.cp_check.specs.Sizes.{AreSizesOf};
 
 use crate::{Reject, Scratch, Verdict};
 use cp_border::{View, first_wrong_cluster_in, first_wrong_node_in, write_tables};
@@ -37,7 +37,7 @@ fn genus_reason<T: RotationSystem>(
 
 // The first node whose line is wrong.
 fn wrong_node(g: &CGraph, lay: &Layout, s: &mut Scratch) -> Option<usize>
-    requires { Fits s.old g.now }
+    requires { AreSizesOf s.old g.now }
     ensures first { MatchOption result ((i : ℕ) → IsRightNode g.now lay.now i) (λ i. IsFirstWrongNode g.now lay.now i) }
     ensures kept { s.new ≡ s.old }
 {
@@ -46,7 +46,7 @@ fn wrong_node(g: &CGraph, lay: &Layout, s: &mut Scratch) -> Option<usize>
 
 // The first cluster whose line is wrong.
 fn wrong_cluster(g: &CGraph, lay: &Layout, s: &mut Scratch) -> Option<usize>
-    requires { Fits s.old g.now }
+    requires { AreSizesOf s.old g.now }
     ensures first { MatchOption result ((k : ℕ) → IsRightCluster g.now lay.now k) (λ k. IsFirstWrongBorder g.now lay.now k) }
     ensures kept { s.new ≡ s.old }
 {
@@ -55,7 +55,7 @@ fn wrong_cluster(g: &CGraph, lay: &Layout, s: &mut Scratch) -> Option<usize>
 
 // Whether the border graph of right lines has another genus than zero.
 fn wrong_genus(g: &CGraph, lay: &Layout, s: &mut Scratch) -> Option<Reject>
-    requires fits { Fits s.old g.now }
+    requires fits { AreSizesOf s.old g.now }
     requires arranged { IsArranged g.now lay.now }
     ensures reason { MatchOption result (IsGood g.now lay.now) (IsLayoutReason g.now lay.now) }
     ensures kept { s.new ≡ s.old }
@@ -67,7 +67,7 @@ fn wrong_genus(g: &CGraph, lay: &Layout, s: &mut Scratch) -> Option<Reject>
 
 // The first reason for which the layout is not good for the graph, or `None` where it is good.
 fn layout_reason(g: &CGraph, lay: &Layout, s: &mut Scratch) -> Option<Reject>
-    requires { Fits s.old g.now }
+    requires { AreSizesOf s.old g.now }
     ensures reason { MatchOption result (IsGood g.now lay.now) (IsLayoutReason g.now lay.now) }
     ensures kept { s.new ≡ s.old }
 {
@@ -80,11 +80,11 @@ fn layout_reason(g: &CGraph, lay: &Layout, s: &mut Scratch) -> Option<Reject>
     wrong_genus(g, lay, s)
 }
 
-/// Whether the report has a good layout for the graph, or the first reason why it has none. A graph with a good
-/// layout is c-planar (Feng, Cohen, Eades 1995). Takes no memory, and the scratch fits the graph afterwards. Linear in the graph, the report and the border
-/// graph.
+/// Whether the report has a good layout for the graph, or the first reason why it has none. A graph
+/// with a good layout is c-planar (Feng, Cohen, Eades 1995). Takes no memory, and the scratch fits
+/// the graph afterwards. Linear in the graph, the report and the border graph.
 pub fn check(g: &CGraph, report: &Report, s: &mut Scratch) -> Verdict
-    requires { Fits s.old g.now }
+    requires { AreSizesOf s.old g.now }
     ensures accepted { (result ≡ Verdict.Accepted) ↔ IsGoodReport g.now report.now }
     ensures planar { result ≡ Verdict.Accepted → IsCPlanar g.now }
     ensures verdict { IsVerdict g.now report.now result }

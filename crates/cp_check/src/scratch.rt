@@ -1,7 +1,7 @@
 // The room in which layouts of a graph are checked.
 ghost use Rattle.std.specs.Prelude.{◌≡◌, ◌↔◌, IsTrue, IfOk, length};
 ghost use Rattle.cp_border.specs.Tables.{HasPlaces};
-ghost use Rattle.cp_check.specs.Sizes.{Fits, border_vertices};
+ghost use Rattle.cp_check.specs.Sizes.{AreSizesOf, border_vertices};
 
 use cp_base::Memory;
 use cp_border::BorderTables;
@@ -89,7 +89,7 @@ impl Scratch {
     /// the border graph has more vertices or edges than any memory holds. Linear in the numbers of
     /// nodes, clusters, edges and border vertices.
     pub fn for_graph(alloc: Global, g: &CGraph) -> Result<Scratch, Memory>
-        ensures { IfOk result (λ s. Fits s g.now) }
+        ensures { IfOk result (λ s. AreSizesOf s g.now) }
     {
         let tables = BorderTables::for_graph(alloc, g)?;
         Scratch::with_tables(alloc, g.nodes(), g.edges(), g.clusters(), tables)
@@ -98,7 +98,7 @@ impl Scratch {
     /// Whether layouts of the graph can be checked here: it has the same numbers of nodes, edges,
     /// clusters and border vertices. Linear in the number of edges.
     pub fn fits(&self, g: &CGraph) -> bool
-        ensures { IsTrue result ↔ Fits self.now g.now }
+        ensures { IsTrue result ↔ AreSizesOf self.now g.now }
     {
         self.nodes == g.nodes()
             && self.edges == g.edges()

@@ -17,30 +17,33 @@ pub adjacent_neighbour : (es : List (ℕ × ℕ)) (s t : ℕ) → HaveNoLoop es 
 adjacent_neighbour es s t no_loop a =
     record { pair = a.pair; contained = a.contained; joined = a.joined; other = differ }
   where
+    -- the edge stands where it was found
     at : get_or es a.contained.0 (0, 0) ≡ a.pair
     at = get_or_default es a.contained.0 (0, 0) a.pair a.contained.1 ∙ a.contained.2
 
+    -- its two ends differ
     one_end : a.pair.0 ≡ a.pair.1 → ⊥
     one_end e = no_loop a.contained.0 a.contained.1 (ap (λ (p : ℕ × ℕ). p.0) at ∙ e ∙ sym (ap (λ (p : ℕ × ℕ). p.1) at))
 
+    -- so s and t differ
     differ : t ≡ s → ⊥
     differ e = ⊎_elim (λ j. one_end (j.0 ∙ sym e ∙ sym j.1)) (λ j. one_end (j.0 ∙ e ∙ sym j.1)) a.joined
 
--- what stands on the two sides of the vertex at place k
+-- the k-th vertex of the tree has a neighbour before it and one behind it
 record Sides (es : List (ℕ × ℕ)) (n : ℕ) (order places : List ℕ) (k : ℕ) : Type 0 where
   lower : (j : ℕ) × (j < n) × (get_or places j 0 < get_or places k 0)
       × AreAdjacent es (get_or order k 0) (get_or order j 0)
   upper : (j : ℕ) × (j < n) × (get_or places k 0 < get_or places j 0)
       × AreAdjacent es (get_or order k 0) (get_or order j 0)
 
--- a neighbour on the side of the low point
+-- some neighbour of the k-th vertex of the tree stands on the same side of it as the u-th vertex
 abbrev OnLowSide : List (ℕ × ℕ) → ℕ → List ℕ → List ℕ → ℕ → ℕ → Type 0
 OnLowSide es n order places k u =
-    (j : ℕ) × (j < n) × (get_or places u 0 < get_or places k 0 → get_or places j 0 < get_or places k 0) × (get_or places
-    k 0 < get_or places u 0 → get_or places k 0 < get_or places j 0) × AreAdjacent es (get_or order k 0)
-    (get_or order j 0)
+    (j : ℕ) × (j < n) × (get_or places u 0 < get_or places k 0 → get_or places j 0 < get_or places k 0)
+    × (get_or places k 0 < get_or places u 0 → get_or places k 0 < get_or places j 0)
+    × AreAdjacent es (get_or order k 0) (get_or order j 0)
 
--- from the third vertex on there is a neighbour on the side of the low point
+-- each vertex from the third on has a neighbour on the side of its low point
 low_side : (es : List (ℕ × ℕ)) (n : ℕ) (order up low places : List ℕ) (k : ℕ) → IsSearchTree es n order up low
     → ArePlaces n up low places → 1 < k → k < n → OnLowSide es n order places k (get_or low k 0)
 low_side es n order up low places k t pl late lt =
@@ -72,7 +75,7 @@ low_side es n order up low places k t pl late lt =
     ))
     (t.low_reached k late lt)
 
--- from the third vertex on there is a neighbour on each side
+-- each vertex from the third on has a neighbour on each side
 sides : (es : List (ℕ × ℕ)) (n : ℕ) (order up low places : List ℕ) (k : ℕ) → IsSearchTree es n order up low
     → ArePlaces n up low places → 1 < k → k < n → Sides es n order places k
 sides es n order up low places k t pl late lt =
@@ -86,7 +89,7 @@ sides es n order up low places k t pl late lt =
     (λ b. record { lower = (get_or up k 0, ltp, b.0, parent); upper = (o.0, o.1, o.3 b.1, o.4) })
     (pl.between k late lt)
 
--- the vertices of a search tree, each at its place
+-- the vertices of a search tree, each at its place, are a bipolar order
 pub bipolar_of : (g : PlainGraph) (s t : ℕ) (order up low places found : List ℕ)
     → IsSearchTree g.ends g.vertices order up low → get_or order 0 0 ≡ s → get_or order 1 0 ≡ t
     → ArePlaces g.vertices up low places → StandAt order places found (length order) → IsBipolar g s t found
@@ -137,21 +140,27 @@ bipolar_of g s t order up low places found tree s_is t_is pl st = record {
       );
 }
   where
+    -- there are as many places as vertices
     size : length found ≡ g.vertices
     size = st.size ∙ tree.order_size
 
+    -- at the place of the k-th vertex of the tree stands that vertex
     at : (k : ℕ) → k < g.vertices → get_or found (get_or places k 0) 0 ≡ get_or order k 0
     at k lt = st.each k (omega (arith, lt, tree.order_size))
 
+    -- no two vertices have one place
     permutes : Permutes g.vertices (λ x. get_or places x 0)
     permutes = record { below = pl.within; apart = pl.apart }
 
+    -- each place is that of some vertex
     onto : (i : ℕ) → i < length found → (k : ℕ) × (k < g.vertices) × (get_or places k 0 ≡ i)
     onto i lt = Permutes-onto g.vertices (λ x. get_or places x 0) permutes i (omega (arith, lt, size))
 
+    -- what stands at a place is the vertex that has it
     found_at : (i : ℕ) (lt : i < length found) → get_or found i 0 ≡ get_or order (onto i lt).0 0
     found_at i lt = let k = onto i lt in ap (λ (z : ℕ). get_or found z 0) (sym k.2) ∙ at k.0 k.1
 
+    -- a vertex that is neither first nor last has a neighbour on each side
     inner : (i : ℕ) → 0 < i → (lt : i + 1 < length found)
         → Sides g.ends g.vertices order places (onto i (omega arith)).0
     inner i some lt =

@@ -14,7 +14,7 @@ use Rattle.cp_ears.specs.Induced.{is_item, induced, InduceConnected}
 pub AreAdjacent-sym : (es : List (ℕ × ℕ)) (x y : ℕ) → AreAdjacent es x y → AreAdjacent es y x
 AreAdjacent-sym es x y a = record { pair = a.pair; contained = a.contained; joined = Joins-sym a.pair x y a.joined }
 
--- what stands at a place is an item
+-- what stands at a place of a list is an item of it
 item_at : (xs : List ℕ) (i : ℕ) → i < length xs → is_item xs (get_or xs i 0) ≡ true
 item_at [] i lt = absurd (omega arith)
 item_at (x ∷ xs) zero lt = or_left (eqb x x) (is_item xs x) (eq-eqb x x refl)
@@ -42,6 +42,7 @@ connected_down es xs near i j lti ltj =
     Connected-trans (induced xs es) (get_or xs i 0) (get_or xs 0 0) (get_or xs j 0) (down (suc i) i (omega arith) lti)
     (Connected-sym (induced xs es) (get_or xs j 0) (get_or xs 0 0) (down (suc j) j (omega arith) ltj))
   where
+    -- each item is connected with the first, by steps to earlier ones
     down : (k i : ℕ) → i < k → i < length xs → Connected (induced xs es) (get_or xs i 0) (get_or xs 0 0)
     down zero i less lt = absurd (omega arith)
     down (suc k) i less lt = ⊎_elim
@@ -62,6 +63,7 @@ connected_up es xs near i j lti ltj =
     (Connected-sym (induced xs es) (get_or xs j 0) (get_or xs (length xs - 1) 0)
     (rise (length xs - j) j (omega arith) ltj))
   where
+    -- each item is connected with the last, by steps to later ones
     rise : (k i : ℕ) → length xs ≤ k + i → i < length xs
         → Connected (induced xs es) (get_or xs i 0) (get_or xs (length xs - 1) 0)
     rise zero i less lt = absurd (omega arith)
@@ -103,7 +105,7 @@ after_each g s t order i a b lt = ⊎_elim
     (λ ne. b.after i (omega arith) lt)
     (cases_eq i 0)
 
--- each beginning induces a connected graph
+-- each beginning of a bipolar order induces a connected graph, where the ends are adjacent
 pub prefix_connected : (g : PlainGraph) (s t : ℕ) (order : List ℕ) (count : ℕ) → AreAdjacent g.ends s t
     → IsBipolar g s t order → InduceConnected g.ends (take count order)
 prefix_connected g s t order count a b = connected_down g.ends (take count order) (λ i some lt.
@@ -119,7 +121,7 @@ prefix_connected g s t order count a b = connected_down g.ends (take count order
           (sym (get_or-take count order n.0 0 (omega (arith, lt, short.0, n.1)))) n.2),
     ))
 
--- each end induces a connected graph
+-- each end of a bipolar order induces a connected graph, where the ends are adjacent
 pub suffix_connected : (g : PlainGraph) (s t : ℕ) (order : List ℕ) (count : ℕ) → AreAdjacent g.ends s t
     → IsBipolar g s t order → InduceConnected g.ends (drop count order)
 suffix_connected g s t order count a b = connected_up g.ends (drop count order) (λ i lt.

@@ -17,7 +17,7 @@ pub record Puts (k p u : ℕ) (places room places' room' : List ℕ) : Type 0 wh
       × (get_or places' k 0 ≡ get_or places p 0 + (get_or room p 0 - get_or room k 0))
       × (get_or places' p 0 ≡ get_or places p 0))
 
--- one vertex more has its place
+-- where vertex k is put beside its parent, one vertex more has its place
 pub put_step : (n k : ℕ) (up low places room places' room' : List ℕ) → IsTree n up low
     → IsPlacing n up low places room k → 0 < k → k < n
     → Puts k (get_or up k 0) (get_or low k 0) places room places' room' → IsPlacing n up low places' room' (k + 1)
@@ -61,34 +61,43 @@ put_step n k up low places room places' room' t s some lt h = record {
   last = λ late. last_kept late;
 }
   where
+    -- the parent of vertex k
     p : ℕ
     p = get_or up k 0
 
+    -- the low point of vertex k
     u : ℕ
     u = get_or low k 0
 
+    -- the parent has a lower number
     lower : get_or up k 0 < k
     lower = t.up_lower k some lt
 
+    -- the parent has room for vertex k and for itself
     enough : 1 + get_or room k 0 ≤ get_or room p 0
     enough = room_enough n k up room s.have lt lower
 
+    -- the parent keeps the room that vertex k does not take
     room_at : get_or room' p 0 ≡ get_or room p 0 - get_or room k 0
     room_at = ap (λ (xs : List ℕ). get_or xs p 0) h.room_is
         ∙ get_or-set_same room p (get_or room p 0 - get_or room k 0) 0 (omega (arith, lower, lt, s.have.size))
 
+    -- all others have as much room as before
     room_other : (x : ℕ) → x ≢ p → get_or room' x 0 ≡ get_or room x 0
     room_other x ne = ap (λ (xs : List ℕ). get_or xs x 0) h.room_is
         ∙ get_or-set_other room p x (get_or room p 0 - get_or room k 0) 0 ne
 
+    -- vertex k has as much room as before
     room_new : get_or room' k 0 ≡ get_or room k 0
     room_new = room_other k (λ e. omega (arith, lower))
 
+    -- the new room of the parent lies within its old one
     nest_p : (get_or places p 0 ≤ get_or places' p 0)
         × (get_or places' p 0 + get_or room' p 0 ≤ get_or places p 0 + get_or room p 0)
     nest_p = ⊎_elim (λ f. (omega (arith, f.2), omega (arith, f.2, room_at, enough)))
         (λ b. (omega (arith, b.2), omega (arith, b.2, room_at, enough))) h.side
 
+    -- the new room of each earlier vertex lies within its old one
     nest : (x : ℕ) → x < k → (get_or places x 0 ≤ get_or places' x 0)
         × (get_or places' x 0 + get_or room' x 0 ≤ get_or places x 0 + get_or room x 0)
     nest x ltx = ⊎_elim
@@ -98,17 +107,21 @@ put_step n k up low places room places' room' t s some lt h = record {
         (omega (arith, same), omega (arith, same, room_other x ne)))
         (cases_eq x p)
 
+    -- the room of vertex k lies within the old one of its parent
     inside : (get_or places p 0 ≤ get_or places' k 0)
         × (get_or places' k 0 + get_or room' k 0 ≤ get_or places p 0 + get_or room p 0)
     inside = ⊎_elim (λ f. (omega (arith, f.1), omega (arith, f.1, room_new, enough)))
         (λ b. (omega (arith, b.1), omega (arith, b.1, room_new, enough))) h.side
 
+    -- the rooms of vertex k and of its parent are apart
     beside : IsBefore places' room' p k ⊎ IsBefore places' room' k p
     beside = ⊎_elim (λ f. inr (omega (arith, f.1, f.2, room_new))) (λ b. inl (omega (arith, b.1, b.2, room_at))) h.side
 
+    -- of two earlier vertices the one that stood first still stands first
     kept : (x y : ℕ) → x < k → y < k → IsBefore places room x y → IsBefore places' room' x y
     kept x y ltx lty b = omega (arith, nest x ltx, nest y lty, b)
 
+    -- the room of vertex k is apart from that of each earlier vertex
     new_apart : (y : ℕ) → y < k → IsBefore places' room' y k ⊎ IsBefore places' room' k y
     new_apart y lty = ⊎_elim
         (λ e. subst (λ (z : ℕ). IsBefore places' room' z k ⊎ IsBefore places' room' k z) (sym e) beside)
@@ -116,6 +129,7 @@ put_step n k up low places room places' room' t s some lt h = record {
         (λ b. inr (omega (arith, b, nest y lty, inside))) (s.apart y p lty lower ne))
         (cases_eq y p)
 
+    -- vertex k stands between its low point and its parent
     new_between : 1 < k → (IsBefore places' room' u k × IsBefore places' room' k p)
         ⊎ (IsBefore places' room' p k × IsBefore places' room' k u)
     new_between late =
@@ -134,9 +148,11 @@ put_step n k up low places room places' room' t s some lt h = record {
         h.side)
         (s.apart u p ltu lower (λ e. omega (arith, less)))
 
+    -- the parent and the low point of the second vertex are the first
     early : (k ≡ 1) → (p ≡ 0) × (u ≡ 0)
     early e = (omega (arith, lower), ap (λ (z : ℕ). get_or low z 0) e ∙ t.second_low)
 
+    -- the second vertex is put at the back of the room of the first
     front : k ≡ 1 → (get_or places' p 0 ≡ get_or places p 0)
         × (get_or places' k 0 ≡ get_or places p 0 + (get_or room p 0 - get_or room k 0))
     front e = ⊎_elim (λ f. absurd
@@ -148,6 +164,7 @@ put_step n k up low places room places' room' t s some lt h = record {
               (early e).1,
         ))) (λ g. (g.2, g.1)) h.side
 
+    -- the first vertex keeps place 0
     first_kept : get_or places' 0 0 ≡ 0
     first_kept = ⊎_elim
         (λ e. let z : p ≡ 0 = (early e).0 in ap (λ (x : ℕ). get_or places' x 0) (sym z) ∙ (front e).0
@@ -155,6 +172,7 @@ put_step n k up low places room places' room' t s some lt h = record {
         (λ ne. h.others 0 (λ e. omega (arith, t.low_lower k (omega arith) lt)) (λ e. omega arith) ∙ s.first)
         (cases_eq k 1)
 
+    -- the room of the second vertex still ends with all the room
     last_kept : 1 < k + 1 → get_or places' 1 0 + get_or room' 1 0 ≡ n
     last_kept late = ⊎_elim
         (λ e. let z : p ≡ 0 = (early e).0 in
@@ -181,6 +199,7 @@ put_step n k up low places room places' room' t s some lt h = record {
         )) (cases_eq p 1))
         (cases_eq k 1)
       where
+        -- also where vertex k is a child of the second vertex
         beside_last : 1 < k → p ≡ 1 → get_or places' 1 0 + get_or room' 1 0 ≡ n
         beside_last l e =
             let z : u ≡ 0 = omega (arith, t.low_lower k l lt, e) in
@@ -234,13 +253,15 @@ placing_start n up low places room two s is = record {
   last = λ late. absurd (omega arith);
 }
   where
+    -- the first vertex has place 0
     zero_first : get_or places 0 0 ≡ 0
     zero_first = ap (λ (xs : List ℕ). get_or xs 0 0) is ∙ get_or-replicate {A = ℕ} n 0 0 0 (omega arith)
 
+    -- the first vertex has all the room
     whole : get_or room 0 0 ≡ n
     whole = omega (arith, s.whole)
 
--- where all vertices have their places
+-- where all vertices have their places, each stands between its low point and its parent
 pub placing_end : (n : ℕ) (up low places room : List ℕ) → 1 < n → IsTree n up low → IsPlacing n up low places room n
     → ArePlaces n up low places
 placing_end n up low places room two t s = record {
@@ -260,6 +281,7 @@ placing_end n up low places room two t s = record {
       (s.between x late lt);
 }
   where
+    -- each vertex has room for itself alone
     one : (x : ℕ) → x < n → get_or room x 0 ≡ 1
     one x lt = room_one n x up room s.have lt
 
@@ -340,37 +362,48 @@ put_front n k a b x y q r up low places room t s some lt a_is b_is x_is y_is les
       );
     })
   where
+    -- the parent of vertex k
     p : ℕ
     p = get_or up k 0
 
+    -- the parent has a lower number
     lower : get_or up k 0 < k
     lower = t.up_lower k some lt
 
+    -- the parent has a place in the table
     ltp : get_or up k 0 < length places
     ltp = omega (arith, lower, lt, s.size)
 
+    -- the low point has a place in the table
     ltu : get_or low k 0 < length places
     ltu = ⊎_elim (λ e. omega (arith, ap (λ (z : ℕ). get_or low z 0) e, t.second_low, lt, s.size))
         (λ ne. omega (arith, t.low_lower k (omega arith) lt, ltp)) (cases_eq k 1)
 
+    -- the table stays as long as it was
     size_q : length (set places k q) ≡ length places
     size_q = length-set places k q
 
+    -- a is the room of the parent
     at_a : a ≡ get_or room p 0
     at_a = get_or_read room p a (omega (arith, lower, lt, s.have.size)) a_is 0
 
+    -- b is the room of vertex k
     at_b : b ≡ get_or room k 0
     at_b = get_or_read room k b (omega (arith, lt, s.have.size)) b_is 0
 
+    -- x is the place of the low point
     at_x : x ≡ get_or places (get_or low k 0) 0
     at_x = get_or_read places (get_or low k 0) x ltu x_is 0
 
+    -- y is the place of the parent
     at_y : y ≡ get_or places p 0
     at_y = get_or_read places p y ltp y_is 0
 
+    -- q is the place of the parent
     at_q : q ≡ get_or places p 0
     at_q = get_or_read places p q ltp q_is 0
 
+    -- r is the place of the parent too, since vertex k is another one
     at_r : r ≡ get_or places p 0
     at_r = get_or_read (set places k q) p r (omega (arith, size_q, ltp)) r_is 0
         ∙ get_or-set_other places k p q 0 (λ e. omega (arith, lower))
@@ -393,34 +426,44 @@ put_back n k a b x y q r up low places room t s some lt a_is b_is x_is y_is le q
       );
     })
   where
+    -- the parent of vertex k
     p : ℕ
     p = get_or up k 0
 
+    -- the parent has a lower number
     lower : get_or up k 0 < k
     lower = t.up_lower k some lt
 
+    -- the parent has a place in the table
     ltp : get_or up k 0 < length places
     ltp = omega (arith, lower, lt, s.size)
 
+    -- the low point has a place in the table
     ltu : get_or low k 0 < length places
     ltu = ⊎_elim (λ e. omega (arith, ap (λ (z : ℕ). get_or low z 0) e, t.second_low, lt, s.size))
         (λ ne. omega (arith, t.low_lower k (omega arith) lt, ltp)) (cases_eq k 1)
 
+    -- a is the room of the parent
     at_a : a ≡ get_or room p 0
     at_a = get_or_read room p a (omega (arith, lower, lt, s.have.size)) a_is 0
 
+    -- b is the room of vertex k
     at_b : b ≡ get_or room k 0
     at_b = get_or_read room k b (omega (arith, lt, s.have.size)) b_is 0
 
+    -- x is the place of the low point
     at_x : x ≡ get_or places (get_or low k 0) 0
     at_x = get_or_read places (get_or low k 0) x ltu x_is 0
 
+    -- y is the place of the parent
     at_y : y ≡ get_or places p 0
     at_y = get_or_read places p y ltp y_is 0
 
+    -- q is the place of the parent
     at_q : q ≡ get_or places p 0
     at_q = get_or_read places p q ltp q_is 0
 
+    -- r is the room that the parent keeps
     at_r : r ≡ a - b
     at_r = get_or_read (set room p (a - b)) p r
         (omega (arith, length-set room p (a - b), lower, lt, s.have.size)) r_is 0

@@ -5,17 +5,17 @@ use Rattle.std.proofs.lemmas.Bool.{cases_eq, eq-eqb, ne_eqb}
 use Rattle.std.proofs.lemmas.List.{get_or-set_same, get_or-set_other, get_or-replicate, length-set, length-replicate}
 use Rattle.cp_ears.specs.Placing.{children_from, total, HaveRoom, ShareRoom}
 
--- a child more
+-- where vertex k is a child of p, its room comes to that of the later children
 children_at : (up room : List ℕ) (p k more : ℕ) → get_or up k 0 ≡ p
     → children_from up room p k (suc more) ≡ get_or room k 0 + children_from up room p (suc k) more
 children_at up room p k more e = rw (eq-eqb (get_or up k 0) p e) refl
 
--- a vertex that is no child
+-- where vertex k is no child of p, only the later children have room
 children_other : (up room : List ℕ) (p k more : ℕ) → get_or up k 0 ≢ p
     → children_from up room p k (suc more) ≡ children_from up room p (suc k) more
 children_other up room p k more ne = rw (ne_eqb (get_or up k 0) p ne) (omega arith)
 
--- what the children have does not turn on the room of lower vertices
+-- the room of the children from k on does not turn on that of vertices before k
 children_same : (up room room' : List ℕ) (p k more : ℕ) → ((j : ℕ) → k ≤ j → get_or room' j 0 ≡ get_or room j 0)
     → children_from up room' p k more ≡ children_from up room p k more
 children_same up room room' p k zero same = refl
@@ -28,21 +28,21 @@ children_same up room room' p k (suc more) same =
     (λ ne. children_other up room' p k more ne ∙ rest ∙ sym (children_other up room p k more ne))
     (cases_eq (get_or up k 0) p)
 
--- the room of one of the first vertices is a part of the room of all of them
+-- one of the first k vertices has no more room than they all have
 pub total_item : (room : List ℕ) (k x : ℕ) → x < k → get_or room x 0 ≤ total room k
 total_item room zero x lt = absurd (omega arith)
 total_item room (suc k) x lt =
     ⊎_elim (λ e. omega (arith, ap (λ (z : ℕ). get_or room z 0) e))
     (λ ne. omega (arith, total_item room k x (omega arith))) (cases_eq x k)
 
--- the first vertices have as much room where it changes behind them
+-- the first k vertices have as much room where only that of later vertices changes
 total_same : (room room' : List ℕ) (k : ℕ) → ((x : ℕ) → x < k → get_or room' x 0 ≡ get_or room x 0)
     → total room' k ≡ total room k
 total_same room room' zero same = refl
 total_same room room' (suc k) same =
     omega (arith, same k (omega arith), total_same room room' k (λ x lt. same x (omega arith)))
 
--- one of the first vertices gets more room
+-- where one of the first k vertices gets more room, they all have so much more
 total_more : (room room' : List ℕ) (k p more : ℕ) → p < k → get_or room' p 0 ≡ get_or room p 0 + more
     → ((x : ℕ) → x ≢ p → get_or room' x 0 ≡ get_or room x 0) → total room' k ≡ total room k + more
 total_more room room' zero p more lt at other = absurd (omega arith)
@@ -59,7 +59,7 @@ total_more room room' (suc k) p more lt at other =
     (λ ne. omega (arith, other k (λ f. ne (sym f)), total_more room room' k p more (omega arith) at other))
     (cases_eq p k)
 
--- the first so many vertices have one each
+-- where each vertex has room for one, the first k vertices have room for k
 total_ones : (room : List ℕ) (n k : ℕ) → room ≡ replicate n 1 → k ≤ n → total room k ≡ k
 total_ones room n zero is le = refl
 total_ones room n (suc k) is le =
@@ -71,7 +71,7 @@ total_ones room n (suc k) is le =
       total_ones room n k is (omega arith),
     )
 
--- at the start each vertex has room for itself
+-- where each vertex has room for one, they share all the room
 pub share_start : (n : ℕ) (up room : List ℕ) → room ≡ replicate n 1 → ShareRoom n up room n
 share_start n up room is = record {
   have = record {
@@ -83,7 +83,7 @@ share_start n up room is = record {
   whole = total_ones room n n is (omega arith);
 }
 
--- a vertex gives its room to its parent too
+-- where vertex k gives its room to its parent too, the vertices before k share all the room
 pub share_step : (n k : ℕ) (up room room' : List ℕ) → ShareRoom n up room (k + 1) → k < n → get_or up k 0 < k
     → room' ≡ set room (get_or up k 0) (get_or room (get_or up k 0) 0 + get_or room k 0) → ShareRoom n up room' k
 share_step n k up room room' s lt lower is = record {
@@ -95,23 +95,29 @@ share_step n k up room room' s lt lower is = record {
   whole = omega (arith, total_more room room' k p (get_or room k 0) lower at other, s.whole, ap (total room) next);
 }
   where
+    -- the parent of vertex k
     p : ℕ
     p = get_or up k 0
 
+    -- two forms of one number
     next : k + 1 ≡ suc k
     next = omega arith
 
+    -- the parent gets the room of vertex k beside its own
     at : get_or room' p 0 ≡ get_or room p 0 + get_or room k 0
     at = ap (λ (xs : List ℕ). get_or xs p 0) is
         ∙ get_or-set_same room p (get_or room p 0 + get_or room k 0) 0 (omega (arith, lower, lt, s.have.size))
 
+    -- all others have as much room as before
     other : (x : ℕ) → x ≢ p → get_or room' x 0 ≡ get_or room x 0
     other x ne = ap (λ (xs : List ℕ). get_or xs x 0) is
         ∙ get_or-set_other room p x (get_or room p 0 + get_or room k 0) 0 ne
 
+    -- what later children have is as before
     rest : (q more : ℕ) → children_from up room' q (suc k) more ≡ children_from up room q (suc k) more
     rest q more = children_same up room room' q (suc k) more (λ j le. other j (λ e. omega (arith, lower)))
 
+    -- each vertex has room for itself and for its children from k on
     each : (q more : ℕ) → q < n → k + more ≡ n → get_or room' q 0 ≡ 1 + children_from up room' q k more
     each q zero ltq e = absurd (omega arith)
     each q (suc more) ltq e =
@@ -133,7 +139,7 @@ share_step n k up room room' s lt lower is = record {
         (λ ne. omega (arith, other q (λ g. ne (sym g)), old, children_other up room' q k more ne, rest q more))
         (cases_eq p q)
 
--- a vertex with a parent that has room for it
+-- the parent of vertex k has more room than vertex k
 pub room_enough : (n k : ℕ) (up room : List ℕ) → HaveRoom n up room k → k < n → get_or up k 0 < k
     → 1 + get_or room k 0 ≤ get_or room (get_or up k 0) 0
 room_enough n k up room h lt lower =
@@ -145,15 +151,15 @@ room_enough n k up room h lt lower =
           (get_or up k 0) k more refl,
     )
 
--- each vertex has room for itself
+-- each vertex has room for one at least
 pub room_some : (n k x : ℕ) (up room : List ℕ) → HaveRoom n up room k → k ≤ n → x < n → 1 ≤ get_or room x 0
 room_some n k x up room h le lt = omega (arith, h.each x (n - k) lt (omega arith))
 
--- where all have their places each has room for itself alone
+-- where all have their places each has room for one
 pub room_one : (n x : ℕ) (up room : List ℕ) → HaveRoom n up room n → x < n → get_or room x 0 ≡ 1
 room_one n x up room h lt = h.each x 0 lt (omega arith)
 
--- a parent that has given room to its child
+-- where the parent of vertex k gives away the room of vertex k, it keeps room for its later children
 pub have_step : (n k : ℕ) (up room room' : List ℕ) → HaveRoom n up room k → k < n → get_or up k 0 < k
     → room' ≡ set room (get_or up k 0) (get_or room (get_or up k 0) 0 - get_or room k 0) → HaveRoom n up room' (k + 1)
 have_step n k up room room' h lt lower is =
@@ -163,20 +169,25 @@ have_step n k up room room' h lt lower is =
           λ q more ltq e. each q more ltq e;
     }
   where
+    -- the parent of vertex k
     p : ℕ
     p = get_or up k 0
 
+    -- the parent loses the room of vertex k
     at : get_or room' p 0 ≡ get_or room p 0 - get_or room k 0
     at = ap (λ (xs : List ℕ). get_or xs p 0) is
         ∙ get_or-set_same room p (get_or room p 0 - get_or room k 0) 0 (omega (arith, lower, lt, h.size))
 
+    -- all others have as much room as before
     other : (x : ℕ) → x ≢ p → get_or room' x 0 ≡ get_or room x 0
     other x ne = ap (λ (xs : List ℕ). get_or xs x 0) is
         ∙ get_or-set_other room p x (get_or room p 0 - get_or room k 0) 0 ne
 
+    -- what later children have is as before
     rest : (q more : ℕ) → children_from up room' q (suc k) more ≡ children_from up room q (suc k) more
     rest q more = children_same up room room' q (suc k) more (λ j le. other j (λ e. omega (arith, lower)))
 
+    -- each vertex has room for itself and for its children behind k
     each : (q more : ℕ) → q < n → k + 1 + more ≡ n → get_or room' q 0 ≡ 1 + children_from up room' q (k + 1) more
     each q more ltq e =
         let next : suc k ≡ k + 1 = omega arith in

@@ -36,9 +36,11 @@ touch_step n es touched e t lt = record {
       (cases_eq v b);
 }
   where
+    -- the first end of the edge
     a : ℕ
     a = (get_or es e (0, 0)).0
 
+    -- the second end of the edge
     b : ℕ
     b = (get_or es e (0, 0)).1
 
@@ -53,7 +55,7 @@ pub record AreSteps (n : ℕ) (es : List (ℕ × ℕ)) : Type 0 where
   pub size : length es ≡ n
   pub each : (e : ℕ) → e < n → get_or es e (0, 0) ≡ (e, e + 1)
 
--- a step more
+-- an edge from the last vertex to a new one is a step more
 pub steps_more : (n : ℕ) (es more : List (ℕ × ℕ)) → AreSteps n es → more ≡ es ++ (n, n + 1) ∷ [] → AreSteps (n + 1) more
 steps_more n es more s is = record {
   size = omega (arith, ap length is, length_push es (n, n + 1), s.size);
@@ -63,7 +65,7 @@ steps_more n es more s is = record {
       (cases_eq e n);
 }
 
--- the edges of a cycle
+-- an edge of a cycle leads to the next vertex, or from the last vertex to the first
 cycle_edge : (n : ℕ) (es whole : List (ℕ × ℕ)) (e : ℕ) → 2 ≤ n → AreSteps (n - 1) es → whole ≡ es ++ (n - 1, 0) ∷ []
     → e < length whole → ((get_or whole e (0, 0) ≡ (e, e + 1)) × (e + 1 < n))
     ⊎ ((get_or whole e (0, 0) ≡ (n - 1, 0)) × (0 < n - 1))
@@ -81,7 +83,7 @@ cycle_edge n es whole e two s is lt = ⊎_elim
     ))
     (cases_eq e (n - 1))
 
--- they are within the vertices
+-- the edges of a cycle end at its vertices
 pub cycle_within : (n : ℕ) (es whole : List (ℕ × ℕ)) → 2 ≤ n → AreSteps (n - 1) es → whole ≡ es ++ (n - 1, 0) ∷ []
     → AreWithin n whole
 cycle_within n es whole two s is e lt = ⊎_elim
@@ -89,7 +91,7 @@ cycle_within n es whole two s is e lt = ⊎_elim
     (λ h. subst (λ (p : ℕ × ℕ). (p.0 < n) × (p.1 < n)) (sym h.0) (omega arith, omega arith))
     (cycle_edge n es whole e two s is lt)
 
--- none is a loop
+-- a cycle of two vertices or more has no loop
 pub cycle_no_loop : (n : ℕ) (es whole : List (ℕ × ℕ)) → 2 ≤ n → AreSteps (n - 1) es → whole ≡ es ++ (n - 1, 0) ∷ []
     → HaveNoLoop whole
 cycle_no_loop n es whole two s is e lt same = ⊎_elim
@@ -97,7 +99,7 @@ cycle_no_loop n es whole two s is e lt same = ⊎_elim
     (λ h. let f : n - 1 ≡ 0 = subst (λ (p : ℕ × ℕ). p.0 ≡ p.1) h.0 same in omega (arith, h.1))
     (cycle_edge n es whole e two s is lt)
 
--- as many edges as vertices
+-- a cycle has as many edges as vertices
 pub cycle_length : (n : ℕ) (es whole : List (ℕ × ℕ)) → 2 ≤ n → AreSteps (n - 1) es → whole ≡ es ++ (n - 1, 0) ∷ []
     → length whole ≡ n
 cycle_length n es whole two s is = omega (arith, ap length is, length_push es (n - 1, 0), s.size)

@@ -1,6 +1,6 @@
 // The places of the vertices of a search tree in a bipolar order.
 ghost use Rattle.std.specs.Prelude.{◌≡◌, ℕ, ◌+◌, ◌<◌, length, slice_index, IfOk};
-ghost use Rattle.cp_ears.specs.Placing.{IsTree, ArePlaces, HaveRoom, ShareRoom, IsPlacing, StandAt};
+ghost use Rattle.cp_ears.specs.Placing.{IsTree, ArePlaces, ShareRoom, IsPlacing, StandAt};
 
 use cp_base::Memory;
 use std::alloc::Global;

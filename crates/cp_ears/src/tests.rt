@@ -1,5 +1,5 @@
 // Orders of small graphs, worked out by hand.
-ghost use Rattle.std.specs.Prelude.{◌≡◌, ℕ, ◌<◌, ◌≤◌, false, true, length, slice_index, slice_index_or, IsTrue, IfOk, EachIndex, MatchOption};
+ghost use Rattle.std.specs.Prelude.{◌≡◌, ◌<◌, ◌≤◌, false, true, length, slice_index, slice_index_or, IsTrue, IfOk, EachIndex, MatchOption};
 ghost use Rattle.cp_base.specs.Graphs.{AreWithin};
 ghost use Rattle.cp_conn.specs.Blocks.{HaveNoLoop};
 ghost use Rattle.cp_ears.specs.Bipolar.{HaveEdges, IsOneBlock};

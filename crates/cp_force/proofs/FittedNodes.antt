@@ -1,5 +1,5 @@
 -- Nodes fitted to places: what a row of them reads, and the closing of P-nodes and Q-nodes.
-use Rattle.std.proofs.Common.{◌≡◌, ℕ, zero, suc, ◌<◌, ◌≤◌, Bool, true, false, List, [], ◌∷◌, ◌++◌, length, get_or, reverse, refl, sym, ap, ◌∙◌, subst, inl, ⊎_elim, arith, IsPermutation}
+use Rattle.std.proofs.Common.{◌≡◌, ℕ, ◌<◌, ◌≤◌, Bool, true, false, List, [], ◌∷◌, ◌++◌, length, reverse, refl, sym, ap, ◌∙◌, subst, inl, ⊎_elim, arith, IsPermutation}
 use Rattle.std.specs.Prelude.{nat_lt}
 use Rattle.std.specs.List.{list_all, AllZip, AllByRecursion}
 use Rattle.std.specs.List.Sorted.{IsNonDecreasingBy}
@@ -17,12 +17,13 @@ use Rattle.cp_pq.proofs.NodeLayers.{leaves_P, leaves_Q, leaves_Leaf, all_leaves_
 use Rattle.cp_pq.proofs.PermutedLists.{Has-IsPermutation}
 use Rattle.cp_pq.proofs.ReadingLaws.{ReadsAll_nil, ReadsAll_cons, ReadsAll_cut, Reads_P, Reads_Q, read_leaves}
 use Rattle.cp_force.specs.declared.fitting.Fitted.{Fitted}
-use Rattle.cp_force.specs.Words.{turned_row}
+use Rattle.cp_pq.specs.Promises.{in_direction}
 use Rattle.cp_force.specs.Fits.{Rises, AreBelow, IsFitted, IsFittedRow, IsTiedReading, IsTiedRow, words_of, ties_of, first_key, is_turned}
-use Rattle.cp_force.proofs.NodeLayers.{is_branching-P, is_branching-Q, has_vars_below-P, has_vars_below-Q, all-append, all-reverse}
+use Rattle.cp_pq.proofs.NodeTests.{below_P, below_Q, branching_P, branching_Q}
 use Rattle.cp_force.proofs.PermutedRows.{zip_permuted, zip_flipped, all_permuted, zip_join, zip_reversed}
 use Rattle.cp_force.proofs.RisingRows.{KeysRise, sorted_is_rising}
 use Rattle.cp_force.proofs.Words.{Reads-turned}
+use Rattle.cp_lists.proofs.EachItem.{all-append, all-reverse}
 
 -- ties of both parts
 pub Licensed-join : (d : Bool) (may : ℕ → Bool → Bool) (ts us : List (ℕ × Bool)) → Licensed d may ts
@@ -54,7 +55,7 @@ flat_below vars (f ∷ fs) h = all-append (λ (t : ℕ × Bool). t.0 < vars) f.t
 
 -- the same in either direction
 both_ways : (vars : ℕ) (b : Bool) (fs : List Fitted) → AllByRecursion (λ f. AreBelow vars f.ties) fs
-    → AllByRecursion (λ f. AreBelow vars f.ties) (turned_row b fs)
+    → AllByRecursion (λ f. AreBelow vars f.ties) (in_direction b fs)
 both_ways vars true fs h = all-reverse (λ (f : Fitted). AreBelow vars f.ties) fs h
 both_ways vars false fs h = h
 
@@ -180,7 +181,7 @@ module _ (place : ℕ → ℕ) where
     reads = reads;
     below = λ vars h. subst (AreBelow vars) (sym ties) (flat_below vars sorted
         (all_permuted (λ g. AreBelow vars g.ties) row sorted perm
-        (rows_below vars ks row z (sym (has_vars_below-P vars owner ks) ∙ h))));
+        (rows_below vars ks row z (sym (below_P vars owner ks) ∙ h))));
   }
     where
       only : (may : ℕ → Bool → Bool) (xs : List ℕ) → Reads may (P owner ks) xs → Rises place xs
@@ -213,7 +214,7 @@ module _ (place : ℕ → ℕ) where
 
   -- the rows turned or not
   zip_turned : (b : Bool) (ks : List Node) (fs : List Fitted) → AllZip (IsFitted place) ks fs
-      → AllZip (IsFitted place) (turned_row b ks) (turned_row b fs)
+      → AllZip (IsFitted place) (in_direction b ks) (in_direction b fs)
   zip_turned true ks fs z = zip_reversed (IsFitted place) ks fs z
   zip_turned false ks fs z = z
 
@@ -257,30 +258,30 @@ module _ (place : ℕ → ℕ) where
 
   -- a row that is read in the direction of its first two nodes
   pub fitted_row : (ks : List Node) (row : List Fitted) (b : Bool) (f : Fitted) → AllZip (IsFitted place) ks row
-      → 2 ≤ length ks → b ≡ is_turned row → f.key ≡ first_key row → f.word ≡ words_of (turned_row b row)
-      → f.ties ≡ ties_of (turned_row b row) → IsFittedRow place ks b f
+      → 2 ≤ length ks → b ≡ is_turned row → f.key ≡ first_key row → f.word ≡ words_of (in_direction b row)
+      → f.ties ≡ ties_of (in_direction b row) → IsFittedRow place ks b f
   fitted_row ks row b f z two turn key word ties = record {
     near = let near = row_near ks row z two in (near.0, near.1, key ∙ near.2);
-    only = λ may way xs r rise. in_direction may xs way r rise (sym (way_is may xs way r rise) ∙ sym turn);
-    reads = λ may l. subst (ReadsAll may (turned_row b ks)) (sym word)
-        (row_reads may (turned_row b ks) (turned_row b row) (zip_turned b ks row z) (subst
+    only = λ may way xs r rise. read_way may xs way r rise (sym (way_is may xs way r rise) ∙ sym turn);
+    reads = λ may l. subst (ReadsAll may (in_direction b ks)) (sym word)
+        (row_reads may (in_direction b ks) (in_direction b row) (zip_turned b ks row z) (subst
         (Licensed false may) ties l));
-    below = λ vars h. subst (AreBelow vars) (sym ties) (flat_below vars (turned_row b row)
+    below = λ vars h. subst (AreBelow vars) (sym ties) (flat_below vars (in_direction b row)
         (both_ways vars b row (rows_below vars ks row z h)));
   }
     where
-      way_is : (may : ℕ → Bool → Bool) (xs : List ℕ) (way : Bool) → ReadsAll may (turned_row way ks) xs → Rises place xs
+      way_is : (may : ℕ → Bool → Bool) (xs : List ℕ) (way : Bool) → ReadsAll may (in_direction way ks) xs → Rises place xs
           → is_turned row ≡ way
       way_is may xs true r rise = backward_turn may ks row xs z two r rise
       way_is may xs false r rise = forward_turn may ks row xs z two r rise
 
-      in_direction : (may : ℕ → Bool → Bool) (xs : List ℕ) (way : Bool) → ReadsAll may (turned_row way ks) xs
+      read_way : (may : ℕ → Bool → Bool) (xs : List ℕ) (way : Bool) → ReadsAll may (in_direction way ks) xs
           → Rises place xs → way ≡ b → (way ≡ b) × (xs ≡ f.word) × Licensed false may f.ties
-      in_direction may xs way all rise e =
-          let h = row_only may (turned_row way ks) (turned_row way row) xs (zip_turned way ks row z) all rise in (
+      read_way may xs way all rise e =
+          let h = row_only may (in_direction way ks) (in_direction way row) xs (zip_turned way ks row z) all rise in (
             e,
-            h.0 ∙ ap (λ c. words_of (turned_row c row)) e ∙ sym word,
-            subst (Licensed false may) (ap (λ c. ties_of (turned_row c row)) e ∙ sym ties) h.1,
+            h.0 ∙ ap (λ c. words_of (in_direction c row)) e ∙ sym word,
+            subst (Licensed false may) (ap (λ c. ties_of (in_direction c row)) e ∙ sym ties) h.1,
           )
 
   -- a Q-node is tied to the direction in which its kids are read
@@ -289,20 +290,20 @@ module _ (place : ℕ → ℕ) where
   fitted_Q var ks b g f fit key word ties = record {
     near = (fit.near.0, subst (Has fit.near.0) (sym (leaves_Q var ks)) fit.near.1, key ∙ fit.near.2);
     only = λ may xs r rise. ⊎_elim
-        (λ h. in_direction may xs false h.0 (fit.only may false xs h.1 rise))
-        (λ h. in_direction may xs true h.0 (fit.only may true xs h.1 rise))
+        (λ h. read_way may xs false h.0 (fit.only may false xs h.1 rise))
+        (λ h. read_way may xs true h.0 (fit.only may true xs h.1 rise))
         (Reads_Q may var ks xs r);
     reads = reads;
     below = λ vars h.
         let parts = and_parts (nat_lt var vars) (list_all (has_vars_below vars) ks) (sym
-        (has_vars_below-Q vars var ks) ∙ h) in
+        (below_Q vars var ks) ∙ h) in
         subst (AreBelow vars) (sym ties) (all-append (λ (t : ℕ × Bool). t.0 < vars) g.ties ((var, b) ∷ [])
         (fit.below vars parts.1) (ltb-true var vars parts.0, tt));
   }
     where
-      in_direction : (may : ℕ → Bool → Bool) (xs : List ℕ) (way : Bool) → may var way ≡ true
+      read_way : (may : ℕ → Bool → Bool) (xs : List ℕ) (way : Bool) → may var way ≡ true
           → (way ≡ b) × (xs ≡ g.word) × Licensed false may g.ties → (xs ≡ f.word) × Licensed false may f.ties
-      in_direction may xs way may_be h = (
+      read_way may xs way may_be h = (
         h.1 ∙ sym word,
         subst (Licensed false may) (sym ties)
             (Licensed-join false may g.ties ((var, b) ∷ []) h.2 (subst (λ c. may var c ≡ true) h.0 may_be, tt)),
@@ -312,7 +313,7 @@ module _ (place : ℕ → ℕ) where
       reads may l =
           let parts = Licensed-cut false may g.ties ((var, b) ∷ []) (subst (Licensed false may) ties l) in
           Reads-turned may var ks b f.word parts.1.0
-          (subst (ReadsAll may (turned_row b ks)) (sym word) (fit.reads may parts.0))
+          (subst (ReadsAll may (in_direction b ks)) (sym word) (fit.reads may parts.0))
 
   -- a leaf
   pub fitted_Leaf : (x : ℕ) (f : Fitted) → f.key ≡ place x → f.word ≡ x ∷ [] → f.ties ≡ [] → IsFitted place (Leaf x) f
@@ -343,29 +344,22 @@ pub whole_row_read : (place : ℕ → ℕ) (ks : List Node) (turned : Bool) (f :
 whole_row_read place ks turned f order fit rise e = record {
   reads = λ may way. (
     λ r. let h = fit.only may way order r rise in (h.0, h.2),
-    λ l. subst (λ w. ReadsAll may (turned_row w ks) order) (sym l.0)
-        (subst (ReadsAll may (turned_row turned ks)) e (fit.reads may l.1)),
+    λ l. subst (λ w. ReadsAll may (in_direction w ks) order) (sym l.0)
+        (subst (ReadsAll may (in_direction turned ks)) e (fit.reads may l.1)),
   );
   below = fit.below;
 }
-
--- a test of all nodes of a row holds at a place
-pub all_at : (f : Node → Bool) (ks : List Node) (i : ℕ) (d : Node) → i < length ks → list_all f ks ≡ true
-    → f (get_or ks i d) ≡ true
-all_at f [] i d lt h = absurd (omega arith)
-all_at f (k ∷ ks) zero d lt h = (and_parts (f k) (list_all f ks) h).0
-all_at f (k ∷ ks) (suc i) d lt h = all_at f ks i d (omega arith) (and_parts (f k) (list_all f ks) h).1
 
 -- a P-node that branches has two kids, which branch
 pub branching_kids_P : (owner : ℕ) (ks : List Node) → is_branching (P owner ks) ≡ true
     → (2 ≤ length ks) × (list_all is_branching ks ≡ true)
 branching_kids_P owner ks h =
-    let parts = and_parts (nat_lt 1 (length ks)) (list_all is_branching ks) (sym (is_branching-P owner ks) ∙ h) in
+    let parts = and_parts (nat_lt 1 (length ks)) (list_all is_branching ks) (sym (branching_P owner ks) ∙ h) in
     let lt : 1 < length ks = ltb-true 1 (length ks) parts.0 in (omega (arith, lt), parts.1)
 
 -- and a Q-node too
 pub branching_kids_Q : (var : ℕ) (ks : List Node) → is_branching (Q var ks) ≡ true
     → (2 ≤ length ks) × (list_all is_branching ks ≡ true)
 branching_kids_Q var ks h =
-    let parts = and_parts (nat_lt 1 (length ks)) (list_all is_branching ks) (sym (is_branching-Q var ks) ∙ h) in
+    let parts = and_parts (nat_lt 1 (length ks)) (list_all is_branching ks) (sym (branching_Q var ks) ∙ h) in
     let lt : 1 < length ks = ltb-true 1 (length ks) parts.0 in (omega (arith, lt), parts.1)

@@ -17,10 +17,11 @@ use Rattle.cp_pq.proofs.PermutedLists.{Lacks-IsPermutation, Distinct-IsPermutati
 use Rattle.cp_pq.proofs.ReadingLaws.{read_leaves}
 use Rattle.cp_force.specs.Fits.{AreBelow}
 use Rattle.cp_pq.proofs.Holes.{Around}
-use Rattle.cp_force.proofs.NodeLayers.{all-append}
 use Rattle.cp_force.proofs.RowsInOrders.{row_consecutive, same_run, behind_root, direction_permuted}
 use Rattle.cp_force.proofs.TiedParts.{IsTiedPart, HasOneBit}
-use Rattle.cp_force.proofs.BitLicences.{given_of, given_one, bit_kept, ties_met, met_ties, all_cut}
+use Rattle.cp_force.proofs.BitLicences.{given_one, met-Licensed, ties-IsMet}
+use Rattle.cp_lists.proofs.EachItem.{all-append, all_parts}
+use Rattle.cp_pq.proofs.GivenBits.{bit_append, given_from}
 
 -- a permutation of something is something
 pub some_permuted : (xs ys : List ℕ) → IsPermutation xs ys → xs ≢ [] → ys ≢ []
@@ -192,10 +193,10 @@ module _ (row : List ℕ) (some : row ≢ []) (var : ℕ) (ties : List (ℕ × B
         let all = bits ++ step.0 in
         let p = step.1 in
         let long : var < length bits = subst (λ z. var < z) (sym pair.bits_count) lt in
-        let bit : bit_of all var ≡ b = bit_kept bits step.0 var long in
+        let bit : bit_of all var ≡ b = bit_append bits step.0 var long in
         let in_range : var < length all =
         subst (λ z. var < z) (sym p.bits_count) (omega (arith, lt, reduced_to.vars_kept)) in
-        let may_be : given all var b ≡ true = subst (λ z. given all var z ≡ true) bit (given_of all var in_range) in
+        let may_be : given all var b ≡ true = subst (λ z. given all var z ≡ true) bit (given_from all var in_range) in
         let k = swap_keeps (given all) p.word b (red_distinct (given all) p.word p.reads) p.reads
         (has_behind root row order p.word b some apart p.order_is has) in (
           step.0,
@@ -204,7 +205,7 @@ module _ (row : List ℕ) (some : row ≢ []) (var : ℕ) (ties : List (ℕ × B
             order_is = p.order_is;
             bits_count = p.bits_count;
             reads = k.1 may_be;
-            met = all-append (IsMet all) equations (tie_equations var ties) p.met (ties_met all var b ties
+            met = all-append (IsMet all) equations (tie_equations var ties) p.met (ties-IsMet all var b ties
                 (sym bit) k.0);
           },
         )
@@ -216,10 +217,10 @@ module _ (row : List ℕ) (some : row ≢ []) (var : ℕ) (ties : List (ℕ × B
         let c = bit_of bits var in
         let in_range : var < length bits =
         subst (λ z. var < z) (sym p.bits_count) (omega (arith, lt, reduced_to.vars_kept)) in
-        let parts = all_cut (IsMet bits) equations (tie_equations var ties) p.met in
+        let parts = all_parts (IsMet bits) equations (tie_equations var ties) p.met in
         let l : Licensed c (given bits) ties =
-        met_ties bits var ties (subst (λ z. AreBelow z ties) (sym p.bits_count) low) parts.1 in
-        let h = swap_only (given bits) (given_one bits) p.word c (given_of bits var in_range) l p.reads in
+        met-Licensed bits var ties (subst (λ z. AreBelow z ties) (sym p.bits_count) low) in_range parts.1 in
+        let h = swap_only (given bits) (given_one bits) p.word c (given_from bits var in_range) l p.reads in
         let pair : IsPair (make_tree root n vars equations) order bits = record {
           word = p.word;
           order_is = p.order_is;

@@ -12,7 +12,7 @@ use Rattle.cp_pq.specs.Owners.{KeepsOwners}
 use Rattle.cp_pq.specs.Keeping.{Keeps, IsInRow}
 use Rattle.cp_pq.proofs.NodeLayers.{Leaf_P, Leaf_Q, P_Q, Q_Q, leaves_Leaf, leaves_Q, all_leaves_nil, all_leaves_cons, all_leaves_one}
 use Rattle.cp_force.specs.Forced.{forced_node}
-use Rattle.cp_force.proofs.NodeLayers.{is_branching-Leaf, is_branching-Q, has_vars_below-Leaf, has_vars_below-Q}
+use Rattle.cp_pq.proofs.NodeTests.{below_Leaf, below_Q, branching_Leaf, branching_Q}
 
 -- equal lists are permutations
 pub permuted_same : (xs ys : List ℕ) → xs ≡ ys → IsPermutation xs ys
@@ -27,12 +27,12 @@ leaves_of_row (x ∷ xs) =
 -- leaves branch
 row_branches : (xs : List ℕ) → list_all is_branching (map Leaf xs) ≡ true
 row_branches [] = refl
-row_branches (x ∷ xs) = ap₂ (λ a b. a && b) (is_branching-Leaf x) (row_branches xs)
+row_branches (x ∷ xs) = ap₂ (λ a b. a && b) (branching_Leaf x) (row_branches xs)
 
 -- leaves have no vars
 row_below : (vars : ℕ) (xs : List ℕ) → list_all (has_vars_below vars) (map Leaf xs) ≡ true
 row_below vars [] = refl
-row_below vars (x ∷ xs) = ap₂ (λ a b. a && b) (has_vars_below-Leaf vars x) (row_below vars xs)
+row_below vars (x ∷ xs) = ap₂ (λ a b. a && b) (below_Leaf vars x) (row_below vars xs)
 
 -- a kid in a row of leaves is a leaf
 kid_is_leaf : (xs : List ℕ) (k : Node) (before after : List Node) → map Leaf xs ≡ before ++ k ∷ after
@@ -95,18 +95,18 @@ node_leaves var (x ∷ y ∷ xs) = leaves_Q var (map Leaf (x ∷ y ∷ xs)) ∙ 
 -- it branches
 node_branches : (var : ℕ) (xs : List ℕ) → xs ≢ [] → is_branching (forced_node var xs) ≡ true
 node_branches var [] some = absurd (some refl)
-node_branches var (x ∷ []) some = is_branching-Leaf x
+node_branches var (x ∷ []) some = branching_Leaf x
 node_branches var (x ∷ y ∷ xs) some =
     let long = length-map (x ∷ y ∷ xs) Leaf in
-    is_branching-Q var (map Leaf (x ∷ y ∷ xs))
+    branching_Q var (map Leaf (x ∷ y ∷ xs))
     ∙ ap₂ (λ a b. a && b) (lt-ltb 1 (length (map Leaf (x ∷ y ∷ xs))) (omega (arith, long))) (row_branches (x ∷ y ∷ xs))
 
 -- its var is the given one
 node_below : (var : ℕ) (xs : List ℕ) (vars : ℕ) → var < vars → has_vars_below vars (forced_node var xs) ≡ true
-node_below var [] vars lt = has_vars_below-Q vars var [] ∙ ap (λ a. a && true) (lt-ltb var vars lt)
-node_below var (x ∷ []) vars lt = has_vars_below-Leaf vars x
+node_below var [] vars lt = below_Q vars var [] ∙ ap (λ a. a && true) (lt-ltb var vars lt)
+node_below var (x ∷ []) vars lt = below_Leaf vars x
 node_below var (x ∷ y ∷ xs) vars lt =
-    has_vars_below-Q vars var (map Leaf (x ∷ y ∷ xs))
+    below_Q vars var (map Leaf (x ∷ y ∷ xs))
     ∙ ap₂ (λ a b. a && b) (lt-ltb var vars lt) (row_below vars (x ∷ y ∷ xs))
 
 -- what the node that is put in keeps of a node with these leaves

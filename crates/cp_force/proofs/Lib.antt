@@ -6,7 +6,7 @@ mod NodeLayers
 pub mod Words
 mod PermutedRows
 mod RisingRows
-mod Results
+mod Variants
 mod Mirrors
 mod RowsInOrders
 mod TiedParts

@@ -5,13 +5,11 @@ use Rattle.std.specs.List.{list_all}
 use Rattle.std.specs.List.Sorted.{IsNonDecreasingBy, IsStrictlyIncreasing}
 use Rattle.std.proofs.lemmas.Bool.{and_parts, ltb-true}
 use Rattle.std.proofs.lemmas.List.{length-map}
-use Rattle.std.proofs.lemmas.List.Folds.{list_all-append}
 use Rattle.std.proofs.lemmas.List.Sorted.{IsPermutation-sym, IsPermutation-trans, length_permutation}
 use Rattle.cp_lists.specs.CyclicLists.{Has, Lacks, Distinct}
 use Rattle.cp_lists.proofs.DistinctLists.{Lacks-from, has_lacks}
 use Rattle.cp_pq.specs.declared.node.Node.{Node}
 use Rattle.cp_pq.specs.declared.node.Node.TheVariants.{Leaf, Q}
-use Rattle.cp_pq.specs.declared.frame.Label.{Label}
 use Rattle.cp_pq.specs.declared.frame.Frame.{Frame}
 use Rattle.cp_pq.specs.declared.hole.Hole.{Hole}
 use Rattle.cp_pq.specs.declared.part.Part.{Part}
@@ -20,7 +18,7 @@ use Rattle.cp_pq.specs.Bits.{IsOverVars}
 use Rattle.cp_pq.specs.Readings.{Reads, ReadsAll, any_bit}
 use Rattle.cp_pq.specs.Trees.{PQTree, make_tree, IsWellFormed}
 use Rattle.cp_pq.specs.Orders.{HasRow}
-use Rattle.cp_pq.specs.Promises.{in_direction, IsReduced, IsLeafSet, IsForced, IsNeverInRow}
+use Rattle.cp_pq.specs.Promises.{IsForced, IsLeafSet, IsNeverInRow, IsReduced, in_direction}
 use Rattle.cp_pq.specs.Words.{turned}
 use Rattle.cp_pq.specs.Ties.{tie_equations}
 use Rattle.cp_pq.specs.Frames.{node_of, kids_round, fill}
@@ -29,47 +27,19 @@ use Rattle.cp_pq.specs.Keeping.{Keeps}
 use Rattle.cp_pq.proofs.NodeLayers.{all_leaves_one}
 use Rattle.cp_pq.proofs.PermutedLists.{Has-IsPermutation, Lacks-IsPermutation, Distinct-IsPermutation}
 use Rattle.cp_pq.proofs.ReadingLaws.{read_leaves}
-use Rattle.cp_pq.proofs.Holes.{Around, directed, filled_node, filled_run, filled_node_keeps, filled_run_keeps}
-use Rattle.cp_force.specs.Words.{turned_row}
+use Rattle.cp_pq.proofs.Holes.{Around, filled_node, filled_run, filled_node_keeps, filled_run_keeps}
 use Rattle.cp_force.specs.Fits.{AreBelow, IsTiedReading, IsTiedRow}
 use Rattle.cp_force.specs.Forced.{forced_node, IsOpened}
-use Rattle.cp_force.proofs.NodeLayers.{is_branching-P, is_branching-Q, has_vars_below-P, has_vars_below-Q, all-append}
+use Rattle.cp_pq.proofs.NodeTests.{below_Q}
 use Rattle.cp_force.proofs.Mirrors.{reverse_read, reverse_read_row}
-use Rattle.cp_force.proofs.RowsInOrders.{in_direction-turned, direction_permuted}
+use Rattle.cp_force.proofs.RowsInOrders.{direction_permuted}
 use Rattle.cp_force.proofs.BitLicences.{ties_over}
 use Rattle.cp_force.proofs.PlacedOrders.{apart}
 use Rattle.cp_force.proofs.LeafRows.{row_keeps, node_keeps, owners_of_one}
 use Rattle.cp_force.proofs.TiedParts.{IsTiedPart, Taken, Put, TakenRow, PutRow, tied_node, tied_run, turned_leaves}
 use Rattle.cp_force.proofs.ForcedTrees.{some_permuted, never_read, run_is_row, forced_tree}
-
--- a test of nodes that inner nodes pass only where their kids do
-abbrev IsDeep : (Node → Bool) → Type 0
-IsDeep test = (label : Label) (ks : List Node) → test (node_of label ks) ≡ true → list_all test ks ≡ true
-
--- what the whole passes, the row in the hole passes
-row_passes : (test : Node → Bool) → IsDeep test → (fs : List Frame) (row : List Node)
-    → list_all test (fill fs row) ≡ true → list_all test row ≡ true
-row_passes test deep [] row h = h
-row_passes test deep (f ∷ fs) row h =
-    let node = node_of f.label (kids_round f row) in
-    let one = (and_parts (test node) true (row_passes test deep fs (node ∷ []) h)).0 in
-    let kids = deep f.label (kids_round f row) one in
-    let behind = (and_parts (list_all test f.before) (list_all test (row ++ f.after))
-    (sym (list_all-append test f.before (row ++ f.after)) ∙ kids)).1 in
-    (and_parts (list_all test row) (list_all test f.after) (sym (list_all-append test row f.after) ∙ behind)).0
-
--- to branch is such a test
-branching_deep : IsDeep is_branching
-branching_deep (Label.P o) ks h =
-    (and_parts (nat_lt 1 (length ks)) (list_all is_branching ks) (sym (is_branching-P o ks) ∙ h)).1
-branching_deep (Label.Q v) ks h =
-    (and_parts (nat_lt 1 (length ks)) (list_all is_branching ks) (sym (is_branching-Q v ks) ∙ h)).1
-
--- to have vars below a number is one
-below_deep : (vars : ℕ) → IsDeep (has_vars_below vars)
-below_deep vars (Label.P o) ks h = sym (has_vars_below-P vars o ks) ∙ h
-below_deep vars (Label.Q v) ks h =
-    (and_parts (nat_lt v vars) (list_all (has_vars_below vars) ks) (sym (has_vars_below-Q vars v ks) ∙ h)).1
+use Rattle.cp_pq.proofs.FilledRows.{below_inner, branching_inner, below_kids, fill_one, test_inner}
+use Rattle.cp_lists.proofs.EachItem.{all-append}
 
 -- the test of the one node
 one_passes : (test : Node → Bool) (n : Node) (row : List Node) → n ∷ [] ≡ row → test n ≡ true → list_all test row ≡ true
@@ -82,22 +52,17 @@ place_below vars v [] row h all = absurd h
 place_below vars v (f ∷ fs) row h all =
     let node = node_of f.label (kids_round f row) in
     let one = (and_parts (has_vars_below vars node) true
-    (row_passes (has_vars_below vars) (below_deep vars) fs (node ∷ []) all)).0 in
+    (test_inner (has_vars_below vars) (below_kids vars) fs (node ∷ []) all)).0 in
     let q : has_vars_below vars (Q v (kids_round f row)) ≡ true =
     subst (λ l. has_vars_below vars (node_of l (kids_round f row)) ≡ true) h.0 one in
     ltb-true v vars
     (and_parts (nat_lt v vars) (list_all (has_vars_below vars) (kids_round f row))
-    (sym (has_vars_below-Q vars v (kids_round f row)) ∙ q)).0
+    (sym (below_Q vars v (kids_round f row)) ∙ q)).0
 
--- one node in the hole makes one node
-pub fill_node : (fs : List Frame) (k : Node) → (n : Node) × (n ∷ [] ≡ fill fs (k ∷ []))
-fill_node [] k = (k, refl)
-fill_node (f ∷ fs) k = fill_node fs (node_of f.label (kids_round f (k ∷ [])))
-
--- and so does a row of kids of a Q-node
+-- a row of kids of a Q-node in the hole makes one node
 pub fill_row : (v : ℕ) (fs : List Frame) → IsInQ v fs → (row : List Node) → (n : Node) × (n ∷ [] ≡ fill fs row)
 fill_row v [] h row = absurd h
-fill_row v (f ∷ fs) h row = fill_node fs (node_of f.label (kids_round f row))
+fill_row v (f ∷ fs) h row = let n = fill_one fs (node_of f.label (kids_round f row)) in (n.0, sym n.1)
 
 -- a tree in which a part is exchanged for what keeps its leaves is well formed, also with the ties
 closed_formed : (V : ℕ → Type 0) (tree : PQTree) (m : Node) (var : ℕ) (ties : List (ℕ × Bool)) → IsWellFormed tree
@@ -118,37 +83,6 @@ closed_formed V tree m var ties wf k on low lt =
       equations_below = all-append (IsOverVars tree.vars) tree.equations (tie_equations var ties) wf.equations_below
           (ties_over tree.vars var ties low lt);
     }
-
--- the kept part of the same words, read by other names
-around_named : (G : Bool → Type 0) (one other : List ℕ → Type 0) (K J L N : Bool → List ℕ → Type 0) (word : List ℕ)
-    → ((d : Bool) (u : List ℕ) → K d u → L d u) → ((d : Bool) (u : List ℕ) → L d u → K d u)
-    → ((d : Bool) (u : List ℕ) → N d u → J d u) → Around G one other K J word → Around G one other L N word
-around_named G one other K J L N word to fro put a = record {
-  d = a.d;
-  allowed = a.allowed;
-  before = a.before;
-  run = a.run;
-  after = a.after;
-  is = a.is;
-  reads = to a.d a.run a.reads;
-  again = λ u h. a.again u (fro a.d u h);
-  exchanged = λ u h. a.exchanged u (put a.d u h);
-}
-
--- two names of a row in a direction
-directed-turned : (b : Bool) (ks : List Node) → directed b ks ≡ turned_row b ks
-directed-turned true ks = refl
-directed-turned false ks = refl
-
--- equal rows read the same
-to_turned : (may : ℕ → Bool → Bool) (ks : List Node) (b : Bool) (u : List ℕ) → ReadsAll may (directed b ks) u
-    → ReadsAll may (turned_row b ks) u
-to_turned may ks b u r = subst (λ z. ReadsAll may z u) (directed-turned b ks) r
-
--- and back
-to_directed : (may : ℕ → Bool → Bool) (ks : List Node) (b : Bool) (u : List ℕ) → ReadsAll may (turned_row b ks) u
-    → ReadsAll may (directed b ks) u
-to_directed may ks b u r = subst (λ z. ReadsAll may z u) (sym (directed-turned b ks)) r
 
 -- what the root is apart from
 root_apart : (order : List ℕ) (tree : PQTree) → IsWellFormed tree → ((x : ℕ) → Has x order → Has x (leaves tree.body))
@@ -195,14 +129,11 @@ module _ (order : List ℕ) (var : ℕ) (tree : PQTree) (hole : Hole) (kids : Li
 
     -- the kids of the part branch
     pub kids_branch : list_all is_branching kids ≡ true
-    kids_branch = row_passes is_branching branching_deep hole.frames kids
-        (one_passes is_branching o.reduced_tree.body (fill hole.frames kids) o.opened.body_is o.formed.branching)
+    kids_branch = branching_inner hole.frames kids o.reduced_tree.body o.opened.body_is o.formed.branching
 
     -- their vars are vars of the tree
     kids_below : list_all (has_vars_below hole.vars) kids ≡ true
-    kids_below = row_passes (has_vars_below hole.vars) (below_deep hole.vars) hole.frames kids
-        (one_passes (has_vars_below hole.vars) o.reduced_tree.body
-        (fill hole.frames kids) o.opened.body_is hole_formed.vars_below)
+    kids_below = below_inner hole.vars hole.frames kids o.reduced_tree.body o.opened.body_is hole_formed.vars_below
 
     -- where the reduced tree never reads the row, the order never stands in a row
     never_opened : ((word : List ℕ) (b : Bool) → Distinct word → Reads any_bit o.reduced_tree.body word
@@ -317,17 +248,17 @@ module _ (order : List ℕ) (var : ℕ) (tree : PQTree) (hole : Hole) (kids : Li
 
   -- with the order in place of the kids the tree is forced
   pub run_forced : (d : Bool) (ties : List (ℕ × Bool)) → IsTiedRow kids order d ties → (m : Node)
-      → m ∷ [] ≡ fill hole.frames (map Leaf (turned_row d order))
+      → m ∷ [] ≡ fill hole.frames (map Leaf (in_direction d order))
       → IsWellFormed (closed_tree order var tree hole kids (Some v) o m (ties ++ (v, d) ∷ []))
       × IsForced order var tree (closed_tree order var tree hole kids (Some v) o m (ties ++ (v, d) ∷ []))
   run_forced d ties fit m e =
       let n = o.reduced_tree.body in
-      let js = map Leaf (turned_row d order) in
+      let js = map Leaf (in_direction d order) in
       let V : ℕ → Type 0 = λ vars. Unit {0} in
       let keeps : Keeps V (n ∷ []) (m ∷ []) = subst₂ (Keeps V) (sym o.opened.body_is) (sym e)
       (filled_run_keeps V v hole.frames in_place kids js
-      (row_keeps V kids (turned_row d order)
-      (IsPermutation-trans (all_leaves kids) order (turned_row d order)
+      (row_keeps V kids (in_direction d order)
+      (IsPermutation-trans (all_leaves kids) order (in_direction d order)
       (IsPermutation-sym order (all_leaves kids) run_permuted) (turned_permuted d))) some_row) in
       closed_forced order var tree hole kids (Some v) o V m (ties ++ (v, d) ∷ []) (λ may way. may v way ≡ true)
       (λ may. TakenRow may var v kids order d ties fit run_permuted)
@@ -335,47 +266,37 @@ module _ (order : List ℕ) (var : ℕ) (tree : PQTree) (hole : Hole) (kids : Li
       (all-append (λ (t : ℕ × Bool). t.0 < hole.vars) ties ((v, d) ∷ [])
       (fit.below hole.vars (kids_below order var tree hole kids (Some v) o)) (own_below, tt))
       (λ may. tied_run may var v kids order d ties fit run_permuted)
-      (λ may word r.
-      around_named (λ way. may v way ≡ true) (Reads may n) (Reads may m)
-      (λ way. ReadsAll may (directed way kids)) (λ way. ReadsAll may (directed way js))
-      (TakenRow may var v kids order d ties fit run_permuted) (PutRow may var v kids order d ties fit run_permuted) word
-      (to_turned may kids) (to_directed may kids) (to_directed may js)
-      (filled_run may v kids js hole.frames in_place n m o.opened.body_is e word r))
-      (λ may word r.
-      around_named (λ way. may v way ≡ true) (Reads may m) (Reads may n)
-      (λ way. ReadsAll may (directed way js)) (λ way. ReadsAll may (directed way kids))
-      (PutRow may var v kids order d ties fit run_permuted) (TakenRow may var v kids order d ties fit run_permuted) word
-      (to_turned may js) (to_directed may js) (to_directed may kids)
-      (filled_run may v js kids hole.frames in_place m n e o.opened.body_is word r))
+      (λ may word r. filled_run may v kids js hole.frames in_place n m o.opened.body_is e word r)
+      (λ may word r. filled_run may v js kids hole.frames in_place m n e o.opened.body_is word r)
     where
-      turned_permuted : (b : Bool) → IsPermutation order (turned_row b order)
-      turned_permuted b = subst (IsPermutation order) (in_direction-turned b order) (direction_permuted b order)
+      turned_permuted : (b : Bool) → IsPermutation order (in_direction b order)
+      turned_permuted b = direction_permuted b order
 
       some_length : (xs : List ℕ) → xs ≢ [] → 1 ≤ length xs
       some_length [] some = absurd (some refl)
       some_length (x ∷ xs) some = omega arith
 
-      some_row : 1 ≤ length (map Leaf (turned_row d order))
+      some_row : 1 ≤ length (map Leaf (in_direction d order))
       some_row =
-          let a = length-map (turned_row d order) Leaf in
-          let b = length_permutation order (turned_row d order) (turned_permuted d) in
+          let a = length-map (in_direction d order) Leaf in
+          let b = length_permutation order (in_direction d order) (turned_permuted d) in
           let c = some_length order o.order_of.not_empty in omega (arith, a, b, c)
 
   -- where the order is no reading of the kids in either direction, the order never stands in a row
-  pub run_never : ((may : ℕ → Bool → Bool) (way : Bool) → ReadsAll may (turned_row way kids) order → ⊥)
+  pub run_never : ((may : ℕ → Bool → Bool) (way : Bool) → ReadsAll may (in_direction way kids) order → ⊥)
       → IsNeverInRow order tree
   run_never none = never_opened order var tree hole kids (Some v) o
       (λ word b d r has.
       let a = filled_run any_bit v kids kids hole.frames in_place o.reduced_tree.body o.reduced_tree.body
       o.opened.body_is o.opened.body_is word r in
       let h = run_is_row order o.order_of.not_empty (λ way. any_bit v way ≡ true) (Reads any_bit o.reduced_tree.body)
-      (Reads any_bit o.reduced_tree.body) (λ way. ReadsAll any_bit (directed way kids))
-      (λ way. ReadsAll any_bit (directed way kids))
+      (Reads any_bit o.reduced_tree.body) (λ way. ReadsAll any_bit (in_direction way kids))
+      (λ way. ReadsAll any_bit (in_direction way kids))
       (λ way u x. IsPermutation-trans order (all_leaves kids) u run_permuted
-      (turned_leaves any_bit way kids u (to_turned any_bit kids way u x))) word b d a has in
-      no_way b a.d (to_turned any_bit kids a.d (in_direction b order) h.1))
+      (turned_leaves any_bit way kids u x)) word b d a has in
+      no_way b a.d h.1)
     where
-      no_way : (b way : Bool) → ReadsAll any_bit (turned_row way kids) (in_direction b order) → ⊥
+      no_way : (b way : Bool) → ReadsAll any_bit (in_direction way kids) (in_direction b order) → ⊥
       no_way false way r = none any_bit way r
       no_way true way r = none (turned any_bit) (not way) ((reverse_read_row any_bit way kids order).0 r)
 

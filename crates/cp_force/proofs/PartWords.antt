@@ -11,12 +11,12 @@ use Rattle.cp_pq.specs.declared.node.Node.{Node}
 use Rattle.cp_pq.specs.declared.node.Node.TheVariants.{Leaf, P, Q}
 use Rattle.cp_pq.specs.declared.part.Part.{Part}
 use Rattle.cp_pq.specs.Bits.{bit_of}
-use Rattle.cp_pq.specs.Promises.{ReadsPart, reading_of}
+use Rattle.cp_pq.specs.Promises.{ReadsPart, in_direction, reading_of}
 use Rattle.cp_pq.specs.Readings.{Reads, ReadsAll, leaf, any_order, forward, backward, none, more, given}
-use Rattle.cp_force.specs.Words.{turned_row, word_by, words_by, is_read_back, part_word}
+use Rattle.cp_force.specs.Words.{word_by, words_by, is_read_back, part_word}
 use Rattle.cp_force.proofs.Words.{word_by-Leaf, word_by-P, word_by-Q, ReadsAll-words, Reads-turned, all-turned, given_bit}
-use Rattle.cp_force.proofs.NodeLayers.{all-reverse}
 use Rattle.cp_force.proofs.PermutedRows.{all_permuted}
+use Rattle.cp_lists.proofs.EachItem.{all-reverse}
 
 -- the licence lets each var that it knows have its bit
 abbrev pub Lets : (ℕ → Bool → Bool) → List Bool → Type 0
@@ -29,8 +29,8 @@ module _ (may : ℕ → Bool → Bool) (bits : List Bool) (lets : Lets may bits)
       → AllByRecursion (λ n. Reads may n (word_by bits n)) kids → Reads may (Q var kids) (word_by bits (Q var kids))
   turned_reading var kids may_be all =
       subst (Reads may (Q var kids)) (sym (word_by-Q bits var kids))
-      (Reads-turned may var kids (bit_of bits var) (words_by bits (turned_row (bit_of bits var) kids)) may_be
-      (ReadsAll-words bits may (turned_row (bit_of bits var) kids)
+      (Reads-turned may var kids (bit_of bits var) (words_by bits (in_direction (bit_of bits var) kids)) may_be
+      (ReadsAll-words bits may (in_direction (bit_of bits var) kids)
       (all-turned (λ n. Reads may n (word_by bits n)) (bit_of bits var) kids all)))
 
   mutual
@@ -62,7 +62,7 @@ module _ (may : ℕ → Bool → Bool) (bits : List Bool) (lets : Lets may bits)
   ReadsPart-by_bits part xs reads = by_var part.var part.kids reads
     where
       by_var : (var : Option ℕ) (kids : List Node) → reading_of may var kids xs
-          → reading_of may var kids (words_by bits (turned_row (is_read_back bits var) kids))
+          → reading_of may var kids (words_by bits (in_direction (is_read_back bits var) kids))
       by_var None kids h = (
         h.0,
         h.1,

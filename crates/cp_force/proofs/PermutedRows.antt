@@ -1,39 +1,9 @@
 -- Permutations of rows, and of pairs of rows.
-use Rattle.std.proofs.Common.{ℕ, zero, suc, ◌<◌, Bool, true, false, cond, List, [], ◌∷◌, ◌++◌, filter, length, reverse, get_or, set, swap, sym, subst, arith, IsPermutation}
+use Rattle.std.proofs.Common.{List, [], ◌∷◌, ◌++◌, reverse, sym, subst, IsPermutation}
 use Rattle.std.proofs.lemmas.List.{reverse-append}
 use Rattle.std.specs.List.{AllZip, AllByRecursion}
-use Rattle.std.proofs.lemmas.List.Sorted.{IsPermutation-refl, IsPermutation-keeps, IsPermutation-trans, IsPermutation-append_left, IsPermutation-append_comm, IsPermutation-cons}
-
--- A relation holds along each permutation if it is reflexive and transitive, and goes under a head and over an exchange
--- of two heads.
-module _ {X : Type 0} (R : List X → List X → Type 0) (same : (xs : List X) → R xs xs)
-    (skip : (x : X) (xs ys : List X) → R xs ys → R (x ∷ xs) (x ∷ ys))
-    (turn : (x y : X) (xs : List X) → R (x ∷ y ∷ xs) (y ∷ x ∷ xs))
-    (chain : (xs ys zs : List X) → R xs ys → R ys zs → R xs zs) where
-  -- an exchange with the head
-  to_head : (l : List X) (j : ℕ) (x d : X) → j < length l → R (x ∷ l) (get_or l j d ∷ set l j x)
-  to_head [] j x d h = absurd (omega arith)
-  to_head (y ∷ l) zero x d h = turn x y l
-  to_head (y ∷ l) (suc j) x d h =
-      chain _ _ _ (turn x y l)
-      (chain _ _ _ (skip y _ _ (to_head l j x d (omega arith))) (turn y (get_or l j d) (set l j x)))
-
-  -- an exchange of two items, written as two writes
-  exchanged : (l : List X) (i j : ℕ) (d : X) → i < length l → j < length l
-      → R l (set (set l i (get_or l j d)) j (get_or l i d))
-  exchanged [] i j d p q = absurd (omega arith)
-  exchanged (x ∷ l) zero zero d p q = same (x ∷ l)
-  exchanged (x ∷ l) zero (suc j) d p q = to_head l j x d (omega arith)
-  exchanged (x ∷ l) (suc i) zero d p q = to_head l i x d (omega arith)
-  exchanged (x ∷ l) (suc i) (suc j) d p q = skip x _ _ (exchanged l i j d (omega arith) (omega arith))
-
-  -- an exchange of two items
-  swapped : (l : List X) (i j : ℕ) → i < length l → j < length l → R l (swap l i j)
-  swapped [] i j p q = same []
-  swapped (x ∷ l) i j p q = exchanged (x ∷ l) i j x p q
-
-  pub along_permutation : (xs ys : List X) → IsPermutation xs ys → R xs ys
-  along_permutation xs = IsPermutation-keeps xs (R xs) (same xs) (λ l i j p q h. chain xs l _ h (swapped l i j p q))
+use Rattle.std.proofs.lemmas.List.Sorted.{IsPermutation-refl, IsPermutation-trans, IsPermutation-append_left, IsPermutation-append_comm, IsPermutation-cons}
+use Rattle.cp_lists.proofs.PermutedLists.{along_permutation}
 
 -- the first two items exchanged
 two_heads : {X : Type 0} (x y : X) (xs : List X) → IsPermutation (x ∷ y ∷ xs) (y ∷ x ∷ xs)
@@ -101,34 +71,3 @@ all_permuted P = along_permutation (λ xs ys. AllByRecursion P xs → AllByRecur
     (λ x xs ys f h. (h.0, f h.1))
     (λ x y xs h. (h.1.0, (h.0, h.1.1)))
     (λ xs ys zs f g h. g (f h))
-
--- the first item passes, or not
-filtered_skip : {X : Type 0} (p : X → Bool) (x : X) (xs ys : List X) → IsPermutation (filter p xs) (filter p ys)
-    → IsPermutation (filter p (x ∷ xs)) (filter p (x ∷ ys))
-filtered_skip p x xs ys h =
-    elim (p x) as (λ b. IsPermutation (cond b (x ∷ filter p xs) (filter p xs)) (cond b (x ∷ filter p ys) (filter p ys)))
-    [ true ↦ IsPermutation-cons x (filter p xs) (filter p ys) h | false ↦ h ]
-
--- the first two items pass, or not
-filtered_turn : {X : Type 0} (p : X → Bool) (x y : X) (xs : List X)
-    → IsPermutation (filter p (x ∷ y ∷ xs)) (filter p (y ∷ x ∷ xs))
-filtered_turn p x y xs =
-    elim (p x) as (λ a. IsPermutation
-    (cond a (x ∷ cond (p y) (y ∷ filter p xs) (filter p xs)) (cond (p y) (y ∷ filter p xs) (filter p xs)))
-    (cond (p y) (y ∷ cond a (x ∷ filter p xs) (filter p xs)) (cond a (x ∷ filter p xs) (filter p xs)))) [
-      | true ↦ elim (p y) as (λ b. IsPermutation (x ∷ cond b (y ∷ filter p xs) (filter p xs))
-          (cond b (y ∷ x ∷ filter p xs) (x ∷ filter p xs)))
-          [ true ↦ two_heads x y (filter p xs) | false ↦ IsPermutation-refl (x ∷ filter p xs) ]
-      | false ↦ elim (p y) as (λ b. IsPermutation (cond b (y ∷ filter p xs) (filter p xs))
-          (cond b (y ∷ filter p xs) (filter p xs)))
-          [ true ↦ IsPermutation-refl (y ∷ filter p xs) | false ↦ IsPermutation-refl (filter p xs) ]
-    ]
-
--- the items that pass are permuted with the others
-pub filtered_permuted : {X : Type 0} (p : X → Bool) (xs ys : List X) → IsPermutation xs ys
-    → IsPermutation (filter p xs) (filter p ys)
-filtered_permuted p = along_permutation (λ xs ys. IsPermutation (filter p xs) (filter p ys))
-    (λ xs. IsPermutation-refl (filter p xs))
-    (filtered_skip p)
-    (filtered_turn p)
-    (λ xs ys zs f g. IsPermutation-trans (filter p xs) (filter p ys) (filter p zs) f g)

@@ -7,7 +7,8 @@ use Rattle.std.proofs.lemmas.Bool.{lt-ltb, le-ltb}
 use Rattle.std.proofs.lemmas.List.Sorted.{IsPermutation-sym, IsPermutation-map, length_permutation}
 use Rattle.cp_lists.specs.CyclicLists.{Lacks, Distinct}
 use Rattle.cp_pq.proofs.PermutedLists.{Distinct-IsPermutation}
-use Rattle.cp_force.proofs.PermutedRows.{all_permuted, filtered_permuted}
+use Rattle.cp_force.proofs.PermutedRows.{all_permuted}
+use Rattle.cp_pq.proofs.Permutations.{IsPermutation-filter}
 
 module _ {X : Type 0} (key : X → ℕ) where
   -- each key is less than those behind it
@@ -88,7 +89,7 @@ module _ {X : Type 0} (key : X → ℕ) where
     where
       rest : g ≡ h → (IsPermutation hs gs → gs ≡ hs) → g ∷ gs ≡ h ∷ hs
       rest e again =
-          let behind_both = filtered_permuted (behind (key h)) (h ∷ hs) (h ∷ gs)
+          let behind_both = IsPermutation-filter (behind (key h)) (h ∷ hs) (h ∷ gs)
           (subst (λ z. IsPermutation (h ∷ hs) (z ∷ gs)) e p) in
           let left : filter (behind (key h)) (h ∷ hs) ≡ hs = not_itself h hs ∙ all_behind (key h) hs a.0 in
           let right : filter (behind (key h)) (h ∷ gs) ≡ gs =

@@ -10,7 +10,6 @@ use Rattle.cp_lists.proofs.DistinctLists.{has_lacks, Lacks-from, Has-append_left
 use Rattle.cp_pq.specs.Orders.{inside, outside, IsConsecutive, HasRow}
 use Rattle.cp_pq.specs.Promises.{in_direction}
 use Rattle.cp_pq.proofs.PermutedLists.{Has-IsPermutation}
-use Rattle.cp_force.specs.Words.{turned_row}
 
 -- an item of the set is inside
 pub has_inside : (set : List ℕ) (x : ℕ) → Has x set → inside set x ≡ true
@@ -112,11 +111,6 @@ behind_root root word (x ∷ row) l some (before, after, e) = from before e
     from : (before : List ℕ) → root ∷ word ≡ before ++ (x ∷ row ++ after) → HasRow (x ∷ row) word
     from [] e = let head : root ≡ x = cc in absurd (l.0 (sym head))
     from (y ∷ before) e = let tail : word ≡ before ++ (x ∷ row ++ after) = cc in (before, after, tail)
-
--- a row in the direction of a bit is the row turned or not
-pub in_direction-turned : (b : Bool) (row : List ℕ) → in_direction b row ≡ turned_row b row
-in_direction-turned true row = refl
-in_direction-turned false row = refl
 
 -- a row in either direction has the same items
 pub direction_permuted : (b : Bool) (row : List ℕ) → IsPermutation row (in_direction b row)

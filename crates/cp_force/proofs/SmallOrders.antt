@@ -17,7 +17,7 @@ use Rattle.cp_pq.proofs.NodeLayers.{leaves_Leaf}
 use Rattle.cp_pq.proofs.PermutedLists.{Has-IsPermutation}
 use Rattle.cp_pq.proofs.Stars.{star_leaves}
 use Rattle.cp_force.specs.SmallOrders.{is_star_order}
-use Rattle.cp_force.proofs.NodeLayers.{is_branching-Leaf, has_vars_below-Leaf}
+use Rattle.cp_pq.proofs.NodeTests.{below_Leaf, branching_Leaf}
 use Rattle.cp_force.proofs.RowsInOrders.{lacks_inside}
 
 -- a leaf apart from others is none of them
@@ -159,11 +159,11 @@ reduced_orders set old new r order a = ((r.shape order).0 a).1
 pub fresh_leaf : (leaf : ℕ) (xs set : List ℕ) (owner vars : ℕ) (old new : PQTree) → are_apart (leaf ∷ (0 ∷ xs)) ≡ true
     → IsStar 0 xs owner vars old → IsReduced set old new → IsFreshNode set (Leaf leaf) new
 fresh_leaf leaf xs set owner vars old new h s r = record {
-  branching = is_branching-Leaf leaf;
+  branching = branching_Leaf leaf;
   distinct = subst Distinct (sym (leaves_Leaf leaf)) (tt, tt);
   fresh = λ x m n. absurd (has_lacks leaf (0 ∷ xs)
       (back (subst (λ z. Has z (new.root ∷ leaves new.body)) (is_leaf x m) n)) apart.0);
-  vars_below = has_vars_below-Leaf new.vars leaf;
+  vars_below = below_Leaf new.vars leaf;
 }
   where
     apart : Distinct (leaf ∷ (0 ∷ xs))

@@ -5,18 +5,18 @@ use Rattle.std.proofs.lemmas.List.Sorted.{IsPermutation-trans, IsPermutation-rev
 use Rattle.cp_pq.specs.declared.node.Node.{Node}
 use Rattle.cp_pq.specs.declared.node.Node.TheVariants.{Leaf, Q}
 use Rattle.cp_pq.specs.Nodes.{leaves, all_leaves}
-use Rattle.cp_pq.specs.Bits.{flip}
+use Rattle.cp_pq.specs.Bits.{differ}
 use Rattle.cp_pq.specs.Readings.{Reads, ReadsAll, leaf, forward, backward, none, more}
 use Rattle.cp_pq.specs.Words.{Licensed, turned}
 use Rattle.cp_pq.specs.Promises.{in_direction}
 use Rattle.cp_pq.proofs.ReadingLaws.{ReadsAll_nil, ReadsAll_cons, Reads_Q, read_leaves, read_all_leaves, IsPermutation-all_leaves}
-use Rattle.cp_force.specs.Words.{turned_row}
 use Rattle.cp_force.specs.Fits.{IsTiedReading, IsTiedRow}
 use Rattle.cp_force.specs.Forced.{forced_node}
 use Rattle.cp_force.proofs.NodeLayers.{map-reverse}
-use Rattle.cp_force.proofs.Mirrors.{not_not, reverse_read, reverse_read_row, licence_turned}
+use Rattle.cp_pq.proofs.Mirrors.{not_not}
+use Rattle.cp_force.proofs.Mirrors.{reverse_licence, reverse_read, reverse_read_row}
 use Rattle.cp_force.proofs.FittedNodes.{Licensed-join, Licensed-cut, reads_Leaf}
-use Rattle.cp_force.proofs.RowsInOrders.{in_direction-turned}
+use Rattle.cp_base.proofs.Bits.{differ_twice}
 
 -- the row in a direction is a reading exactly where the ties are licensed in this direction
 pub direction_read : (n : Node) (row : List ℕ) (ts : List (ℕ × Bool)) → IsTiedReading n row ts
@@ -24,18 +24,18 @@ pub direction_read : (n : Node) (row : List ℕ) (ts : List (ℕ × Bool)) → I
 direction_read n row ts fit may false = fit.reads may
 direction_read n row ts fit may true =
     let m = reverse_read may n row in
-    let l = licence_turned may ts in
+    let l = reverse_licence may ts in
     let f = fit.reads (turned may) in
     (λ r. l.0 (f.0 (m.0 r)), λ h. m.1 (f.1 (l.1 h)))
 
 -- the same of a row of nodes, which is read in the direction of the row, turned where its own is
 pub direction_read_row : (ks : List Node) (row : List ℕ) (d : Bool) (ts : List (ℕ × Bool)) → IsTiedRow ks row d ts
     → (may : ℕ → Bool → Bool) (way b : Bool)
-    → ReadsAll may (turned_row way ks) (in_direction b row) ↔ ((way ≡ flip b d) × Licensed b may ts)
+    → ReadsAll may (in_direction way ks) (in_direction b row) ↔ ((way ≡ differ b d) × Licensed b may ts)
 direction_read_row ks row d ts fit may way false = fit.reads may way
 direction_read_row ks row d ts fit may way true =
     let m = reverse_read_row may way ks row in
-    let l = licence_turned may ts in
+    let l = reverse_licence may ts in
     let f = fit.reads (turned may) (not way) in (
       λ r. let h = f.0 (m.0 r) in (sym (not_not way) ∙ ap not h.0, l.0 h.1),
       λ h. m.1 (f.1 (ap not h.0 ∙ not_not d, l.1 h.1)),
@@ -54,7 +54,7 @@ leaves_word may (x ∷ xs) u r =
     cut.2 ∙ ap₂ (λ a b. a ++ b) (reads_Leaf may x cut.0 cut.3) (leaves_word may xs cut.1 cut.4)
 
 -- a row of leaves turned is the leaves of the row turned
-map_turned : (b : Bool) (xs : List ℕ) → turned_row b (map Leaf xs) ≡ map Leaf (turned_row b xs)
+map_turned : (b : Bool) (xs : List ℕ) → in_direction b (map Leaf xs) ≡ map Leaf (in_direction b xs)
 map_turned true xs = sym (map-reverse Leaf xs)
 map_turned false xs = refl
 
@@ -147,21 +147,14 @@ module _ (may : ℕ → Bool → Bool) (var : ℕ) (n : Node) (row : List ℕ) (
   }
 
 -- turned by both bits
-turned_both : {A : Type 0} (a b : Bool) (xs : List A) → turned_row a (turned_row b xs) ≡ turned_row (flip a b) xs
+turned_both : {A : Type 0} (a b : Bool) (xs : List A) → in_direction a (in_direction b xs) ≡ in_direction (differ a b) xs
 turned_both true true xs = reverse-reverse xs
 turned_both true false xs = refl
 turned_both false b xs = refl
 
--- a bit turned twice by the same
-flip_twice : (a b : Bool) → flip (flip a b) b ≡ a
-flip_twice true true = refl
-flip_twice true false = refl
-flip_twice false true = refl
-flip_twice false false = refl
-
 -- a row turned has the same leaves
 pub turned_leaves : (may : ℕ → Bool → Bool) (way : Bool) (ks : List Node) (u : List ℕ)
-    → ReadsAll may (turned_row way ks) u
+    → ReadsAll may (in_direction way ks) u
     → IsPermutation (all_leaves ks) u
 turned_leaves may true ks u r =
     IsPermutation-trans (all_leaves ks) (all_leaves (reverse ks)) u
@@ -172,25 +165,24 @@ module _ (may : ℕ → Bool → Bool) (var v : ℕ) (ks : List Node) (row : Lis
     (fit : IsTiedRow ks row d ts) (perm : IsPermutation row (all_leaves ks)) where
   -- the readings of the row of leaves that is put in
   abbrev pub PutRow : Bool → List ℕ → Type 0
-  PutRow way u = ReadsAll may (turned_row way (map Leaf (turned_row d row))) u
+  PutRow way u = ReadsAll may (in_direction way (map Leaf (in_direction d row))) u
 
   -- of the row of nodes that is taken out
   abbrev pub TakenRow : Bool → List ℕ → Type 0
-  TakenRow way u = ReadsAll may (turned_row way ks) u
+  TakenRow way u = ReadsAll may (in_direction way ks) u
 
   -- all ties, that of the var of the Q-node among them
   abbrev pub all_ties : List (ℕ × Bool)
   all_ties = ts ++ (v, d) ∷ []
 
   -- what is put in as leaves of a row
-  put_row : (way : Bool) → turned_row way (map Leaf (turned_row d row)) ≡ map Leaf (turned_row (flip way d) row)
-  put_row way = map_turned way (turned_row d row) ∙ ap (map Leaf) (turned_both way d row)
+  put_row : (way : Bool) → in_direction way (map Leaf (in_direction d row)) ≡ map Leaf (in_direction (differ way d) row)
+  put_row way = map_turned way (in_direction d row) ∙ ap (map Leaf) (turned_both way d row)
 
   -- what is put in is read in one direction
-  row_word : (way : Bool) (u : List ℕ) → PutRow way u → u ≡ in_direction (flip way d) row
+  row_word : (way : Bool) (u : List ℕ) → PutRow way u → u ≡ in_direction (differ way d) row
   row_word way u r =
-      leaves_word may (turned_row (flip way d) row) u (subst (λ z. ReadsAll may z u) (put_row way) r)
-      ∙ sym (in_direction-turned (flip way d) row)
+      leaves_word may (in_direction (differ way d) row) u (subst (λ z. ReadsAll may z u) (put_row way) r)
 
   -- a run of kids of a Q-node as a part
   pub tied_run : IsTiedPart may var row all_ties (λ way. may v way ≡ true) TakenRow PutRow
@@ -202,27 +194,26 @@ module _ (may : ℕ → Bool → Bool) (var v : ℕ) (ks : List Node) (row : Lis
     put = λ way b g r m.
         let h = (direction_read_row ks row d ts fit may way b).0 r in
         subst (λ z. ReadsAll may z (in_direction b row)) (sym (put_row way))
-        (subst (λ z. ReadsAll may (map Leaf (turned_row z row)) (in_direction b row))
-        (sym (ap (λ z. flip z d) h.0 ∙ flip_twice b d))
-        (subst (ReadsAll may (map Leaf (turned_row b row))) (sym (in_direction-turned b row)) (leaves_read may
-        (turned_row b row))));
+        (subst (λ z. ReadsAll may (map Leaf (in_direction z row)) (in_direction b row))
+        (sym (ap (λ z. differ z d) h.0 ∙ differ_twice b d))
+        (leaves_read may (in_direction b row)));
     read = λ way u g r.
         let e = row_word way u r in (
-          flip way d,
+          differ way d,
           e,
           λ l. subst (TakenRow way) (sym e)
-              ((direction_read_row ks row d ts fit may way (flip way d)).1
-              (sym (flip_twice way d), (Licensed-cut (flip way d) may ts ((v, d) ∷ []) l).0)),
+              ((direction_read_row ks row d ts fit may way (differ way d)).1
+              (sym (differ_twice way d), (Licensed-cut (differ way d) may ts ((v, d) ∷ []) l).0)),
         );
     bound = λ one way u c g r m l.
         let parts = Licensed-cut c may ts ((v, d) ∷ []) l in
-        let same : way ≡ flip c d = one v way (flip c d) g parts.1.0 in
+        let same : way ≡ differ c d = one v way (differ c d) g parts.1.0 in
         let e : u ≡ in_direction c row =
-        row_word way u r ∙ ap (λ z. in_direction z row) (ap (λ z. flip z d) same ∙ flip_twice c d) in
+        row_word way u r ∙ ap (λ z. in_direction z row) (ap (λ z. differ z d) same ∙ differ_twice c d) in
         (e, subst (TakenRow way) (sym e) ((direction_read_row ks row d ts fit may way c).1 (same, parts.0)));
     able = λ all way g. (
-      flip way d,
-      (direction_read_row ks row d ts fit may way (flip way d)).1
-          (sym (flip_twice way d), (Licensed-cut (flip way d) may ts ((v, d) ∷ []) (all (flip way d))).0),
+      differ way d,
+      (direction_read_row ks row d ts fit may way (differ way d)).1
+          (sym (differ_twice way d), (Licensed-cut (differ way d) may ts ((v, d) ∷ []) (all (differ way d))).0),
     );
   }

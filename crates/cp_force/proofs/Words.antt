@@ -14,13 +14,16 @@ use Rattle.cp_pq.specs.declared.node.Node.TheVariants.{Leaf, P, Q, rolls-Leaf, r
 use Rattle.cp_pq.specs.Bits.{bit_of}
 use Rattle.cp_pq.specs.Nodes.{has_vars_below}
 use Rattle.cp_pq.specs.Readings.{Reads, ReadsAll, leaf, any_order, forward, backward, none, more, given}
-use Rattle.cp_force.specs.Words.{turned_row, word_by, words_by, word_step}
+use Rattle.cp_force.specs.Words.{word_by, words_by, word_step}
+use Rattle.cp_pq.specs.Promises.{in_direction}
 use Rattle.cp_pq.proofs.NodeLayers.{flat_map_map}
-use Rattle.cp_force.proofs.NodeLayers.{node_induction, has_vars_below-P, has_vars_below-Q, map-reverse, all-reverse}
+use Rattle.cp_force.proofs.NodeLayers.{node_induction, map-reverse}
+use Rattle.cp_pq.proofs.NodeTests.{below_P, below_Q}
+use Rattle.cp_lists.proofs.EachItem.{all-reverse}
 
 -- the images of a turned row
 map-turned : (f : Node → List ℕ) (turned : Bool) (row : List Node)
-    → turned_row turned (map f row) ≡ map f (turned_row turned row)
+    → in_direction turned (map f row) ≡ map f (in_direction turned row)
 map-turned f true row = sym (map-reverse f row)
 map-turned f false row = refl
 
@@ -38,12 +41,12 @@ word_by-P bits owner kids =
 
 -- the word of a Q-node
 pub word_by-Q : (bits : List Bool) (var : ℕ) (kids : List Node)
-    → word_by bits (Q var kids) ≡ words_by bits (turned_row (bit_of bits var) kids)
+    → word_by bits (Q var kids) ≡ words_by bits (in_direction (bit_of bits var) kids)
 unfolding word_by words_by
 word_by-Q bits var kids =
     ap (word_by bits) (sym (rolls-Q var kids)) ∙ fold-roll-Node (List ℕ) (word_step bits) (Node-F.Q var kids)
     ∙ ap (λ rows. flat_map (λ (row : List ℕ). row) rows) (map-turned (word_by bits) (bit_of bits var) kids)
-    ∙ flat_map_map (word_by bits) (turned_row (bit_of bits var) kids)
+    ∙ flat_map_map (word_by bits) (in_direction (bit_of bits var) kids)
 
 -- the word of a row with one node more
 pub words_by-more : (bits : List Bool) (row : List Node) (i : ℕ) (d : Node) → i < length row
@@ -87,13 +90,13 @@ given_bit bits v lt = and_from (nat_lt v (length bits)) (beq (bit_of bits v) (bi
 
 -- a Q-node is read in the direction of its bit
 pub Reads-turned : (may : ℕ → Bool → Bool) (var : ℕ) (kids : List Node) (b : Bool) (xs : List ℕ)
-    → may var b ≡ true → ReadsAll may (turned_row b kids) xs → Reads may (Q var kids) xs
+    → may var b ≡ true → ReadsAll may (in_direction b kids) xs → Reads may (Q var kids) xs
 Reads-turned may var kids true xs may_be all = backward var kids xs may_be all
 Reads-turned may var kids false xs may_be all = forward var kids xs may_be all
 
 -- what holds of a row holds of it turned
 pub all-turned : (M : Node → Type 0) (b : Bool) (row : List Node) → AllByRecursion M row
-    → AllByRecursion M (turned_row b row)
+    → AllByRecursion M (in_direction b row)
 all-turned M true row all = all-reverse M row all
 all-turned M false row all = all
 
@@ -107,24 +110,24 @@ Reads-word bits = node_induction (λ n. has_vars_below (length bits) n ≡ true 
     (any_order owner kids kids (words_by bits kids) (IsPermutation-refl kids)
     (ReadsAll-words bits (given bits) kids
     (all_given (has_vars_below (length bits)) (λ n. Reads (given bits) n (word_by bits n)) kids all
-    (sym (has_vars_below-P (length bits) owner kids) ∙ below)))))
+    (sym (below_P (length bits) owner kids) ∙ below)))))
     (λ var kids all below.
     let parts = and_parts (nat_lt var (length bits)) (list_all (has_vars_below (length bits)) kids)
-    (sym (has_vars_below-Q (length bits) var kids) ∙ below) in
+    (sym (below_Q (length bits) var kids) ∙ below) in
     subst (Reads (given bits) (Q var kids)) (sym (word_by-Q bits var kids))
-    (Reads-turned (given bits) var kids (bit_of bits var) (words_by bits (turned_row (bit_of bits var) kids))
+    (Reads-turned (given bits) var kids (bit_of bits var) (words_by bits (in_direction (bit_of bits var) kids))
     (given_bit bits var parts.0)
-    (ReadsAll-words bits (given bits) (turned_row (bit_of bits var) kids)
+    (ReadsAll-words bits (given bits) (in_direction (bit_of bits var) kids)
     (all-turned (λ n. Reads (given bits) n (word_by bits n)) (bit_of bits var) kids
     (all_given (has_vars_below (length bits)) (λ n. Reads (given bits) n (word_by bits n)) kids all parts.1)))))
 
 -- the node that comes at turn i in a row that is turned or not
 pub turned_at : (turned : Bool) (row : List Node) (i : ℕ) (d : Node) → i < length row
-    → get_or (turned_row turned row) i d ≡ get_or row (cond turned (length row - 1 - i) i) d
+    → get_or (in_direction turned row) i d ≡ get_or row (cond turned (length row - 1 - i) i) d
 turned_at true row i d lt = get_or-reverse row i d lt
 turned_at false row i d lt = refl
 
 -- a turned row is as long
-pub length-turned : (turned : Bool) (row : List Node) → length (turned_row turned row) ≡ length row
+pub length-turned : (turned : Bool) (row : List Node) → length (in_direction turned row) ≡ length row
 length-turned true row = length-reverse row
 length-turned false row = refl

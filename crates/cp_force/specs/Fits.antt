@@ -10,7 +10,7 @@ use Rattle.cp_pq.specs.Nodes.{leaves, all_leaves, has_vars_below}
 use Rattle.cp_pq.specs.Readings.{Reads, ReadsAll}
 use Rattle.cp_pq.specs.Words.{Licensed}
 use Rattle.cp_force.specs.declared.fitting.Fitted.{Fitted}
-use Rattle.cp_force.specs.Words.{turned_row}
+use Rattle.cp_pq.specs.Promises.{in_direction}
 
 -- the place of each leaf of an order
 abbrev pub PlaceMap : Type 0
@@ -42,9 +42,9 @@ pub record IsFitted (place : ℕ → ℕ) (n : Node) (f : Fitted) : Type 0 where
 -- directions
 pub record IsFittedRow (place : ℕ → ℕ) (ks : List Node) (turned : Bool) (f : Fitted) : Type 0 where
   pub near : (x : ℕ) × Has x (all_leaves ks) × (f.key ≡ place x)
-  pub only : (may : ℕ → Bool → Bool) (way : Bool) (xs : List ℕ) → ReadsAll may (turned_row way ks) xs → Rises place xs
+  pub only : (may : ℕ → Bool → Bool) (way : Bool) (xs : List ℕ) → ReadsAll may (in_direction way ks) xs → Rises place xs
       → (way ≡ turned) × (xs ≡ f.word) × Licensed false may f.ties
-  pub reads : (may : ℕ → Bool → Bool) → Licensed false may f.ties → ReadsAll may (turned_row turned ks) f.word
+  pub reads : (may : ℕ → Bool → Bool) → Licensed false may f.ties → ReadsAll may (in_direction turned ks) f.word
   pub below : (vars : ℕ) → list_all (has_vars_below vars) ks ≡ true → AreBelow vars f.ties
 
 -- the words of a row, one behind the other
@@ -73,6 +73,6 @@ pub record IsTiedReading (n : Node) (order : List ℕ) (ties : List (ℕ × Bool
 
 -- the order is a reading of the row in one direction, exactly where the ties are licensed, and none in the other
 pub record IsTiedRow (ks : List Node) (order : List ℕ) (turned : Bool) (ties : List (ℕ × Bool)) : Type 0 where
-  pub reads : (may : ℕ → Bool → Bool) (way : Bool) → ReadsAll may (turned_row way ks) order
+  pub reads : (may : ℕ → Bool → Bool) (way : Bool) → ReadsAll may (in_direction way ks) order
       ↔ ((way ≡ turned) × Licensed false may ties)
   pub below : (vars : ℕ) → list_all (has_vars_below vars) ks ≡ true → AreBelow vars ties

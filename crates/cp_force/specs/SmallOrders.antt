@@ -1,5 +1,5 @@
 -- Tests of orders of small stars, for lists that are written out.
-use Rattle.std.specs.Prelude.{ℕ, Bool, ◌&&◌, List, [], ◌∷◌}
+use Rattle.std.specs.Prelude.{ℕ, Bool, ◌&&◌, List, ◌∷◌}
 use Rattle.std.specs.List.{list_all}
 use Rattle.cp_pq.specs.Orders.{inside}
 use Rattle.cp_pq.specs.SmallTrees.{are_apart, is_some}

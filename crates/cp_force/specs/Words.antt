@@ -1,20 +1,17 @@
 -- What bits read of a node whose P-nodes are read as they stand.
-use Rattle.std.specs.Prelude.{ℕ, Bool, false, cond, Option, Some, None, List, [], ◌∷◌, reverse}
+use Rattle.std.specs.Prelude.{ℕ, Bool, false, Option, Some, None, List, [], ◌∷◌}
 use Rattle.std.specs.List.{flat_map}
 use Rattle.cp_pq.specs.declared.node.Node.{Node}
 use Rattle.cp_pq.specs.declared.node.Node.TheOpen.{Node-F}
 use Rattle.cp_pq.specs.declared.node.Node.TheFolds.{fold-Node}
 use Rattle.cp_pq.specs.declared.part.Part.{Part}
 use Rattle.cp_pq.specs.Bits.{bit_of}
-
--- the row, or the row from its end
-abbrev pub turned_row : {A : Type 0} → Bool → List A → List A
-turned_row turned row = cond turned (reverse row) row
+use Rattle.cp_pq.specs.Promises.{in_direction}
 
 abbrev pub word_step : List Bool → Node-F (List ℕ) → List ℕ
 word_step bits (Node-F.Leaf x) = x ∷ []
 word_step bits (Node-F.P owner words) = flat_map (λ word. word) words
-word_step bits (Node-F.Q var words) = flat_map (λ word. word) (turned_row (bit_of bits var) words)
+word_step bits (Node-F.Q var words) = flat_map (λ word. word) (in_direction (bit_of bits var) words)
 
 -- the leaves of a node: a P-node in its order, a Q-node by the bit of its var
 unfoldable pub word_by : List Bool → Node → List ℕ
@@ -31,4 +28,4 @@ is_read_back bits (Some var) = bit_of bits var
 
 -- the leaves of a part: the row of its kids by the bit of its var
 abbrev pub part_word : List Bool → Part → List ℕ
-part_word bits part = words_by bits (turned_row (is_read_back bits part.var) part.kids)
+part_word bits part = words_by bits (in_direction (is_read_back bits part.var) part.kids)

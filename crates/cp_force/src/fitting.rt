@@ -6,7 +6,7 @@ ghost use Rattle.cp_pq.specs.declared.node.Node.{Node};
 ghost use Rattle.cp_pq.specs.declared.node.Node.TheVariants.{Leaf, P, Q};
 ghost use Rattle.cp_pq.specs.Nodes.{is_branching};
 ghost use Rattle.cp_pq.specs.Readings.{Reads, ReadsAll};
-ghost use Rattle.cp_force.specs.Words.{turned_row};
+ghost use Rattle.cp_pq.specs.Promises.{in_direction};
 ghost use Rattle.cp_force.specs.Fits.{place_in, Rises, IsFitted, IsFittedRow, IsTiedReading, IsTiedRow, words_of, ties_of, first_key, is_turned};
 
 use cp_base::Memory;
@@ -140,7 +140,7 @@ fn fit_q(alloc: Global, var: usize, row: Vec<Fitted>) -> Result<Fitted, Memory>
 
 // The row, or the row from its end.
 fn directed(row: Vec<Fitted>, turned: bool) -> Vec<Fitted>
-    ensures { result.items ≡ turned_row turned row.items }
+    ensures { result.items ≡ in_direction turned row.items }
 {
     let mut row = row;
     if turned {
@@ -222,7 +222,7 @@ pub(crate) fn fit_run(
     requires two { 2 ≤ length nodes.now }
     requires distinct { Distinct order.now }
     ensures { IfOk result (λ r. MatchOption r
-        ((may : ℕ → Bool → Bool) (way : Bool) → ReadsAll may (turned_row way nodes.now) order.now → ⊥)
+        ((may : ℕ → Bool → Bool) (way : Bool) → ReadsAll may (in_direction way nodes.now) order.now → ⊥)
         (λ run. IsTiedRow nodes.now order.now run.0 run.1)) }
 {
     let places = places_of(alloc, order)?;

@@ -8,9 +8,8 @@ ghost use Rattle.cp_pq.specs.Nodes.{leaves};
 ghost use Rattle.cp_pq.specs.Frames.{fill};
 ghost use Rattle.cp_pq.specs.Ties.{tie_equations};
 ghost use Rattle.cp_pq.specs.Trees.{PQTree, make_tree, IsWellFormed};
-ghost use Rattle.cp_pq.specs.Promises.{IsLeafSet, IsReduced, IsNeverConsecutive, IsForced, IsNeverInRow};
+ghost use Rattle.cp_pq.specs.Promises.{IsForced, IsLeafSet, IsNeverConsecutive, IsNeverInRow, IsReduced, in_direction};
 ghost use Rattle.cp_force.specs.declared.fault.ForceFault.TheVariants.{NotOrderable};
-ghost use Rattle.cp_force.specs.Words.{turned_row};
 ghost use Rattle.cp_force.specs.Forced.{forced_node, IsOpened};
 
 use crate::fault::ForceFault;
@@ -32,7 +31,7 @@ fn leaf_set(alloc: Global, order: &[usize]) -> Result<Vec<usize>, Memory>
 
 // The order, or the order from its end.
 fn directed_copy(alloc: Global, order: &[usize], turned: bool) -> Result<Vec<usize>, Memory>
-    ensures { IfOk result (λ copy. copy.items ≡ turned_row turned order.now) }
+    ensures { IfOk result (λ copy. copy.items ≡ in_direction turned order.now) }
 {
     let mut copy = Vec::from_slice(alloc, order)?;
     if turned {

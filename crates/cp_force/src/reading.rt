@@ -3,7 +3,8 @@ ghost use Rattle.std.specs.Prelude.{◌≡◌, ◌+◌, ◌-◌, ◌<◌, ◌++�
 ghost use Rattle.std.specs.List.{AllByRecursion};
 ghost use Rattle.cp_pq.specs.Bits.{bit_of, IsMet};
 ghost use Rattle.cp_pq.specs.Trees.{IsPair};
-ghost use Rattle.cp_force.specs.Words.{word_by, words_by, turned_row, is_read_back, part_word};
+ghost use Rattle.cp_force.specs.Words.{word_by, words_by, is_read_back, part_word};
+ghost use Rattle.cp_pq.specs.Promises.{in_direction};
 
 use cp_base::{CycList, Memory};
 use cp_pq::{Node, Part, Tree};
@@ -54,7 +55,7 @@ fn push_words(
     bits: &[bool],
     word: &mut Vec<usize>,
 ) -> Result<(), Memory>
-    ensures { OnOk result (word.new.items ≡ word.old.items ++ words_by bits.now (turned_row turned nodes.now)) }
+    ensures { OnOk result (word.new.items ≡ word.old.items ++ words_by bits.now (in_direction turned nodes.now)) }
 {
     for i in 0..nodes.len() {
         push_word(&nodes[place(nodes.len(), turned, i)], bits, word)?;

@@ -5,7 +5,7 @@ use Rattle.std.proofs.lemmas.Bool.{cases_eq}
 use Rattle.std.proofs.lemmas.List.{get_or-set_same, get_or-set_other, get_or-replicate, length-replicate}
 use Rattle.std.proofs.lemmas.List.Elements.{Contains-append_cases, Contains-append_left, Contains-append_right}
 use Rattle.cp_base.specs.declared.equation.Equation.{Equation}
-use Rattle.cp_parity.specs.Equations.{HasVarsBelow, Touches}
+use Rattle.cp_parity.specs.Equations.{IsOverVars, Touches}
 use Rattle.cp_parity.specs.EquationLists.{AreOf, AreListed}
 use Rattle.cp_parity.proofs.LookUps.{same_at}
 
@@ -56,7 +56,7 @@ AreListed-none eqs vars = record {
 
 -- one equation more is listed, at both of its vars
 pub AreListed-more : (eqs : List Equation) (vars place : ℕ) (lists : List (List ℕ)) (e : Equation) (one two : List ℕ)
-    → AreListed eqs vars place lists → HasVarsBelow vars e → slice_get eqs place ≡ Some e
+    → AreListed eqs vars place lists → IsOverVars vars e → slice_get eqs place ≡ Some e
     → one ≡ get_or lists e.x [] ++ place ∷ [] → two ≡ get_or (set lists e.x one) e.y [] ++ place ∷ []
     → AreListed eqs vars (place + 1) (set (set lists e.x one) e.y two)
 AreListed-more eqs vars place lists e one two listed within at one_is two_is = record {

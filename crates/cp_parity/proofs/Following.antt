@@ -6,10 +6,10 @@ use Rattle.std.proofs.lemmas.Option.{slice_get_within, slice_get_read}
 use Rattle.cp_base.specs.declared.equation.Equation.{Equation}
 use Rattle.cp_orbits.specs.Connected.{Joins}
 use Rattle.cp_parity.specs.declared.found.Found.{Found}
-use Rattle.cp_parity.specs.Equations.{differ, HasVarsBelow, IsOddCycle}
+use Rattle.cp_parity.specs.Equations.{differ, IsOverVars, IsOddCycle}
 use Rattle.cp_parity.specs.Search.{Hangs, IsTree, IsSearch, GoesOn, IsSettled, AreDone}
 use Rattle.cp_parity.proofs.LookUps.{All-at, same_at, at_append, at_end}
-use Rattle.cp_parity.proofs.Parity.{differ-comm}
+use Rattle.cp_base.proofs.Bits.{differ-comm}
 use Rattle.cp_parity.proofs.Walks.{Joins-sym}
 use Rattle.cp_parity.proofs.SearchSteps.{not_before_root, GoesOn-find, IsSettled-from}
 
@@ -54,7 +54,7 @@ pub record IsStep (eqs : List Equation) (root : ℕ) (found : List Found) (place
 -- what the code reads of a step
 pub IsStep-from : (eqs : List Equation) (root : ℕ) (found : List Found) (places : List (Option ℕ)) (link from : ℕ)
     (e : Equation) (f : Found) (var : ℕ)
-    → All (HasVarsBelow (length places)) eqs → slice_get eqs link ≡ Some e → from < length found
+    → All (IsOverVars (length places)) eqs → slice_get eqs link ≡ Some e → from < length found
     → f ≡ get_or found from f → root ≤ from
     → Joins (e.x, e.y) f.var var → IsStep eqs root found places link from e f var
 IsStep-from eqs root found places link from e f var vars at lt read below joined = record {
@@ -66,8 +66,8 @@ IsStep-from eqs root found places link from e f var vars at lt read below joined
       (λ h. subst (λ (v : ℕ). v < length places) h.0 ends.0) joined;
 }
   where
-    ends : HasVarsBelow (length places) e
-    ends = All-at (HasVarsBelow (length places)) eqs link e vars at
+    ends : IsOverVars (length places) e
+    ends = All-at (IsOverVars (length places)) eqs link e vars at
 
 -- the var was found before
 pub found_before : (eqs : List Equation) (root : ℕ) (found : List Found) (places : List (Option ℕ)) (link from : ℕ)

@@ -8,7 +8,8 @@ use Rattle.cp_parity.specs.declared.fault.ParityFault.{ParityFault}
 use Rattle.cp_parity.specs.declared.fault.ParityFault.TheVariants.{Conflict, Memory}
 use Rattle.cp_parity.specs.Search.{parity}
 use Rattle.cp_parity.proofs.LookUps.{All-at}
-use Rattle.cp_parity.proofs.Parity.{differ_same, differ-comm, differ_through, is_odd_at-is, parity-count}
+use Rattle.cp_parity.proofs.Parity.{is_odd_at-is, parity-count}
+use Rattle.cp_base.proofs.Bits.{differ-comm, differ_same, differ_through}
 
 -- an equation that is met ties the bits of the two vars that it joins
 met_joins : (bits : List Bool) (e : Equation) (x y : ℕ) → IsMet bits e → Joins (e.x, e.y) x y

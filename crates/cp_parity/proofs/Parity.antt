@@ -5,47 +5,9 @@ use Rattle.std.proofs.lemmas.List.{reverse-append}
 use Rattle.std.proofs.lemmas.List.Sums.{sum_by-cons}
 use Rattle.std.proofs.lemmas.Option.{none-some, same_Some}
 use Rattle.cp_base.specs.declared.equation.Equation.{Equation}
+use Rattle.cp_base.proofs.Bits.{differ-assoc, differ-comm, differ_false}
 use Rattle.cp_parity.specs.Equations.{differ, is_odd_at}
 use Rattle.cp_parity.specs.Search.{parity}
-
--- a bit is no different from itself
-pub differ_same : (a : Bool) → differ a a ≡ false
-differ_same true = refl
-differ_same false = refl
-
--- the order of two bits does not matter
-pub differ-comm : (a b : Bool) → differ a b ≡ differ b a
-differ-comm true true = refl
-differ-comm true false = refl
-differ-comm false true = refl
-differ-comm false false = refl
-
--- the middle one of three bits falls out
-pub differ_through : (a b c : Bool) → differ (differ a b) (differ b c) ≡ differ a c
-differ_through true true true = refl
-differ_through true true false = refl
-differ_through true false true = refl
-differ_through true false false = refl
-differ_through false true true = refl
-differ_through false true false = refl
-differ_through false false true = refl
-differ_through false false false = refl
-
--- brackets do not matter
-pub differ-assoc : (a b c : Bool) → differ (differ a b) c ≡ differ a (differ b c)
-differ-assoc true true true = refl
-differ-assoc true true false = refl
-differ-assoc true false true = refl
-differ-assoc true false false = refl
-differ-assoc false true true = refl
-differ-assoc false true false = refl
-differ-assoc false false true = refl
-differ-assoc false false false = refl
-
--- nothing changes nothing
-pub differ_false : (a : Bool) → differ false a ≡ a
-differ_false true = refl
-differ_false false = refl
 
 -- bits that are not equal to those that a test wants differ by one
 pub differ_ne : (a b c : Bool) → (differ a b ≡ c → ⊥) → differ c (differ a b) ≡ true

@@ -9,10 +9,10 @@ use Rattle.cp_lists.proofs.Counting.{count_all, count_inject}
 use Rattle.cp_base.specs.declared.equation.Equation.{Equation}
 use Rattle.cp_orbits.specs.Connected.{Joins}
 use Rattle.cp_parity.specs.declared.found.Found.{Found}
-use Rattle.cp_parity.specs.Equations.{differ, Touches, HasVarsBelow, IsMet}
+use Rattle.cp_parity.specs.Equations.{differ, Touches, IsOverVars, IsMet}
 use Rattle.cp_parity.specs.EquationLists.{AreOf}
 use Rattle.cp_parity.specs.Search.{AreRooted, Hangs, IsTree, ArePlaced, IsSearch, StayFound, GoesOn, IsSettled, AreDone, AreAllDone, IsFound, HasBits}
-use Rattle.cp_parity.proofs.Parity.{differ-comm}
+use Rattle.cp_base.proofs.Bits.{differ-comm}
 use Rattle.cp_parity.proofs.LookUps.{same_at, at_append, at_end, at_cases, at_set, at_set_other, at_replicate}
 
 -- what hangs in a tree is rooted
@@ -302,7 +302,7 @@ HasBits-more found places done f bits placed at within all k g lt gat = ⊎_elim
 
 -- where all vars were found and all is done, their bits meet all equations
 pub all_met : (eqs : List Equation) (vars : ℕ) (found : List Found) (bits : List Bool)
-    → All (HasVarsBelow vars) eqs → ((x : ℕ) → x < vars → IsFound found x) → AreAllDone eqs found
+    → All (IsOverVars vars) eqs → ((x : ℕ) → x < vars → IsFound found x) → AreAllDone eqs found
     → HasBits found (length found) bits → All (IsMet bits) eqs
 all_met eqs vars found bits within found_all done has i d lt =
     let e : Equation = get_or eqs i d in

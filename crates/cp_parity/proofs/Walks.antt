@@ -6,7 +6,8 @@ use Rattle.cp_orbits.specs.Connected.{Joins}
 use Rattle.cp_parity.specs.declared.found.Found.{Found}
 use Rattle.cp_parity.specs.Equations.{differ, IsWalk, IsOddCycle}
 use Rattle.cp_parity.specs.Search.{parity, Leads, Hangs}
-use Rattle.cp_parity.proofs.Parity.{differ_same, differ-comm, differ_through, differ_ne, is_odd_at-is, parity-append, parity_one, parity-reverse, parity-count}
+use Rattle.cp_parity.proofs.Parity.{differ_ne, is_odd_at-is, parity-append, parity_one, parity-reverse, parity-count}
+use Rattle.cp_base.proofs.Bits.{differ-comm, differ_same, differ_through}
 
 -- what joins x to y joins y to x
 pub Joins-sym : (p : ℕ × ℕ) (x y : ℕ) → Joins p x y → Joins p y x

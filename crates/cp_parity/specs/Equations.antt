@@ -1,31 +1,15 @@
 -- Equations over bits, and closed walks along them.
-use Rattle.std.specs.Prelude.{◌≡◌, ℕ, ◌%◌, ◌<◌, ◌⊎◌, Bool, true, false, not, Some, List, [], ◌∷◌, map, slice_get, slice_index_or}
+use Rattle.std.specs.Prelude.{◌≡◌, ℕ, ◌%◌, ◌⊎◌, Bool, false, Some, List, [], ◌∷◌, map, slice_get, slice_index_or}
 use Rattle.std.specs.List.{All, count_by}
 use Rattle.cp_base.specs.declared.equation.Equation.{Equation}
+pub use Rattle.cp_base.specs.Bits.{bit_of, differ, IsMet, IsOverVars}
 use Rattle.cp_orbits.specs.Connected.{Joins}
 use Rattle.cp_parity.specs.declared.fault.ParityFault.{ParityFault}
 use Rattle.cp_parity.specs.declared.fault.ParityFault.TheVariants.{Conflict, Memory}
 
--- the two vars of the equation are below the number of vars
-abbrev pub HasVarsBelow : ℕ → Equation → Type 0
-HasVarsBelow vars e = (e.x < vars) × (e.y < vars)
-
 -- x is one of the two vars of the equation
 abbrev pub Touches : Equation → ℕ → Type 0
 Touches e x = (e.x ≡ x) ⊎ (e.y ≡ x)
-
--- whether two bits differ
-abbrev pub differ : Bool → Bool → Bool
-differ false b = b
-differ true b = not b
-
--- the bit of var x
-abbrev pub bit_of : List Bool → ℕ → Bool
-bit_of bits x = slice_index_or bits x false
-
--- the bits of the two vars differ exactly where the equation is odd
-abbrev pub IsMet : List Bool → Equation → Type 0
-IsMet bits e = differ (bit_of bits e.x) (bit_of bits e.y) ≡ e.odd
 
 -- the equations at the places lead from var x to var z, each between two neighbours of the walk
 abbrev pub IsWalk : List Equation → ℕ → List ℕ → ℕ → Type 0

@@ -1,7 +1,7 @@
 // The equations of each var.
 ghost use Rattle.std.specs.Prelude.{◌≡◌, [], length, replicate, IfOk};
 ghost use Rattle.std.specs.List.{All};
-ghost use Rattle.cp_parity.specs.Equations.{HasVarsBelow};
+ghost use Rattle.cp_parity.specs.Equations.{IsOverVars};
 ghost use Rattle.cp_parity.specs.EquationLists.{AreListed};
 
 use crate::fault::Places;
@@ -25,7 +25,7 @@ pub(crate) fn equations_by_var(
     vars: usize,
     eqs: &[Equation],
 ) -> Result<Vec<Places>, Memory>
-    requires { All (HasVarsBelow vars) eqs.now }
+    requires { All (IsOverVars vars) eqs.now }
     ensures { IfOk result (λ lists. AreListed eqs.now vars (length eqs.now) lists.items) }
 {
     let mut lists = empty_lists(alloc, vars)?;

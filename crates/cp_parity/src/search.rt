@@ -4,7 +4,7 @@ ghost use Rattle.std.specs.List.{All, Contains};
 ghost use Rattle.cp_base.specs.declared.equation.Equation.{Equation};
 ghost use Rattle.cp_orbits.specs.Connected.{Joins};
 ghost use Rattle.cp_parity.specs.declared.found.Found.{Found};
-ghost use Rattle.cp_parity.specs.Equations.{HasVarsBelow, Touches, HasOddCycle};
+ghost use Rattle.cp_parity.specs.Equations.{IsOverVars, Touches, HasOddCycle};
 ghost use Rattle.cp_parity.specs.EquationLists.{AreListed};
 ghost use Rattle.cp_parity.specs.Search.{IsSearch, GoesOn, AreDone, IsSettled};
 
@@ -65,7 +65,7 @@ fn follow(
     root: usize,
     search: &mut Search,
 ) -> Result<(), ParityFault>
-    requires vars_within { All (HasVarsBelow (length search.old.places.items)) eqs.now }
+    requires vars_within { All (IsOverVars (length search.old.places.items)) eqs.now }
     requires link_within { link < length eqs.now }
     requires from_within { from < length search.old.found.items }
     requires below { root ≤ from }
@@ -112,7 +112,7 @@ fn follow_all(
     root: usize,
     search: &mut Search,
 ) -> Result<(), ParityFault>
-    requires vars_within { All (HasVarsBelow (length search.old.places.items)) eqs.now }
+    requires vars_within { All (IsOverVars (length search.old.places.items)) eqs.now }
     requires listed { AreListed eqs.now (length search.old.places.items) (length eqs.now) lists.now }
     requires from_within { from < length search.old.found.items }
     requires below { root ≤ from }
@@ -138,7 +138,7 @@ pub(crate) fn run(
     root: usize,
     search: &mut Search,
 ) -> Result<(), ParityFault>
-    requires vars_within { All (HasVarsBelow (length search.old.places.items)) eqs.now }
+    requires vars_within { All (IsOverVars (length search.old.places.items)) eqs.now }
     requires listed { AreListed eqs.now (length search.old.places.items) (length eqs.now) lists.now }
     requires root_within { root ≤ length search.old.found.items }
     requires is_search { IsSearch eqs.now root search.old.found.items search.old.places.items }

@@ -1,7 +1,7 @@
 // Bits that meet all equations.
 ghost use Rattle.std.specs.Prelude.{◌≡◌, ℕ, ◌+◌, ◌<◌, Bool, List, length, IfErr, IfOk, OnOk};
 ghost use Rattle.std.specs.List.{All};
-ghost use Rattle.cp_parity.specs.Equations.{HasVarsBelow, IsMet, HasOddCycle, HaveNoBits};
+ghost use Rattle.cp_parity.specs.Equations.{IsOverVars, IsMet, HasOddCycle, HaveNoBits};
 ghost use Rattle.cp_parity.specs.EquationLists.{AreListed};
 ghost use Rattle.cp_parity.specs.Search.{ArePlaced, AreAllDone, IsFound, HasBits};
 
@@ -20,7 +20,7 @@ fn visit(
     var: usize,
     search: &mut Search,
 ) -> Result<(), ParityFault>
-    requires vars_within { All (HasVarsBelow (length search.old.places.items)) eqs.now }
+    requires vars_within { All (IsOverVars (length search.old.places.items)) eqs.now }
     requires listed { AreListed eqs.now (length search.old.places.items) (length eqs.now) lists.now }
     requires var_within { var < length search.old.places.items }
     requires placed { ArePlaced search.old.found.items search.old.places.items }
@@ -64,7 +64,7 @@ fn bits_of(alloc: Global, search: &Search) -> Result<Vec<bool>, Memory>
 
 /// Bits that meet all equations, one for each var. Linear in the numbers of vars and equations.
 pub fn solve(alloc: Global, vars: usize, eqs: &[Equation]) -> Result<Vec<bool>, ParityFault>
-    requires { All (HasVarsBelow vars) eqs.now }
+    requires { All (IsOverVars vars) eqs.now }
     ensures size { IfOk result (λ bits. length bits.items ≡ vars) }
     ensures met { IfOk result (λ bits. All (IsMet bits.items) eqs.now) }
     ensures odd_cycle { IfErr result (HasOddCycle eqs.now) }

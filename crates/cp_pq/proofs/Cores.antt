@@ -9,7 +9,7 @@ use Rattle.cp_pq.specs.declared.node.Node.{Node}
 use Rattle.cp_pq.specs.declared.node.Node.TheVariants.{P, Q}
 use Rattle.cp_pq.specs.declared.found.Found.{Found}
 use Rattle.cp_pq.specs.Words.{Opposite, sorted, has_all, Licensed, turned, is_mixed, is_met, is_clear, group_of}
-use Rattle.cp_pq.specs.Bits.{flip}
+use Rattle.cp_pq.specs.Bits.{differ}
 use Rattle.cp_pq.specs.Changes.{by_bit, IsDone}
 use Rattle.cp_pq.specs.Founds.{IsGiven, Sorts, is_torn, line_of, flat_line, turn_found}
 use Rattle.cp_pq.specs.Keeping.{any_bound, Keeps}
@@ -42,7 +42,7 @@ licensed_twice : (d : Bool) (may : ℕ → Bool → Bool) (ts : List (ℕ × Boo
 licensed_twice d may [] = (λ x. x, λ x. x)
 licensed_twice d may (t ∷ ts) =
     let g = licensed_twice d may ts in
-    let e : not (not (flip d t.1)) ≡ flip d t.1 = not_twice (flip d t.1) in
+    let e : not (not (differ d t.1)) ≡ differ d t.1 = not_twice (differ d t.1) in
     (λ x. (subst (λ b. may t.0 b ≡ true) (sym e) x.0, g.0 x.1), λ x. (subst (λ b. may t.0 b ≡ true) e x.0, g.1 x.1))
 
 grant_twice : (f : Found) (may : ℕ → Bool → Bool) → Grant may f ↔ Grant (turned (turned may)) f

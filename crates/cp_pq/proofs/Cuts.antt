@@ -3,15 +3,13 @@ use Rattle.std.proofs.Common.{◌≡◌, ◌≢◌, ℕ, ◌≤◌, Bool, true, 
 use Rattle.std.proofs.Common.{length-append, map, filter, inl, inr, ⊎_elim, refl, sym, ap, ◌∙◌, subst, append_assoc}
 use Rattle.std.proofs.Common.{append-nil, arith}
 use Rattle.std.specs.List.{list_all, AllZip}
-use Rattle.std.proofs.lemmas.Bool.{both_ways, true≢false, false≢true, and_parts, and_from}
-use Rattle.std.proofs.lemmas.List.Folds.{list_all-append}
+use Rattle.std.proofs.lemmas.Bool.{both_ways, and_parts, and_from}
 use Rattle.std.proofs.lemmas.List.Elements.{filter-append}
 use Rattle.cp_pq.specs.declared.node.Node.{Node}
 use Rattle.cp_pq.specs.declared.found.Found.{Found}
 use Rattle.cp_pq.specs.Words.{has_all, is_clear, is_met}
 use Rattle.cp_pq.specs.Founds.{IsGiven, out_node, in_node}
 use Rattle.cp_pq.specs.Cuts.{IsCut}
-use Rattle.cp_pq.proofs.Permutations.{filter_none}
 use Rattle.cp_pq.proofs.FilledRows.{not_nil}
 use Rattle.cp_pq.proofs.AlwaysTogether.{Run}
 

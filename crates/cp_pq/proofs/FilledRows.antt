@@ -1,18 +1,17 @@
 -- Rows put into frames: their leaves, and tests of nodes.
 use Rattle.std.proofs.Common.{◌≡◌, ℕ, ◌≤◌, Bool, true, Option, Some, None, List, [], ◌∷◌, ◌++◌, length, length-append}
-use Rattle.std.proofs.Common.{refl, sym, ap, ◌∙◌, subst, subst₂, append_assoc, append-nil, arith, IsPermutation}
+use Rattle.std.proofs.Common.{refl, sym, ap, ◌∙◌, subst, append_assoc, append-nil, arith, IsPermutation}
 use Rattle.std.specs.Prelude.{nat_lt}
 use Rattle.std.specs.List.{list_all}
 use Rattle.std.proofs.lemmas.Bool.{and_parts, and_from}
 use Rattle.std.proofs.lemmas.List.Folds.{list_all-append}
-use Rattle.std.proofs.lemmas.List.Sorted.{IsPermutation-trans, IsPermutation-append_left, IsPermutation-append_right}
+use Rattle.std.proofs.lemmas.List.Sorted.{IsPermutation-trans, IsPermutation-append_left}
 use Rattle.std.proofs.lemmas.List.Sorted.{IsPermutation-append_comm}
 use Rattle.cp_pq.specs.declared.node.Node.{Node}
 use Rattle.cp_pq.specs.declared.node.Node.TheVariants.{P, Q}
 use Rattle.cp_pq.specs.declared.frame.Label.{Label}
 use Rattle.cp_pq.specs.declared.frame.Frame.{Frame}
 use Rattle.cp_pq.specs.Nodes.{leaves, all_leaves, is_branching, has_vars_below}
-use Rattle.cp_pq.specs.Words.{has_all}
 use Rattle.cp_pq.specs.Frames.{node_of, fill, AreOutside}
 use Rattle.cp_pq.specs.Holes.{IsInQ, IsPartAt}
 use Rattle.cp_pq.proofs.NodeLayers.{leaves_P, leaves_Q, all_leaves_one, all_leaves_append}
@@ -90,10 +89,8 @@ beside_outside q (f ∷ fs) h =
 abbrev StaysLong : List Node → List Node → Type 0
 StaysLong ks js = 2 ≤ length ks → 2 ≤ length js
 
--- a test of nodes that an inner node passes with its kids, and with other kids that pass it
-module _ (t : Node → Bool) (parts : (l : Label) (ks : List Node) → t (node_of l ks) ≡ true → list_all t ks ≡ true)
-    (again : (l : Label) (ks js : List Node) → t (node_of l ks) ≡ true → StaysLong ks js → list_all t js ≡ true
-    → t (node_of l js) ≡ true) where
+-- a test of nodes that an inner node passes only where its kids do
+module _ (t : Node → Bool) (parts : (l : Label) (ks : List Node) → t (node_of l ks) ≡ true → list_all t ks ≡ true) where
   -- what stands in a frame passes the test where the node does
   sides : (f : Frame) (ks : List Node) → t (node_of f.label (f.before ++ (ks ++ f.after))) ≡ true
       → (list_all t f.before ≡ true) × (list_all t ks ≡ true) × (list_all t f.after ≡ true)
@@ -103,18 +100,22 @@ module _ (t : Node → Bool) (parts : (l : Label) (ks : List Node) → t (node_o
       (a.0, b.0, b.1)
 
   -- the row in the hole passes the test where the whole does
-  test_inner : (fs : List Frame) (ks : List Node) → list_all t (fill fs ks) ≡ true → list_all t ks ≡ true
+  pub test_inner : (fs : List Frame) (ks : List Node) → list_all t (fill fs ks) ≡ true → list_all t ks ≡ true
   test_inner [] ks h = h
   test_inner (f ∷ fs) ks h =
       let node = node_of f.label (f.before ++ (ks ++ f.after)) in
       (sides f ks (sym (all_one t node) ∙ test_inner fs (node ∷ []) h)).1
 
+-- and that it passes with other kids too that pass it
+module _ (t : Node → Bool) (parts : (l : Label) (ks : List Node) → t (node_of l ks) ≡ true → list_all t ks ≡ true)
+    (again : (l : Label) (ks js : List Node) → t (node_of l ks) ≡ true → StaysLong ks js → list_all t js ≡ true
+    → t (node_of l js) ≡ true) where
   -- a frame passes the test with another row in it that does
   frame_test : (f : Frame) (ks js : List Node) → StaysLong (f.before ++ (ks ++ f.after)) (f.before ++ (js ++ f.after))
       → t (node_of f.label (f.before ++ (ks ++ f.after))) ≡ true → list_all t js ≡ true
       → t (node_of f.label (f.before ++ (js ++ f.after))) ≡ true
   frame_test f ks js long h g =
-      let s = sides f ks h in
+      let s = sides t parts f ks h in
       again f.label (f.before ++ (ks ++ f.after)) (f.before ++ (js ++ f.after)) h long
       (all_join t f.before (js ++ f.after) s.0 (all_join t js f.after g s.2))
 
@@ -127,7 +128,7 @@ module _ (t : Node → Bool) (parts : (l : Label) (ks : List Node) → t (node_o
       let same : StaysLong (f.before ++ k ∷ f.after) (f.before ++ j ∷ f.after) =
       (λ two. let a = length-append f.before (k ∷ f.after) in let b = length-append f.before (j ∷ f.after) in
       omega (arith, a, b, two)) in
-      let whole : t node ≡ true = sym (all_one t node) ∙ test_inner fs (node ∷ []) h in
+      let whole : t node ≡ true = sym (all_one t node) ∙ test_inner t parts fs (node ∷ []) h in
       test_one fs node (node_of f.label (f.before ++ j ∷ f.after)) h
       (frame_test f (k ∷ []) (j ∷ []) same whole (all_one t j ∙ g))
 
@@ -141,7 +142,7 @@ module _ (t : Node → Bool) (parts : (l : Label) (ks : List Node) → t (node_o
       let long : 2 ≤ length (f.before ++ j ∷ f.after) =
       (let a = length-append f.before (j ∷ f.after) in let b = length-append f.before f.after in
       omega (arith, a, b, some)) in
-      let whole : t node ≡ true = sym (all_one t node) ∙ test_inner fs (node ∷ []) h in
+      let whole : t node ≡ true = sym (all_one t node) ∙ test_inner t parts fs (node ∷ []) h in
       test_one fs node (node_of f.label (f.before ++ j ∷ f.after)) h
       (frame_test f ks (j ∷ []) (λ two. long) whole (all_one t j ∙ g))
 
@@ -152,7 +153,7 @@ module _ (t : Node → Bool) (parts : (l : Label) (ks : List Node) → t (node_o
   test_part fs (Some v) ks p j h g = test_run v fs p.1 ks j h g
 
 -- each kid branches
-branching_kids : (l : Label) (ks : List Node) → is_branching (node_of l ks) ≡ true → list_all is_branching ks ≡ true
+pub branching_kids : (l : Label) (ks : List Node) → is_branching (node_of l ks) ≡ true → list_all is_branching ks ≡ true
 branching_kids (Label.P o) ks h = (branching_P_parts o ks h).1
 branching_kids (Label.Q v) ks h = (branching_Q_parts v ks h).1
 
@@ -163,7 +164,7 @@ branching_again (Label.P o) ks js h long g = branching_P_from o js (long (branch
 branching_again (Label.Q v) ks js h long g = branching_Q_from v js (long (branching_Q_parts v ks h).0) g
 
 -- the vars of kids
-below_kids : (m : ℕ) (l : Label) (ks : List Node) → has_vars_below m (node_of l ks) ≡ true
+pub below_kids : (m : ℕ) (l : Label) (ks : List Node) → has_vars_below m (node_of l ks) ≡ true
     → list_all (has_vars_below m) ks ≡ true
 below_kids m (Label.P o) ks h = sym (below_P m o ks) ∙ h
 below_kids m (Label.Q v) ks h = (and_parts (nat_lt v m) (list_all (has_vars_below m) ks) (sym (below_Q m v ks) ∙ h)).1
@@ -200,11 +201,11 @@ pub below_inner : (b : ℕ) (fs : List Frame) (ks : List Node) (n : Node) → n 
     → list_all (has_vars_below b) ks ≡ true
 below_inner b fs ks n e h =
     let t = has_vars_below b in
-    test_inner t (below_kids b) (below_again b) fs ks (ap (list_all t) (sym e) ∙ all_one t n ∙ h)
+    test_inner t (below_kids b) fs ks (ap (list_all t) (sym e) ∙ all_one t n ∙ h)
 
 -- the part has two kids at each inner node
 pub branching_inner : (fs : List Frame) (ks : List Node) (n : Node) → n ∷ [] ≡ fill fs ks → is_branching n ≡ true
     → list_all is_branching ks ≡ true
 branching_inner fs ks n e h =
-    test_inner is_branching branching_kids branching_again fs ks
+    test_inner is_branching branching_kids fs ks
     (ap (list_all is_branching) (sym e) ∙ all_one is_branching n ∙ h)

@@ -12,15 +12,11 @@ use Rattle.cp_pq.specs.Readings.{Reads, ReadsAll, any_order, forward, backward, 
 use Rattle.cp_pq.specs.Keeping.{Keeps}
 use Rattle.cp_pq.specs.Frames.{node_of, fill}
 use Rattle.cp_pq.specs.Holes.{IsInQ}
+use Rattle.cp_pq.specs.Promises.{in_direction}
 use Rattle.cp_pq.proofs.ReadingLaws.{ReadsAll_cons, ReadsAll_join, ReadsAll_cut, Reads_P, Reads_Q}
 use Rattle.cp_pq.proofs.Tops.{find_in}
 use Rattle.cp_pq.proofs.KeepingLaws.{Keeps_refl, Keeps_append, Keeps_Q}
 use Rattle.cp_pq.proofs.FilledChanges.{keeps_filled}
-
--- the row, or the row from its end
-abbrev pub directed : Bool → List Node → List Node
-directed false row = row
-directed true row = reverse row
 
 -- a word of one kind: words round a run, in whose place each other run of its kind gives a word of this kind, and each
 -- run of the other kind a word of the other; d is the direction in which the place is read
@@ -162,7 +158,7 @@ module _ (may : ℕ → Bool → Bool) where
     -- a word round a run of the kids ks, in whose place the row js may stand
     abbrev RunIsExchanged : (one other : List ℕ → Type 0) → List ℕ → Type 0
     RunIsExchanged one other word =
-        Around (λ d. may v d ≡ true) one other (λ d. ReadsAll may (directed d ks)) (λ d. ReadsAll may (directed d js))
+        Around (λ d. may v d ≡ true) one other (λ d. ReadsAll may (in_direction d ks)) (λ d. ReadsAll may (in_direction d js))
         word
 
     -- a row with a run in it, from its end
@@ -216,7 +212,7 @@ module _ (may : ℕ → Bool → Bool) where
         → (word : List ℕ) → Reads may n word → RunIsExchanged (Reads may n) (Reads may m) word
     filled_run [] h n m e1 e2 = absurd h
     filled_run (f ∷ fs) h n m e1 e2 =
-        in_frames may (λ d. may v d ≡ true) (λ d. ReadsAll may (directed d ks)) (λ d. ReadsAll may (directed d js)) fs
+        in_frames may (λ d. may v d ≡ true) (λ d. ReadsAll may (in_direction d ks)) (λ d. ReadsAll may (in_direction d js)) fs
         (node_of f.label (f.before ++ (ks ++ f.after))) (node_of f.label (f.before ++ (js ++ f.after))) n m e1 e2
         (subst (λ l. (w : List ℕ) → Reads may (node_of l (f.before ++ (ks ++ f.after))) w
         → RunIsExchanged (Reads may (node_of l (f.before ++ (ks ++ f.after))))

@@ -4,19 +4,21 @@ pub mod ReadingLaws
 pub mod PermutedLists
 pub mod Stars
 pub mod Holes
+pub mod NodeTests
+pub mod Results
+pub mod FilledRows
+pub mod Permutations
+pub mod GivenBits
+pub mod Mirrors
 -- the proofs of this crate
-mod Permutations
 mod WordLaws
-mod Mirrors
 mod Rows
 mod Lines
 mod Tops
 mod NodesIn
 mod FittingSides
-mod NodeTests
 mod KeepingLaws
 mod Groups
-mod Results
 mod Closes
 mod Zips
 mod ClosedQ
@@ -30,7 +32,6 @@ mod Cores
 mod RootLaws
 mod FilledChanges
 mod ConsecutiveWords
-mod GivenBits
 mod NodeReadings
 mod Reductions
 mod LeafSets
@@ -39,7 +40,6 @@ mod SetInTrees
 mod SearchedSets
 mod SmallStars
 mod DeepTrees
-mod FilledRows
 mod SwappedOwners
 mod AlwaysTogether
 mod Cuts

@@ -4,13 +4,14 @@ use Rattle.std.proofs.lemmas.List.{reverse-append, reverse-reverse}
 use Rattle.std.proofs.lemmas.List.Sorted.{IsPermutation-trans, IsPermutation-reverse}
 use Rattle.cp_pq.specs.declared.node.Node.{Node}
 use Rattle.cp_pq.specs.Readings.{Reads, ReadsAll, leaf, any_order, forward, backward, none, more}
-use Rattle.cp_pq.specs.Bits.{flip}
+use Rattle.cp_pq.specs.Bits.{differ}
 use Rattle.cp_pq.specs.Founds.{turn_ties}
 use Rattle.cp_pq.specs.Words.{Licensed, IsLike, turned}
 use Rattle.cp_pq.specs.Changes.{Wider}
 use Rattle.cp_pq.proofs.ReadingLaws.{read_all_wider, ReadsAll_join, one_ReadsAll}
 
-not_not : (b : Bool) → not (not b) ≡ b
+-- a bit turned twice
+pub not_not : (b : Bool) → not (not b) ≡ b
 not_not true = refl
 not_not false = refl
 
@@ -39,11 +40,11 @@ pub mirror_back : (may : ℕ → Bool → Bool) (ks : List Node) (xs : List ℕ)
     → ReadsAll may (reverse ks) xs
 mirror_back may ks xs r = subst (ReadsAll may (reverse ks)) (reverse-reverse xs) (read_all_wider (turned (turned may)) may (turned_turned may) (reverse ks) (reverse (reverse xs)) (mirror_all (turned may) ks (reverse xs) r))
 
-flip_not : (d b : Bool) → flip (not d) b ≡ not (flip d b)
+flip_not : (d b : Bool) → differ (not d) b ≡ not (differ d b)
 flip_not true b = sym (not_not b)
 flip_not false b = refl
 
-flip_turn : (d b : Bool) → flip d (not b) ≡ flip (not d) b
+flip_turn : (d b : Bool) → differ d (not b) ≡ differ (not d) b
 flip_turn true b = not_not b
 flip_turn false b = refl
 

@@ -9,7 +9,7 @@ use Rattle.cp_base.specs.declared.equation.Equation.{Equation}
 use Rattle.cp_pq.specs.declared.node.Node.{Node}
 use Rattle.cp_pq.specs.declared.node.Node.TheVariants.{P}
 use Rattle.cp_pq.specs.Nodes.{leaves, is_branching, has_vars_below}
-use Rattle.cp_pq.specs.Bits.{flip, bit_of, IsMet, IsOverVars}
+use Rattle.cp_pq.specs.Bits.{differ, bit_of, IsMet, IsOverVars}
 use Rattle.cp_pq.specs.Readings.{Reads, given, any_bit}
 use Rattle.cp_pq.specs.Trees.{PQTree, make_tree, IsWellFormed, IsPair, Admits}
 use Rattle.cp_pq.specs.Orders.{inside, outside, IsConsecutive}
@@ -19,6 +19,7 @@ use Rattle.cp_pq.specs.Words.{together, Licensed, IsNever}
 use Rattle.cp_pq.specs.Changes.{Wider, by_bit, IsDone}
 use Rattle.cp_pq.specs.Keeping.{any_bound, Keeps}
 use Rattle.cp_pq.specs.Ties.{tie_equations}
+use Rattle.cp_lists.proofs.EachItem.{all-append, all_parts}
 use Rattle.cp_pq.proofs.NodeLayers.{all_leaves_one}
 use Rattle.cp_pq.proofs.NodeTests.{all_one}
 use Rattle.cp_pq.proofs.PermutedLists.{Distinct-IsPermutation}
@@ -27,16 +28,6 @@ use Rattle.cp_pq.proofs.NodesIn.{one_in_row, in_row_one}
 use Rattle.cp_pq.proofs.NodeReadings.{as_it_stands, read_below, WiderBelow}
 use Rattle.cp_pq.proofs.ConsecutiveWords.{consecutive_together, together_consecutive}
 use Rattle.cp_pq.proofs.GivenBits.{given_parts, given_from, bit_last, given_wider, given_below, met_append, append_met, ties_met, met_ties}
-
-all_join : {A : Type 0} (M : A → Type 0) (xs ys : List A) → AllByRecursion M xs → AllByRecursion M ys
-    → AllByRecursion M (xs ++ ys)
-all_join M [] ys a b = b
-all_join M (x ∷ xs) ys a b = (a.0, all_join M xs ys a.1 b)
-
-all_parts : {A : Type 0} (M : A → Type 0) (xs ys : List A) → AllByRecursion M (xs ++ ys)
-    → AllByRecursion M xs × AllByRecursion M ys
-all_parts M [] ys h = (tt, h)
-all_parts M (x ∷ xs) ys h = let g = all_parts M xs ys h.1 in ((h.0, g.0), g.1)
 
 over_more : (m n : ℕ) → m ≤ n → (eqs : List Equation) → AllByRecursion (IsOverVars m) eqs
     → AllByRecursion (IsOverVars n) eqs
@@ -81,7 +72,7 @@ ties_low m n y b (t ∷ ts) le lt h = let a = ltb-true t.0 m h.0 in ((omega (ari
 wider_ties : (may wide : ℕ → Bool → Bool) → Wider may wide → (b : Bool) (ts : List (ℕ × Bool))
     → Licensed false (by_bit b may) ts → Licensed false (by_bit b wide) ts
 wider_ties may wide w b [] h = tt
-wider_ties may wide w b (t ∷ ts) h = (w t.0 (flip b t.1) h.0, wider_ties may wide w b ts h.1)
+wider_ties may wide w b (t ∷ ts) h = (w t.0 (differ b t.1) h.0, wider_ties may wide w b ts h.1)
 
 given_last : (bits : List Bool) (c : Bool) → given (bits ++ c ∷ []) (length bits) c ≡ true
 given_last bits c =
@@ -198,7 +189,7 @@ module _ (set : List ℕ) (root vars : ℕ) (body : Node) (eqs : List Equation) 
       -- ties to a var of the tree
       pub over_old : (y : ℕ) → IsDone q p true y (λ may. Licensed false may ts) body new → y < vars
           → AllByRecursion (IsOverVars vars) (eqs ++ tie_equations y ts)
-      over_old y d lt = let g = tie_vars true y ts d in all_join (IsOverVars vars) eqs (tie_equations y ts) wf.equations_below (ties_over vars y g.0 ts lt g.1)
+      over_old y d lt = let g = tie_vars true y ts d in all-append (IsOverVars vars) eqs (tie_equations y ts) wf.equations_below (ties_over vars y g.0 ts lt g.1)
 
       pub reduced_old : (y : ℕ) → IsDone q p true y (λ may. Licensed false may ts) body new
           → Keeps any_bound (body ∷ []) (new ∷ []) → y < vars
@@ -214,7 +205,7 @@ module _ (set : List ℕ) (root vars : ℕ) (body : Node) (eqs : List Equation) 
                 order_is = h.order_is;
                 bits_count = h.bits_count;
                 reads = g.3 (given bits) (λ v b e. e) (g.1 refl);
-                met = all_join (IsMet bits) eqs (tie_equations y ts) h.met (ties_met bits y ts (subst (λ b. Licensed false (by_bit b (given bits)) ts) here.1 g.2));
+                met = all-append (IsMet bits) eqs (tie_equations y ts) h.met (ties_met bits y ts (subst (λ b. Licensed false (by_bit b (given bits)) ts) here.1 g.2));
               }),
             );
         only = λ order bits h.
@@ -236,7 +227,7 @@ module _ (set : List ℕ) (root vars : ℕ) (body : Node) (eqs : List Equation) 
           → AllByRecursion (IsOverVars (vars + 1)) (eqs ++ tie_equations vars ts)
       over_new d =
           let g = tie_vars false vars ts d in
-          all_join (IsOverVars (vars + 1)) eqs (tie_equations vars ts) (over_more vars (vars + 1) (omega arith) eqs wf.equations_below) (ties_low vars (vars + 1) vars g.0 ts (omega arith) (omega arith) g.1)
+          all-append (IsOverVars (vars + 1)) eqs (tie_equations vars ts) (over_more vars (vars + 1) (omega arith) eqs wf.equations_below) (ties_low vars (vars + 1) vars g.0 ts (omega arith) (omega arith) g.1)
 
       pub reduced_new : IsDone q p false vars (λ may. Licensed false may ts) body new
           → Keeps (λ n. vars < n) (body ∷ []) (new ∷ [])
@@ -254,7 +245,7 @@ module _ (set : List ℕ) (root vars : ℕ) (body : Node) (eqs : List Equation) 
                 order_is = h.order_is;
                 bits_count = length-append bits (g.0 ∷ []) ∙ ap (λ z. z + 1) h.bits_count;
                 reads = g.3 (given all) (given_wider bits (g.0 ∷ [])) (subst (λ z. given all z g.0 ≡ true) h.bits_count (given_last bits g.0));
-                met = all_join (IsMet all) eqs (tie_equations vars ts) (met_append bits (g.0 ∷ []) eqs over h.met)
+                met = all-append (IsMet all) eqs (tie_equations vars ts) (met_append bits (g.0 ∷ []) eqs over h.met)
                     (ties_met all vars ts (subst (λ b. Licensed false (by_bit b (given all)) ts) (sym bit) (wider_ties (given bits) (given all) (given_wider bits (g.0 ∷ [])) g.0 ts g.2)));
               },
             );

@@ -1,10 +1,9 @@
 -- A tree whose part is replaced by a node: pairs, shape, leaves, owners and what makes it a tree.
-use Rattle.std.proofs.Common.{◌≡◌, ℕ, ◌<◌, ◌⊎◌, Bool, true, false, Option, Some, None, List, [], ◌∷◌, ◌++◌, length}
-use Rattle.std.proofs.Common.{reverse, inl, inr, ⊎_elim, refl, sym, ap, ◌∙◌, subst, IsPermutation}
+use Rattle.std.proofs.Common.{◌≡◌, ℕ, ◌<◌, ◌⊎◌, Bool, true, false, Option, Some, None, List, [], ◌∷◌, ◌++◌}
+use Rattle.std.proofs.Common.{inl, inr, ⊎_elim, refl, sym, ap, ◌∙◌, subst, IsPermutation}
 use Rattle.std.specs.List.{list_all}
-use Rattle.std.proofs.lemmas.Bool.{true≢false}
 use Rattle.std.proofs.lemmas.List.Sorted.{IsPermutation-sym, IsPermutation-trans, IsPermutation-append_left}
-use Rattle.cp_lists.specs.CyclicLists.{Has, Lacks, Distinct}
+use Rattle.cp_lists.specs.CyclicLists.{Has, Distinct}
 use Rattle.cp_lists.proofs.DistinctLists.{Lacks-from, has_lacks, Has-append_cases, Has-append_right, Distinct-append}
 use Rattle.cp_lists.proofs.DistinctLists.{Distinct-append_right}
 use Rattle.cp_base.specs.declared.equation.Equation.{Equation}
@@ -16,9 +15,9 @@ use Rattle.cp_pq.specs.declared.part.Part.{Part}
 use Rattle.cp_pq.specs.Nodes.{leaves, all_leaves, has_vars_below}
 use Rattle.cp_pq.specs.Bits.{bit_of}
 use Rattle.cp_pq.specs.Readings.{Reads, ReadsAll, given, any_bit, forward, backward}
-use Rattle.cp_pq.specs.Trees.{PQTree, make_tree, IsWellFormed, IsPair, Admits}
+use Rattle.cp_pq.specs.Trees.{PQTree, make_tree, IsWellFormed}
 use Rattle.cp_pq.specs.Orders.{outside}
-use Rattle.cp_pq.specs.Promises.{IsLeafSet, reading_of, IsFreshNode, IsReplaced}
+use Rattle.cp_pq.specs.Promises.{IsLeafSet, reading_of, IsFreshNode, IsReplaced, in_direction}
 use Rattle.cp_pq.specs.Frames.{fill}
 use Rattle.cp_pq.specs.Holes.{IsPartAt, IsTakenOut}
 use Rattle.cp_pq.proofs.NodeLayers.{leaves_Q, all_leaves_one}
@@ -28,7 +27,7 @@ use Rattle.cp_pq.proofs.NodeTests.{all_one}
 use Rattle.cp_pq.proofs.ReadingLaws.{ReadsAll_one, one_ReadsAll, Reads_Q, read_leaves}
 use Rattle.cp_pq.proofs.GivenBits.{given_parts, given_from}
 use Rattle.cp_pq.proofs.SomeReadings.{AllowsBelow, row_back, some_reading, some_row}
-use Rattle.cp_pq.proofs.Holes.{directed, filled_node, filled_run}
+use Rattle.cp_pq.proofs.Holes.{filled_node, filled_run}
 use Rattle.cp_pq.proofs.FilledRows.{beside_leaves, filled_leaves, beside_outside, branching_part, below_part}
 use Rattle.cp_pq.proofs.FilledRows.{below_inner}
 use Rattle.cp_pq.proofs.SwappedOwners.{owners_part}
@@ -61,26 +60,26 @@ record RoundNode (may : ℕ → Bool → Bool) (var : Option ℕ) (kids : List N
 
 module _ (may : ℕ → Bool → Bool) where
   -- a row in a direction that the licence allows is a reading of the Q-node
-  Q_from : (v : ℕ) (ks : List Node) (u : List ℕ) (d : Bool) → may v d ≡ true → ReadsAll may (directed d ks) u
+  Q_from : (v : ℕ) (ks : List Node) (u : List ℕ) (d : Bool) → may v d ≡ true → ReadsAll may (in_direction d ks) u
       → Reads may (Q v ks) u
   Q_from v ks u false e r = forward v ks u e r
   Q_from v ks u true e r = backward v ks u e r
 
   -- and back, where the licence allows this direction alone
   Q_to : HasOneBit may → (v : ℕ) (ks : List Node) (u : List ℕ) (d : Bool) → may v d ≡ true → Reads may (Q v ks) u
-      → ReadsAll may (directed d ks) u
+      → ReadsAll may (in_direction d ks) u
   Q_to one v ks u d e r = ⊎_elim
-      (λ h. subst (λ z. ReadsAll may (directed z ks) u) (one v false d h.0 e) h.1)
-      (λ h. subst (λ z. ReadsAll may (directed z ks) u) (one v true d h.0 e) h.1)
+      (λ h. subst (λ z. ReadsAll may (in_direction z ks) u) (one v false d h.0 e) h.1)
+      (λ h. subst (λ z. ReadsAll may (in_direction z ks) u) (one v true d h.0 e) h.1)
       (Reads_Q may v ks u r)
 
   -- one node from either end
-  one_from : (j : Node) (u : List ℕ) (d : Bool) → ReadsAll may (directed d (j ∷ [])) u → Reads may j u
+  one_from : (j : Node) (u : List ℕ) (d : Bool) → ReadsAll may (in_direction d (j ∷ [])) u → Reads may j u
   one_from j u false r = ReadsAll_one may j u r
   one_from j u true r = ReadsAll_one may j u r
 
   -- and back
-  one_to : (j : Node) (u : List ℕ) (d : Bool) → Reads may j u → ReadsAll may (directed d (j ∷ [])) u
+  one_to : (j : Node) (u : List ℕ) (d : Bool) → Reads may j u → ReadsAll may (in_direction d (j ∷ [])) u
   one_to j u false r = one_ReadsAll may j u r
   one_to j u true r = one_ReadsAll may j u r
 
@@ -134,7 +133,7 @@ module _ (may : ℕ → Bool → Bool) where
         }
     round_node b allows low (Some v) p word r =
         let g = filled_run may v (j ∷ []) kids fs p.1 m n e2 e1 word r in
-        let u = in_direction g.d in
+        let u = some_word g.d in
         record {
           before = g.before;
           run = g.run;
@@ -144,9 +143,9 @@ module _ (may : ℕ → Bool → Bool) where
           taken = (u.0, Q_from v kids u.0 g.d g.allowed u.1, g.exchanged u.0 u.1);
         }
       where
-        in_direction : (d : Bool) → (u : List ℕ) × ReadsAll may (directed d kids) u
-        in_direction false = some_row may b allows kids low
-        in_direction true = let u = some_row may b allows kids low in row_back may kids u.0 u.1
+        some_word : (d : Bool) → (u : List ℕ) × ReadsAll may (in_direction d kids) u
+        some_word false = some_row may b allows kids low
+        some_word true = let u = some_row may b allows kids low in row_back may kids u.0 u.1
 
 -- a reading of the part has the leaves of its kids
 part_leaves : (may : ℕ → Bool → Bool) (var : Option ℕ) (kids : List Node) (u : List ℕ) → reading_of may var kids u

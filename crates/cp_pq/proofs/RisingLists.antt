@@ -1,8 +1,8 @@
 -- Rising lists: what is put before or behind them, and their first items.
-use Rattle.std.proofs.Common.{◌≡◌, ℕ, zero, suc, ◌+◌, ◌<◌, ◌≤◌, List, [], ◌∷◌, ◌++◌, length, slice_index, take, inl}
-use Rattle.std.proofs.Common.{inr, ⊎_elim, refl, sym, subst, arith}
+use Rattle.std.proofs.Common.{◌≡◌, ℕ, zero, suc, ◌+◌, ◌<◌, List, [], ◌∷◌, ◌++◌, length, slice_index, take, inl}
+use Rattle.std.proofs.Common.{inr, ⊎_elim, refl, subst, arith}
 use Rattle.std.specs.List.Sorted.{IsStrictlyIncreasing}
-use Rattle.cp_lists.specs.CyclicLists.{Has, Lacks, Distinct}
+use Rattle.cp_lists.specs.CyclicLists.{Has, Distinct}
 use Rattle.cp_lists.proofs.DistinctLists.{Lacks-from, Has_at, Has-append_cases}
 use Rattle.cp_pq.proofs.LeafSets.{greater, rest_rises}
 

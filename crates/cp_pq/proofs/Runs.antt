@@ -56,10 +56,6 @@ module _ (q p : ℕ → Bool) (opp : Opposite q p) where
   zip_turn (k ∷ ks) [] z = absurd z
   zip_turn (k ∷ ks) (f ∷ fs) z = (given_turn k f z.0, zip_turn ks fs z.1)
 
-  not_true : (x : Bool) → not x ≡ true → x ≡ false
-  not_true true e = absurd (false≢true e)
-  not_true false e = refl
-
   opp_turn : Opposite p q
   opp_turn x = elim (p x) as (λ b. q x ≡ not b → b ≡ not (q x)) [ true ↦ λ e. sym (ap (λ z. not z) e) | false ↦ λ e. sym (ap (λ z. not z) e) ] (opp x)
 

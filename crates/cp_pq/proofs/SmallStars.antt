@@ -1,6 +1,6 @@
 -- Small stars meet the conditions of the calls.
 use Rattle.std.proofs.Common.{◌≡◌, ◌≢◌, ℕ, zero, suc, ◌+◌, ◌<◌, true, not, ◌&&◌, eqb, List, [], ◌∷◌, length}
-use Rattle.std.proofs.Common.{slice_index, take, refl, sym, ap, ◌∙◌, subst, ⊎_elim, arith, IsPermutation}
+use Rattle.std.proofs.Common.{slice_index, take, refl, sym, ap, ◌∙◌, subst, ⊎_elim, arith}
 use Rattle.std.specs.Prelude.{nat_lt}
 use Rattle.std.specs.List.{list_all}
 use Rattle.std.specs.List.Sorted.{IsStrictlyIncreasing}

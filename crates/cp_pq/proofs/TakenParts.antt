@@ -1,14 +1,11 @@
 -- The part that a set fills: it exists where each reading has the set together.
 use Rattle.std.proofs.Common.{◌≡◌, ◌≢◌, ℕ, ◌≤◌, Bool, true, false, Option, Some, None, ◌||◌, not, eqb, List, [], ◌∷◌}
-use Rattle.std.proofs.Common.{◌++◌, length, filter, inl, inr, ⊎_elim, refl, sym, ap, ◌∙◌, subst, arith, IsPermutation}
-use Rattle.std.specs.List.{list_all, AllZip}
+use Rattle.std.proofs.Common.{◌++◌, length, ⊎_elim, refl, sym, ap, ◌∙◌, subst, arith, IsPermutation}
+use Rattle.std.specs.List.{list_all}
 use Rattle.std.proofs.lemmas.Bool.{and_parts, eq-eqb, both_ways}
-use Rattle.std.proofs.lemmas.List.Sorted.{IsPermutation-sym, IsPermutation-trans, IsPermutation-cons}
-use Rattle.std.proofs.lemmas.List.Sorted.{IsPermutation-middle}
-use Rattle.cp_lists.specs.CyclicLists.{Has, Lacks, Distinct}
-use Rattle.cp_lists.proofs.DistinctLists.{Lacks-from, Has-append_cases, Distinct-append_left, Distinct-middle}
-use Rattle.cp_lists.proofs.DistinctLists.{Distinct-less, Has-split, Has-append_left, Has-append_right, has_lacks}
-use Rattle.cp_lists.proofs.DistinctLists.{has_other}
+use Rattle.std.proofs.lemmas.List.Sorted.{IsPermutation-trans}
+use Rattle.cp_lists.specs.CyclicLists.{Has, Distinct}
+use Rattle.cp_lists.proofs.DistinctLists.{Has-append_cases, Distinct-append_left}
 use Rattle.cp_pq.specs.declared.node.Node.{Node}
 use Rattle.cp_pq.specs.declared.node.Node.TheVariants.{P, Q}
 use Rattle.cp_pq.specs.declared.found.Found.{Found}
@@ -18,23 +15,21 @@ use Rattle.cp_pq.specs.declared.hole.Hole.{Hole}
 use Rattle.cp_pq.specs.declared.part.Part.{Part}
 use Rattle.cp_pq.specs.declared.step.Top.{Top}
 use Rattle.cp_pq.specs.Nodes.{leaves, all_leaves}
-use Rattle.cp_pq.specs.Readings.{Reads, ReadsAll, any_bit, forward}
-use Rattle.cp_pq.specs.Trees.{PQTree, make_tree, IsWellFormed, Admits}
+use Rattle.cp_pq.specs.Readings.{any_bit, forward}
+use Rattle.cp_pq.specs.Trees.{PQTree, IsWellFormed, Admits}
 use Rattle.cp_pq.specs.Orders.{inside, outside, IsConsecutive}
 use Rattle.cp_pq.specs.Promises.{IsLeafSet}
-use Rattle.cp_pq.specs.Words.{Opposite, together, has_all, is_met}
-use Rattle.cp_pq.specs.Founds.{IsGiven}
-use Rattle.cp_pq.specs.Frames.{node_of, fill, AreOutside}
+use Rattle.cp_pq.specs.Words.{Opposite, has_all}
+use Rattle.cp_pq.specs.Frames.{fill, AreOutside}
 use Rattle.cp_pq.specs.Steps.{IsTop}
 use Rattle.cp_pq.specs.Holes.{IsInQ, IsPartAt, IsTakenOut}
 use Rattle.cp_pq.specs.Cuts.{IsCut, IsAlwaysTogether, IsTaken}
 use Rattle.cp_pq.proofs.NodeLayers.{all_leaves_one}
+use Rattle.cp_lists.proofs.PermutedLists.{IsPermutation-from}
 use Rattle.cp_pq.proofs.PermutedLists.{Has-IsPermutation, Distinct-IsPermutation}
 use Rattle.cp_pq.proofs.Permutations.{IsPermutation-same}
-use Rattle.cp_pq.proofs.NodeTests.{all_one}
 use Rattle.cp_pq.proofs.NodeReadings.{as_it_stands}
 use Rattle.cp_pq.proofs.Rows.{row_all}
-use Rattle.cp_pq.proofs.Counts.{has_all_node}
 use Rattle.cp_pq.proofs.Closes.{has_all_Q}
 use Rattle.cp_pq.proofs.ConsecutiveWords.{consecutive_together}
 use Rattle.cp_pq.proofs.LeafSets.{inside_of}
@@ -150,33 +145,6 @@ all_has t (y ∷ xs) x a h = let g = and_parts (t y) (list_all t xs) a in
 pub outside_lacks : (set : List ℕ) (x : ℕ) → outside set x ≡ true → Has x set → ⊥
 outside_lacks set x o h = both_ways (outside set x) (ap (λ b. not b) (has_inside set x h)) o
 
--- distinct lists of the same items are permutations of each other
-same_items : (xs ys : List ℕ) → Distinct xs → Distinct ys → ((d : ℕ) → Has d xs → Has d ys)
-    → ((d : ℕ) → Has d ys → Has d xs) → IsPermutation xs ys
-same_items [] [] once once2 to from = IsPermutation-same [] [] refl
-same_items [] (y ∷ ys) once once2 to from = absurd (from y (inl refl))
-same_items (x ∷ xs) ys once once2 to from =
-    let s = Has-split x ys (to x (inl refl)) in
-    let split : Distinct (s.0 ++ x ∷ s.1) = subst Distinct s.2 once2 in
-    let apart = Distinct-middle x s.0 s.1 split in
-    let there : (d : ℕ) → Has d xs → Has d (s.0 ++ s.1) =
-    λ d h. ⊎_elim
-    (λ k. Has-append_left d s.0 s.1 k)
-    (λ k. ⊎_elim (λ e. absurd (has_other d x xs h once.0 (sym e))) (λ m. Has-append_right d s.0 s.1 m) k)
-    (Has-append_cases d s.0 (x ∷ s.1) (subst (Has d) s.2 (to d (inr h)))) in
-    let back : (d : ℕ) → Has d (s.0 ++ s.1) → Has d xs =
-    λ d h. ⊎_elim
-    (λ k. ⊎_elim (λ e. absurd (has_lacks x s.0 (subst (λ z. Has z s.0) (sym e) k) apart.0)) (λ m. m)
-    (from d (subst (Has d) (sym s.2) (Has-append_left d s.0 (x ∷ s.1) k))))
-    (λ k. ⊎_elim (λ e. absurd (has_lacks x s.1 (subst (λ z. Has z s.1) (sym e) k) apart.1)) (λ m. m)
-    (from d (subst (Has d) (sym s.2) (Has-append_right d s.0 (x ∷ s.1) (inr k)))))
-    (Has-append_cases d s.0 s.1 h) in
-    subst (IsPermutation (x ∷ xs)) (sym s.2)
-    (IsPermutation-trans _ _ _
-    (IsPermutation-cons x xs (s.0 ++ s.1)
-    (same_items xs (s.0 ++ s.1) once.1 (Distinct-less s.0 x s.1 split) there back))
-    (IsPermutation-sym _ _ (IsPermutation-middle s.0 x s.1)))
-
 module _ (set : List ℕ) (tree : PQTree) (wf : IsWellFormed tree) (ls : IsLeafSet set tree) where
   -- each reading of the body has the set together, where each order of the shape has it consecutive
   pub body_together : ((order : List ℕ) → Admits tree order → IsConsecutive set order) → outside set tree.root ≡ true
@@ -194,7 +162,7 @@ module _ (set : List ℕ) (tree : PQTree) (wf : IsWellFormed tree) (ls : IsLeafS
     equations_are = ee;
     body_is = t.node_is;
     beside = t.beside;
-    set_is = same_items set (all_leaves part.kids) (rising_distinct set ls.rising) once to from;
+    set_is = IsPermutation-from set (all_leaves part.kids) (rising_distinct set ls.rising) once to from;
     part_is = t.part_is;
   }
     where

@@ -10,7 +10,8 @@ use Rattle.cp_pq.specs.declared.node.Node.TheVariants.{P, Q}
 use Rattle.cp_pq.specs.Readings.{ReadsAll, any_order, forward, backward, more}
 use Rattle.cp_pq.specs.Words.{Opposite, together, has_all, IsLike, turned}
 use Rattle.cp_pq.specs.Changes.{by_bit, IsDone}
-use Rattle.cp_pq.proofs.Permutations.{along_permutation, list_all-IsPermutation, IsPermutation-same}
+use Rattle.cp_lists.proofs.PermutedLists.{along_permutation}
+use Rattle.cp_pq.proofs.Permutations.{list_all-IsPermutation, IsPermutation-same}
 use Rattle.cp_pq.proofs.WordLaws.{together_front, together_reverse, together_end, end_together}
 use Rattle.cp_pq.specs.Changes.{Wider}
 use Rattle.cp_pq.proofs.ReadingLaws.{read_all_wider, ReadsAll_cons, ReadsAll_join, ReadsAll_cut, Reads_P, Reads_Q}

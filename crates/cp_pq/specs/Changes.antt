@@ -1,7 +1,7 @@
 -- What becomes of the node that holds a whole set.
 use Rattle.std.specs.Prelude.{◌≡◌, ℕ, Bool, true, List}
 use Rattle.cp_pq.specs.declared.node.Node.{Node}
-use Rattle.cp_pq.specs.Bits.{flip}
+use Rattle.cp_pq.specs.Bits.{differ}
 use Rattle.cp_pq.specs.Readings.{Reads}
 use Rattle.cp_pq.specs.Words.{together}
 
@@ -11,7 +11,7 @@ Wider may wide = (v : ℕ) (b : Bool) → may v b ≡ true → wide v b ≡ true
 
 -- the licence read by a bit: turned where the bit is true
 abbrev pub by_bit : Bool → (ℕ → Bool → Bool) → ℕ → Bool → Bool
-by_bit b may v f = may v (flip b f)
+by_bit b may v f = may v (differ b f)
 
 -- the readings of n that have the set together are those of m, where the ties L to the bit of y hold. Where y is a var of
 -- n (old), its bit is licensed in those of n

@@ -1,5 +1,5 @@
 -- What the calls on order trees promise.
-use Rattle.std.specs.Prelude.{◌≡◌, ◌≢◌, ◌≤◌, ℕ, ◌⊎◌, ◌↔◌, Bool, true, false, Option, Some, None, length, List, [], ◌∷◌, ◌++◌, map, take, reverse}
+use Rattle.std.specs.Prelude.{◌≡◌, ◌≢◌, ◌≤◌, ℕ, ◌⊎◌, ◌↔◌, Bool, true, cond, Option, Some, None, length, List, [], ◌∷◌, ◌++◌, map, take, reverse}
 use Rattle.std.specs.List.Sorted.{IsPermutation, IsStrictlyIncreasing}
 use Rattle.cp_lists.specs.CyclicLists.{Has, Distinct}
 use Rattle.cp_pq.specs.declared.node.Node.{Node}
@@ -47,10 +47,9 @@ pub record IsReduced (set : List ℕ) (old new : PQTree) : Type 0 where
 abbrev pub IsNeverConsecutive : List ℕ → PQTree → Type 0
 IsNeverConsecutive set tree = (order : List ℕ) → Admits tree order → IsConsecutive set order → ⊥
 
--- the row in the direction of a bit
-abbrev pub in_direction : Bool → List ℕ → List ℕ
-in_direction false row = row
-in_direction true row = reverse row
+-- the row in the direction of a bit: where it is true, from its end
+abbrev pub in_direction : {A : Type 0} → Bool → List A → List A
+in_direction bit row = cond bit (reverse row) row
 
 -- the new tree has the pairs of the old one that have the row in the direction of the bit of var, with some further
 -- bits, and its shape admits the orders of the old one that have the row in either direction, at least one

@@ -4,7 +4,7 @@ use Rattle.std.specs.List.{list_all}
 use Rattle.cp_pq.specs.declared.node.Node.{Node}
 use Rattle.cp_pq.specs.declared.node.Node.TheVariants.{P}
 use Rattle.cp_pq.specs.Nodes.{leaves}
-use Rattle.cp_pq.specs.Bits.{flip}
+use Rattle.cp_pq.specs.Bits.{differ}
 use Rattle.cp_pq.specs.Readings.{ReadsAll}
 
 -- the one test is the other turned
@@ -33,7 +33,7 @@ row_sorted q p (k ∷ ks) = cond (has_all q k) (row_sorted q p ks) (list_all (ha
 -- the ties are licensed, each turned where d is true
 abbrev pub Licensed : Bool → (ℕ → Bool → Bool) → List (ℕ × Bool) → Type 0
 Licensed d may [] = Unit {0}
-Licensed d may (t ∷ ts) = (may t.0 (flip d t.1) ≡ true) × Licensed d may ts
+Licensed d may (t ∷ ts) = (may t.0 (differ d t.1) ≡ true) × Licensed d may ts
 
 -- the readings of a row that pass a test are the readings of a line, where a condition on the licence holds
 abbrev pub IsLike : (List ℕ → Bool) → ((ℕ → Bool → Bool) → Type 0) → List Node → List Node → Type 0

@@ -1,5 +1,5 @@
 // From bytes to the report at their front.
-ghost use Rattle.std.specs.Prelude.{◌≡◌, ◌++◌, ◌∷◌, [], ℕ, ◌+◌, ◌<◌, ◌≤◌, ◌^◌, List, length, map, take, IsTrue, ◌↔◌, MatchOption, IfOk, IfErr};
+ghost use Rattle.std.specs.Prelude.{◌≡◌, ◌++◌, ◌∷◌, [], ◌+◌, ◌<◌, ◌^◌, length, map, MatchOption, IfOk, IfErr};
 ghost use Rattle.std.specs.Fmt.{decimal};
 ghost use Rattle.cp_report.specs.Faults.{IfBad, IsFaultOf};
 ghost use Rattle.cp_report.specs.Reading.{AreItems, row_item, row_key, IsListLine, AreListLines, HasNoRow, IsLate, behind_heading, behind_no, behind_yes};

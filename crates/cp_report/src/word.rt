@@ -1,5 +1,5 @@
 // Bytes cut into words and lines.
-ghost use Rattle.std.specs.Prelude.{◌≡◌, ◌==◌, ◌++◌, ◌∷◌, [], IsTrue, ◌↔◌, MatchOption, position};
+ghost use Rattle.std.specs.Prelude.{◌≡◌, ◌==◌, ◌++◌, ◌∷◌, [], MatchOption, position};
 ghost use Rattle.cp_report.specs.Reading.{Lacks, words};
 
 use std::marker::Model;

@@ -12,7 +12,7 @@ use Rattle.cp_lists.specs.Count.{Exactly}
 use Rattle.cp_cgraph.specs.Clustered.{Clustered, IsClustered, clusters, edges, source, target}
 use Rattle.cp_cgraph.specs.Crossings.{contains, crossings, leaves}
 use Rattle.cp_border.specs.Borders.{crossed, first_segment}
-use Rattle.cp_border.proofs.Numbering.{before_next}
+use Rattle.cp_border.proofs.Numbering.{sum_below-next}
 use Rattle.cp_border.proofs.Rotation.{IsCrossing, crossing_of}
 use Rattle.cp_skel.specs.SkeletonLists.{crossing_place, dart_before, dart_behind}
 use Rattle.cp_skel.specs.Skeletons.{below, is_left, kept_segments, segment_name}
@@ -110,7 +110,7 @@ module _ (g : Clustered) (is : IsClustered g) (c e : ℕ) (lt : e < edges g) (cl
   pub ahead-lt : first_name g e + crossing_place g e c + 1 < length (kept_segments g)
   ahead-lt =
       let at : IsCrossing g e (crossing_place g e c) c = crossing_of g is e c lt cluster left in
-      let next = before_next (kept_count g) e (edges g) lt in
+      let next = sum_below-next (kept_count g) e (edges g) lt in
       let all : kept_count g e ≡ crossed g e + 1 =
       cond-false (eqb (source g e) (target g e)) 0 (crossed g e + 1)
       (ne_eqb (source g e) (target g e) (leaves-no_loop g c e left)) in

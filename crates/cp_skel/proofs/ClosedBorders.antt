@@ -13,13 +13,13 @@ use Rattle.cp_cgraph.specs.Clustered.{Clustered, IsClustered, clusters, nodes, s
 use Rattle.cp_cgraph.specs.Clustered as Cl
 use Rattle.cp_cgraph.specs.Crossings.{contains, crossings}
 use Rattle.cp_cgraph.specs.declared.layout.Layout.{Layout}
-use Rattle.cp_border.specs.Borders.{before, border_vertex, borders, cluster_list, crossed, end_dart, first_border, first_border_edge, place_before}
+use Rattle.cp_border.specs.Borders.{sum_below, border_vertex, borders, cluster_list, crossed, end_dart, first_border, first_border_edge, place_before}
 use Rattle.cp_border.specs.Good.{IsArranged}
 use Rattle.cp_border.specs.Tables.{border_at, list_at}
 use Rattle.cp_border.proofs.BorderLists.{list_at-four}
 use Rattle.cp_border.proofs.Cyclic.{before_first, before_later}
 use Rattle.cp_border.proofs.Darts.{begin_dart, finish_dart}
-use Rattle.cp_border.proofs.Numbering.{before_apart, located}
+use Rattle.cp_border.proofs.Numbering.{sum_below-apart, located}
 use Rattle.cp_border.proofs.Rotation.{crossing_at, crossing_of, item_at, item_of, length-node_lists, list_of_border, list_of_node}
 use Rattle.cp_border.proofs.RotationLaw.{IsRotation-borders, border_vertex-lt}
 use Rattle.cp_maps.specs.Borders.{border_lists, closed_border, last_begin}
@@ -136,8 +136,8 @@ module _ (g : Clustered) (l : Layout) (is : IsClustered g) (ar : IsArranged g l)
       let cross_b = crossing_of g is (slice_index (cluster_list l b) j) b item_b.edge lt_b item_b.left in
       let e : ℕ = slice_index (cluster_list l c) k in
       let d : ℕ = slice_index (cluster_list l b) j in
-      let both = before_apart (crossed g) e (crossing_place g e c) d (crossing_place g d b) cross.within cross_b.within
-      (omega (arith, same)) in
+      let both = sum_below-apart (crossed g) e (crossing_place g e c) d (crossing_place g d b) cross.within
+      cross_b.within (omega (arith, same)) in
       (sym cross.is ∙ ap₂ (λ (x : ℕ) (y : ℕ). slice_index (crossings g x) y) both.0 both.1 ∙ cross_b.is, both.0)
 
   -- no border vertex of a cluster stands twice
@@ -218,7 +218,7 @@ module _ (g : Clustered) (l : Layout) (is : IsClustered g) (ar : IsArranged g l)
       let k : ℕ = position_or_len (λ (x : ℕ). x == p.piece) (cluster_list l c) in
       let n : ℕ = length (cluster_list l c) in
       let place : first_border g p.piece + p.place ≡ v =
-      (let at : v - nodes g ≡ before (crossed g) p.piece + p.place = p.is in omega (arith, at)) in
+      (let at : v - nodes g ≡ sum_below (crossed g) p.piece + p.place = p.is in omega (arith, at)) in
       let same : border_at g l c k ≡ v =
       ap (λ (e : ℕ). border_vertex g e c) item.is ∙ ap (λ (i : ℕ). first_border g p.piece + i) cross.place_is
       ∙ place in

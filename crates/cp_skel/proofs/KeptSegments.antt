@@ -8,10 +8,10 @@ use Rattle.cp_lists.proofs.DistinctLists.{Distinct-append, Has-append_cases, Has
 use Rattle.cp_cgraph.specs.Clustered.{Clustered, edges, source, target}
 use Rattle.cp_border.specs.Borders.{crossed, first_segment, segments}
 use Rattle.cp_border.proofs.Darts.{first_segment-le}
-use Rattle.cp_border.proofs.Numbering.{before_apart}
+use Rattle.cp_border.proofs.Numbering.{sum_below-apart}
 use Rattle.cp_skel.specs.Skeletons.{kept_segments, segments_of}
 use Rattle.cp_skel.proofs.Ranges.{Distinct-range, Has-range, range-Has}
-use Rattle.cp_skel.proofs.SkeletonLevels.{before_more}
+use Rattle.cp_skel.proofs.SkeletonLevels.{sum_below-more}
 
 -- segment t is the one behind k borders of edge e, which is no loop
 pub record IsSegmentOf (g : Clustered) (t e k : ℕ) : Type 0 where
@@ -24,8 +24,8 @@ pub record IsSegmentOf (g : Clustered) (t e k : ℕ) : Type 0 where
 pub segment_apart : (g : Clustered) (e k d j : ℕ) → k ≤ crossed g e → j ≤ crossed g d
     → first_segment g e + k ≡ first_segment g d + j → (e ≡ d) × (k ≡ j)
 segment_apart g e k d j within within_d same =
-    before_apart (λ x. crossed g x + 1) e k d j (omega arith) (omega arith)
-    (omega (arith, same, before_more (crossed g) e, before_more (crossed g) d))
+    sum_below-apart (λ x. crossed g x + 1) e k d j (omega arith) (omega arith)
+    (omega (arith, same, sum_below-more (crossed g) e, sum_below-more (crossed g) d))
 
 -- the segments of an edge that is kept
 pub piece_kept : (g : Clustered) (e : ℕ) → source g e ≢ target g e

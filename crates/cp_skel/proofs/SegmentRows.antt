@@ -8,7 +8,7 @@ use Rattle.std.proofs.lemmas.List.FromFn.{length-map-range_with_len}
 use Rattle.cp_board.specs.declared.parts.EdgeRow.{EdgeRow}
 use Rattle.cp_cgraph.specs.Clustered.{Clustered, IsClustered, edges, source, target}
 use Rattle.cp_cgraph.specs.Crossings.{crossings}
-use Rattle.cp_border.specs.Borders.{before, crossed, first_segment}
+use Rattle.cp_border.specs.Borders.{sum_below, crossed, first_segment}
 use Rattle.cp_border.proofs.Darts.{toward_target}
 use Rattle.cp_border.proofs.Numbering.{pieces_length}
 use Rattle.cp_border.proofs.Rotation.{IsCrossing, crossing_at}
@@ -24,7 +24,7 @@ use Rattle.cp_skel.proofs.SolutionLists.{name_edge-is}
 
 -- the name of the first segment of the next edge
 first_name-next : (g : Clustered) (e : ℕ) → first_name g (e + 1) ≡ first_name g e + kept_count g e
-first_name-next g e = ap (before (kept_count g)) (add-one e)
+first_name-next g e = ap (sum_below (kept_count g)) (add-one e)
 
 -- a loop has no segment that is kept
 pub first_name-loop : (g : Clustered) (e : ℕ) → source g e ≡ target g e → first_name g (e + 1) ≡ first_name g e

@@ -11,10 +11,10 @@ use Rattle.cp_lists.proofs.MappedLists.{map_on-Has}
 use Rattle.cp_cgraph.specs.Clustered.{Clustered, IsClustered, clusters, edges, home, node_of, nodes, parent, source, target}
 use Rattle.cp_cgraph.specs.Crossings.{contains, crossings}
 use Rattle.cp_cgraph.specs.declared.layout.Layout.{Layout}
-use Rattle.cp_border.specs.Borders.{before, cluster_list, crossed, end_dart, first_border_edge, first_segment, node_list, segments}
+use Rattle.cp_border.specs.Borders.{sum_below, cluster_list, crossed, end_dart, first_border_edge, first_segment, node_list, segments}
 use Rattle.cp_border.specs.Good.{IsArranged}
 use Rattle.cp_border.proofs.Darts.{begin_dart, border_length, toward_source, toward_target}
-use Rattle.cp_border.proofs.Numbering.{before_within, piece_at, pieces_length}
+use Rattle.cp_border.proofs.Numbering.{sum_below-within, piece_at, pieces_length}
 use Rattle.cp_border.proofs.Rotation.{crossing_of, end_source, end_target, item_at, length-node_lists}
 use Rattle.cp_faces.specs.Twins.{twin}
 use Rattle.cp_faces.proofs.Twins.{twin_even, twin_odd}
@@ -26,9 +26,9 @@ use Rattle.cp_skel.proofs.ClosedBorders.{inner_cluster}
 use Rattle.cp_skel.proofs.Segments.{edge_linked, linked_at, linked_end}
 
 -- one more for each of the first n pieces
-pub before_more : (q : ℕ → ℕ) (n : ℕ) → before (λ e. q e + 1) n ≡ n + before q n
-before_more q zero = refl
-before_more q (suc n) = omega (arith, before_more q n)
+pub sum_below-more : (q : ℕ → ℕ) (n : ℕ) → sum_below (λ e. q e + 1) n ≡ n + sum_below q n
+sum_below-more q zero = refl
+sum_below-more q (suc n) = omega (arith, sum_below-more q n)
 
 -- an edge has one segment more than it crosses borders
 length-segment_levels : (g : Clustered) (k : ℕ) → length (segment_levels g (0 + k)) ≡ crossed g k + 1
@@ -41,19 +41,19 @@ length-segment_levels g k =
 length-all_segments : (g : Clustered) → length (flat_map (segment_levels g) (range_with_len 0 (edges g))) ≡ segments g
 length-all_segments g =
     pieces_length (segment_levels g) (λ e. crossed g e + 1) 0 (edges g) (λ k lt. length-segment_levels g k)
-    ∙ before_more (crossed g) (edges g)
+    ∙ sum_below-more (crossed g) (edges g)
 
 -- the cluster of a segment
 level_segment : (g : Clustered) (l : Layout) (e i d : ℕ) → e < edges g → i ≤ crossed g e
     → d / 2 ≡ first_segment g e + i → level g l d ≡ slice_index_or (segment_levels g e) i 0
 level_segment g l e i d lt within at =
-    let same : d / 2 ≡ before (λ x. crossed g x + 1) e + i = omega (arith, at, before_more (crossed g) e) in
-    let less : before (λ x. crossed g x + 1) e + i < before (λ x. crossed g x + 1) (edges g) =
-    before_within (λ x. crossed g x + 1) e i (edges g) lt (omega arith) in
+    let same : d / 2 ≡ sum_below (λ x. crossed g x + 1) e + i = omega (arith, at, sum_below-more (crossed g) e) in
+    let less : sum_below (λ x. crossed g x + 1) e + i < sum_below (λ x. crossed g x + 1) (edges g) =
+    sum_below-within (λ x. crossed g x + 1) e i (edges g) lt (omega arith) in
     ap (λ (m : ℕ). slice_index_or (levels g l) m 0) same
     ∙ get_or_append_left (flat_map (segment_levels g) (range_with_len 0 (edges g)))
-    (flat_map (border_levels l) (range_with_len 1 (length g.parents))) 0 (before (λ x. crossed g x + 1) e + i)
-    (omega (arith, length-all_segments g, less, before_more (crossed g) (edges g)))
+    (flat_map (border_levels l) (range_with_len 1 (length g.parents))) 0 (sum_below (λ x. crossed g x + 1) e + i)
+    (omega (arith, length-all_segments g, less, sum_below-more (crossed g) (edges g)))
     ∙ piece_at (segment_levels g) (λ x. crossed g x + 1) 0 (edges g) e i 0 (λ k less'. length-segment_levels g k) lt
     (omega arith)
     ∙ ap (λ (m : ℕ). slice_index_or (segment_levels g m) i 0) (let h : 0 + e ≡ e = omega arith in h)
@@ -65,11 +65,11 @@ level_border g l c k d above lt within at =
     let back : c - 1 + 1 ≡ c = omega arith in
     let long : k < border_length l (c - 1) = subst (λ (m : ℕ). k < length (cluster_list l m)) (sym back) within in
     let segment : List ℕ = flat_map (segment_levels g) (range_with_len 0 (edges g)) in
-    let place : d / 2 ≡ length segment + (before (border_length l) (c - 1) + k) =
+    let place : d / 2 ≡ length segment + (sum_below (border_length l) (c - 1) + k) =
     omega (arith, at, length-all_segments g) in
     ap (λ (m : ℕ). slice_index_or (levels g l) m 0) place
     ∙ get_or-append-add segment (flat_map (border_levels l) (range_with_len 1 (length g.parents)))
-    (before (border_length l) (c - 1) + k) 0
+    (sum_below (border_length l) (c - 1) + k) 0
     ∙ piece_at (border_levels l) (border_length l) 1 (length g.parents) (c - 1) k 0
     (λ j less. ap (λ (m : ℕ). length (border_levels l m)) (let h : 1 + j ≡ j + 1 = omega arith in h)
     ∙ length-map-range_with_len (λ i. j + 1) 0 (length (cluster_list l (j + 1)))) (omega arith) long

@@ -18,7 +18,7 @@ use Rattle.cp_board.specs.declared.parts.Vert.{Vert}
 use Rattle.cp_cgraph.specs.Clustered.{Clustered, IsClustered, clusters, edges, source, target}
 use Rattle.cp_cgraph.specs.Crossings.{leaves}
 use Rattle.cp_border.specs.Borders.{crossed, first_segment}
-use Rattle.cp_border.proofs.Numbering.{before_next}
+use Rattle.cp_border.proofs.Numbering.{sum_below-next}
 use Rattle.cp_skel.specs.SkeletonLists.{in_dart, out_dart}
 use Rattle.cp_skel.specs.declared.vertex.Vertex.{Vertex}
 use Rattle.cp_skel.specs.declared.vertex.Vertex.TheVariants.{Child, Outside}
@@ -32,7 +32,7 @@ use Rattle.cp_skel.proofs.Permutations.{IsPermutation-from}
 use Rattle.cp_skel.proofs.Ranges.{Distinct-range, Has-range, range-Has}
 use Rattle.cp_skel.proofs.RisingLists.{Rising, Rising-append, Rising-filter, Rising-map, Rising-range, rising_at, rising_same}
 use Rattle.cp_skel.proofs.SkeletonGraph.{edge_names-skeletons, find_named, graph-skeletons, vert_names-skeletons}
-use Rattle.cp_skel.proofs.SkeletonLevels.{before_more}
+use Rattle.cp_skel.proofs.SkeletonLevels.{sum_below-more}
 use Rattle.cp_skel.proofs.SkeletonPipes.{All-pipes, left-Has, left-edge, name-apart}
 use Rattle.cp_skel.proofs.SkeletonVertices.{child-IsVertex, kept-IsVertex, outside-IsVertex, vertex_name-apart}
 use Rattle.cp_skel.proofs.SolutionLists.{dart-AtChild, dart-AtOutside}
@@ -89,8 +89,8 @@ pieces-Rising g a (suc n) =
     let one = piece-Has g a x hx in
     let r = pieces-Has g (a + 1) n y hy in
     let two = piece-Has g r.0 y r.3 in
-    let less = before_next (λ e. crossed g e + 1) a r.0 (omega (arith, r.1)) in
-    omega (arith, one.2, two.1, less, before_more (crossed g) a, before_more (crossed g) r.0))
+    let less = sum_below-next (λ e. crossed g e + 1) a r.0 (omega (arith, r.1)) in
+    omega (arith, one.2, two.1, less, sum_below-more (crossed g) a, sum_below-more (crossed g) r.0))
 
 -- names rise with the segments
 name-rises : (g : Clustered) (t u : ℕ) → Has t (kept_segments g) → Has u (kept_segments g) → t < u
@@ -134,10 +134,10 @@ module _ (g : Clustered) (is : IsClustered g) where
       let b = leaving-Has c y hy in
       let s = out_dart-StandsAt g is c x a.0 cluster a.1 in
       let t = out_dart-StandsAt g is c y b.0 cluster b.1 in
-      let next = before_next (λ e. crossed g e + 1) x y less in
+      let next = sum_below-next (λ e. crossed g e + 1) x y less in
       name-rises g (out_dart g c x / 2) (out_dart g c y / 2) (StandsAt-kept g (out_dart g c x) x (Child c) s)
       (StandsAt-kept g (out_dart g c y) y (Child c) t)
-      (omega (arith, s.of.is, s.of.within, t.of.is, next, before_more (crossed g) x, before_more (crossed g) y))
+      (omega (arith, s.of.is, s.of.within, t.of.is, next, sum_below-more (crossed g) x, sum_below-more (crossed g) y))
 
   -- an edge of a dart that stands at a vertex is one of its edges
   edge-at : (d : ℕ) (p : Vertex) → Has (d / 2) (kept_segments g) → dart_vertex g d ≡ p

@@ -10,7 +10,7 @@ use Rattle.cp_lists.proofs.MappedLists.{Distinct-map_on, Has-map_on, map_on-Has}
 use Rattle.cp_board.specs.Rotations.{dart}
 use Rattle.cp_cgraph.specs.Clustered.{Clustered, IsClustered, clusters, edges, node_of, nodes, source, target}
 use Rattle.cp_cgraph.specs.Crossings.{leaves}
-use Rattle.cp_border.specs.Borders.{before, crossed, end_dart, first_segment}
+use Rattle.cp_border.specs.Borders.{sum_below, crossed, end_dart, first_segment}
 use Rattle.cp_border.proofs.Numbering.{piece_at}
 use Rattle.cp_faces.specs.Twins.{twin}
 use Rattle.cp_faces.proofs.Twins.{twin_even}
@@ -24,7 +24,7 @@ use Rattle.cp_skel.specs.VertexLists.{stock_dart}
 use Rattle.cp_skel.proofs.DartVertices.{StandsAt, StandsAt-kept, end_dart-StandsAt, in_dart-StandsAt, out_dart-StandsAt}
 use Rattle.cp_skel.proofs.KeptDarts.{DartKind, at_node, dart_kind, inside, outside}
 use Rattle.cp_skel.proofs.NumberedSystems.{AreEdgeLists}
-use Rattle.cp_skel.proofs.SkeletonLevels.{before_more}
+use Rattle.cp_skel.proofs.SkeletonLevels.{sum_below-more}
 use Rattle.cp_skel.proofs.SkeletonVertices.{child-IsVertex, node-IsVertex}
 use Rattle.cp_skel.proofs.StockDarts.{edge_count, ends, kept-stock, kept_name, skeleton_graph, stock-stands, vertex_count}
 use Rattle.cp_skel.proofs.VertexKinds.{kind, number}
@@ -36,8 +36,8 @@ segment_edge-is g e k lt within =
     let piece : ℕ → List ℕ = λ x. map (λ j. x) (range_with_len 0 (crossed g x + 1)) in
     let size : ℕ → ℕ = λ x. crossed g x + 1 in
     ap (λ m. slice_index_or (segment_edges g) m 0)
-    (let h : first_segment g e + k ≡ before (λ x. crossed g x + 1) e + k = omega
-    (arith, before_more (crossed g) e) in h)
+    (let h : first_segment g e + k ≡ sum_below (λ x. crossed g x + 1) e + k = omega
+    (arith, sum_below-more (crossed g) e) in h)
     ∙ piece_at piece size 0 (edges g) e k 0
     (λ j less. length-map-range_with_len (λ i. 0 + j) 0 (crossed g (0 + j) + 1)
     ∙ ap (λ m. crossed g m + 1) (let h : 0 + j ≡ j = omega arith in h)) lt (omega arith)

@@ -6,7 +6,7 @@ use Rattle.cp_board.specs.declared.parts.Pipe.{Pipe}
 use Rattle.cp_board.specs.Instances.{Synchronized}
 use Rattle.cp_cgraph.specs.Clustered.{Clustered, clusters, edges, nodes, source, target}
 use Rattle.cp_cgraph.specs.Crossings.{leaves}
-use Rattle.cp_border.specs.Borders.{before, crossed}
+use Rattle.cp_border.specs.Borders.{sum_below, crossed}
 use Rattle.cp_skel.specs.LoopLists.{loop_darts}
 use Rattle.cp_skel.specs.SkeletonLists.{in_dart, out_dart}
 use Rattle.cp_skel.specs.declared.vertex.Vertex.{Vertex}
@@ -64,7 +64,7 @@ kept_count g e = cond (eqb (source g e) (target g e)) 0 (crossed g e + 1)
 
 -- the name of the first segment of edge e, if it is no loop
 abbrev pub first_name : Clustered → ℕ → ℕ
-first_name g e = before (kept_count g) e
+first_name g e = sum_below (kept_count g) e
 
 -- the same for each edge
 abbrev pub first_names : Clustered → List ℕ

@@ -11,7 +11,7 @@ use Rattle.cp_cgraph.specs.declared.kind.GraphKind.{GraphKind}
 use Rattle.cp_io.specs.Commands as commands
 use Rattle.cp_io.specs.declared.command.Ends.{Ends}
 use Rattle.graph_parts.specs.Asking.{Asks}
-use Rattle.graph_parts.specs.Fitting.{Fits, AreAsked}
+use Rattle.graph_parts.specs.Fitting.{IsFittingRequest, AreAsked}
 use Rattle.graph_parts.specs.Texts.{number_lines, unfit_line, refused_line, usage_line}
 use Rattle.graph_parts.specs.declared.ask.Asked.{Asked}
 use Rattle.graph_parts.specs.declared.end.End.{End}
@@ -35,8 +35,8 @@ pub data IsFault (text : List ℕ) : ℕ → ℕ → Type 0 where
 -- what is answered to all bytes, where something is asked for
 pub data Told (asked : Asked) (bytes : List ℕ) : End → List ℕ → Type 0 where
   refused : (kind at : ℕ) → IsFault bytes kind at → Told asked bytes (ends.Refused kind at) (refused_line kind at)
-  unfit : (g : PlainGraph) → IsPlainText bytes g → ¬ Fits asked g → Told asked bytes ends.Unfit unfit_line
-  done : (g : PlainGraph) → IsPlainText bytes g → Fits asked g → (numbers : List ℕ) → AreAsked asked g numbers
+  unfit : (g : PlainGraph) → IsPlainText bytes g → ¬ IsFittingRequest asked g → Told asked bytes ends.Unfit unfit_line
+  done : (g : PlainGraph) → IsPlainText bytes g → IsFittingRequest asked g → (numbers : List ℕ) → AreAsked asked g numbers
       → Told asked bytes ends.Done (number_lines numbers)
 
 -- the ends that all commands share

@@ -16,11 +16,11 @@ pub record IsBlock (g : PlainGraph) : Type 0 where
   pub each_has_edge : HaveEdges g.vertices g.ends
 
 -- the graph has what is asked for
-abbrev pub Fits : Asked → PlainGraph → Type 0
-Fits Edges g = Unit {0}
-Fits Components g = Unit {0}
-Fits Blocks g = HaveNoLoop g.ends
-Fits Bipolar g = IsBlock g
+abbrev pub IsFittingRequest : Asked → PlainGraph → Type 0
+IsFittingRequest Edges g = Unit {0}
+IsFittingRequest Components g = Unit {0}
+IsFittingRequest Blocks g = HaveNoLoop g.ends
+IsFittingRequest Bipolar g = IsBlock g
 
 -- the numbers are what is asked for
 abbrev pub AreAsked : Asked → PlainGraph → List ℕ → Type 0

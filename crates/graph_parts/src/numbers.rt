@@ -1,6 +1,6 @@
 // The numbers that are asked for.
 ghost use Rattle.std.specs.Prelude.{IfOk, MatchOption};
-ghost use Rattle.graph_parts.specs.Fitting.{AreAsked, Fits};
+ghost use Rattle.graph_parts.specs.Fitting.{AreAsked, IsFittingRequest};
 ghost use Rattle.graph_parts.specs.declared.ask.Asked.TheVariants as asks;
 
 use crate::ask::Asked;
@@ -12,7 +12,7 @@ use std::alloc::Global;
 
 // The number of the block of each edge, where there is no loop.
 fn block_numbers(alloc: Global, g: &Graph) -> Result<Option<Vec<usize>>, Memory>
-    ensures { IfOk result (λ found. MatchOption found (¬ Fits asks.Blocks g.now) (λ numbers. Fits asks.Blocks g.now × AreAsked asks.Blocks g.now numbers.items)) }
+    ensures { IfOk result (λ found. MatchOption found (¬ IsFittingRequest asks.Blocks g.now) (λ numbers. IsFittingRequest asks.Blocks g.now × AreAsked asks.Blocks g.now numbers.items)) }
 {
     if !have_no_loop(g.ends()) {
         return Ok(None);
@@ -23,7 +23,7 @@ fn block_numbers(alloc: Global, g: &Graph) -> Result<Option<Vec<usize>>, Memory>
 
 // A bipolar order between the ends of edge 0, where the graph is one block.
 fn order(alloc: Global, g: &Graph) -> Result<Option<Vec<usize>>, Memory>
-    ensures { IfOk result (λ found. MatchOption found (¬ Fits asks.Bipolar g.now) (λ numbers. Fits asks.Bipolar g.now × AreAsked asks.Bipolar g.now numbers.items)) }
+    ensures { IfOk result (λ found. MatchOption found (¬ IsFittingRequest asks.Bipolar g.now) (λ numbers. IsFittingRequest asks.Bipolar g.now × AreAsked asks.Bipolar g.now numbers.items)) }
 {
     if !is_block(alloc, g)? {
         return Ok(None);
@@ -35,7 +35,7 @@ fn order(alloc: Global, g: &Graph) -> Result<Option<Vec<usize>>, Memory>
 
 /// The numbers that are asked for, where the graph has them. Linear in the numbers of vertices and edges.
 pub fn numbers_of(alloc: Global, asked: Asked, g: &Graph) -> Result<Option<Vec<usize>>, Memory>
-    ensures { IfOk result (λ found. MatchOption found (¬ Fits asked g.now) (λ numbers. Fits asked g.now × AreAsked asked g.now numbers.items)) }
+    ensures { IfOk result (λ found. MatchOption found (¬ IsFittingRequest asked g.now) (λ numbers. IsFittingRequest asked g.now × AreAsked asked g.now numbers.items)) }
 {
     match asked {
         Asked::Edges => Ok(Some(vec![in alloc; g.vertices(), g.ends().len()]?)),

@@ -4,7 +4,7 @@ use Rattle.cp_border.proofs.tables.write_slices.Goals as goal
 
 pub invariant_of-arranged : goal.invariant_of-arranged
 invariant_of-arranged c = record {
-  clustered = c.nodes-nodes.ensures.clustered;
+  clustered = c.is_clustered.ensures.clustered;
   arranged = c.requires.arranged;
   few_vertices = c.requires.places.few_vertices;
   few_edges = c.requires.places.few_edges;
@@ -13,17 +13,17 @@ invariant_of-arranged c = record {
 
 pub write_at-requires : goal.write_at-requires
 write_at-requires c =
-    (room_for_darts c.args.g.now c.args.lay.now _ c.nodes-nodes.ensures.clustered c.requires.arranged
+    (room_for_darts c.args.g.now c.args.lay.now _ c.is_clustered.ensures.clustered c.requires.arranged
     c.requires.places).0
 
 pub write_turns-requires-clause-room : goal.write_turns-requires-clause-room
 write_turns-requires-clause-room c =
-    (room_for_darts c.args.g.now c.args.lay.now _ c.nodes-nodes.ensures.clustered c.requires.arranged
+    (room_for_darts c.args.g.now c.args.lay.now _ c.is_clustered.ensures.clustered c.requires.arranged
     c.requires.places).1
 
 pub returns : goal.returns
 returns c =
-    tables_told c.args.g.now c.args.lay.now _ c.nodes-nodes.ensures.clustered c.requires.arranged
+    tables_told c.args.g.now c.args.lay.now _ c.is_clustered.ensures.clustered c.requires.arranged
     record {
       few_vertices = c.requires.places.few_vertices;
       few_edges = c.requires.places.few_edges;

@@ -19,8 +19,8 @@ raising-preserved c =
     let so = c.raising.invariant in
     record {
       cluster = omega (arith, so.cluster);
-      raised = IsRaised-more c.args.g.now c.is_clustered.ensures lasts c.raising.c c.parent-outer.result c.max.result
-          so.raised c.raising-test.true so.cluster c.parent-outer.ensures.value
+      raised = IsRaised-more c.args.g.now c.is_clustered.ensures.clustered lasts c.raising.c c.parent-outer.result
+          c.max.result so.raised c.raising-test.true so.cluster c.parent-outer.ensures.value
           (c.max.ensures
           ∙ ap₂ max
           (c.index.ensures ∙ get_or_default lasts c.parent-outer.result c.index.result.now 0
@@ -32,6 +32,6 @@ raising-preserved c =
 
 pub returns : goal.returns
 returns c =
-    IsRaised-end c.args.g.now c.is_clustered.ensures c.requires c.raising.lasts.items
+    IsRaised-end c.args.g.now c.is_clustered.ensures.clustered c.requires c.raising.lasts.items
     (subst (IsRaised c.args.g.now c.raising.lasts.items) (let e : c.raising.c ≡ 0 = omega
     (arith, c.raising-test.false) in e) c.raising.invariant.raised)

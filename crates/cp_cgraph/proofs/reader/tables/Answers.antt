@@ -4,8 +4,8 @@ use Rattle.cp_cgraph.proofs.Gathered.{clustered}
 use Rattle.cp_cgraph.proofs.Tables.{IsClustered-graph_of}
 use Rattle.cp_cgraph.proofs.reader.tables.Goals as goal
 
-pub new-requires : goal.new-requires
-new-requires c =
+pub new-requires-clause-clustered : goal.new-requires-clause-clustered
+new-requires-clause-clustered c =
     let es = c.args.entries.now in
     let same = clustered es c.in_ok-ids.ids.items c.ids-2.result.now c.in_ok-ends.ends.items
     c.in_ok-parents.parents.items c.in_ok-homes.homes.items c.items-3.result.now

@@ -9,10 +9,10 @@ use Rattle.cp_embed.proofs.embedding.has_pair.Goals as goal
 
 -- equations over the vars, in the code's own terms
 over_own : (vars n : ℕ) (equations slice : List Equation) → n ≡ vars → slice ≡ equations
-    → AllByRecursion (IsOverVars vars) equations → All (parity.HasVarsBelow n) slice
+    → AllByRecursion (IsOverVars vars) equations → All (parity.IsOverVars n) slice
 over_own vars n equations slice n_is slice_is over =
-    subst (λ m. All (parity.HasVarsBelow m) slice) (sym n_is)
-    (subst (All (parity.HasVarsBelow vars)) (sym slice_is) (over_vars vars equations over))
+    subst (λ m. All (parity.IsOverVars m) slice) (sym n_is)
+    (subst (All (parity.IsOverVars vars)) (sym slice_is) (over_vars vars equations over))
 
 -- bits that meet them, in the code's own terms
 met_own : (equations slice : List Equation) (bits row : List Bool) → slice ≡ equations → row ≡ bits

@@ -3,8 +3,9 @@ use Rattle.std.specs.List.{list_all, AllZip}
 use Rattle.std.proofs.lemmas.List.{take_more}
 use Rattle.cp_pq.specs.Nodes.{is_branching}
 use Rattle.cp_force.specs.Fits.{place_in, IsFitted}
-use Rattle.cp_force.proofs.Results.{IfOk-map}
-use Rattle.cp_force.proofs.FittedNodes.{zip_more, all_at, branching_kids_P, branching_kids_Q}
+use Rattle.cp_pq.proofs.Results.{IfOk-map}
+use Rattle.cp_force.proofs.FittedNodes.{zip_more, branching_kids_P, branching_kids_Q}
+use Rattle.cp_pq.proofs.NodeTests.{all_at}
 use Rattle.cp_force.proofs.fitting.+fits.Goals as goal
 
 pub fit_row-loop-node-preserved : goal.fit_row-loop-node-preserved

@@ -3,7 +3,7 @@ use Rattle.std.specs.List.Sorted.{IsStrictlyIncreasing}
 use Rattle.cp_pq.specs.Trees.{IsWellFormed}
 use Rattle.cp_pq.specs.Promises.{IsForced, IsNeverInRow}
 use Rattle.cp_force.specs.declared.fault.ForceFault.TheVariants.{NotOrderable}
-use Rattle.cp_force.proofs.Results.{IfOk-map, IfErr-map}
+use Rattle.cp_pq.proofs.Results.{IfErr-map, IfOk-map}
 use Rattle.cp_force.proofs.ForcedTrees.{never_together}
 use Rattle.cp_force.proofs.OpenedTrees.{leaf_set_of, reduced_set}
 use Rattle.cp_force.proofs.forcing.force.Goals as goal

@@ -3,7 +3,7 @@ use Rattle.cp_pq.specs.Trees.{PQTree}
 use Rattle.cp_pq.specs.Promises.{IsForced, IsNeverInRow}
 use Rattle.cp_force.specs.declared.fault.ForceFault.TheVariants.{NotOrderable}
 use Rattle.cp_force.specs.Forced.{IsOpened}
-use Rattle.cp_force.proofs.Results.{IfOk-map, IfErr-map}
+use Rattle.cp_pq.proofs.Results.{IfErr-map, IfOk-map}
 use Rattle.cp_force.proofs.forcing.put.Goals as goal
 
 pub put_for_node-requires : goal.put_for_node-requires

@@ -5,9 +5,10 @@ use Rattle.cp_pq.specs.Readings.{Reads}
 use Rattle.cp_pq.specs.Promises.{IsForced}
 use Rattle.cp_force.specs.Fits.{IsTiedReading}
 use Rattle.cp_force.specs.Forced.{forced_node}
-use Rattle.cp_force.proofs.Results.{match_Some, match_None}
-use Rattle.cp_force.proofs.OpenedTrees.{first_kid, kid_branches, fill_node, node_forced, node_never}
+use Rattle.cp_force.proofs.Variants.{match_Some, match_None}
+use Rattle.cp_force.proofs.OpenedTrees.{first_kid, kid_branches, node_forced, node_never}
 use Rattle.cp_force.proofs.forcing.put_for_node.Goals as goal
+use Rattle.cp_pq.proofs.FilledRows.{fill_one}
 
 pub fit-requires-clause-branching : goal.fit-requires-clause-branching
 fit-requires-clause-branching c =
@@ -26,10 +27,10 @@ closed-requires c =
     c.in-Some.ties c.in-Some.is c.in_ok-found.ensures in
     let row : c.in_ok-row-in-Some.row ≡ forced_node c.args.var order ∷ [] =
     c.in_ok-row-in-Some.ensures ∙ ap (λ (z : Node). z ∷ []) c.in_ok-node-in-Some.ensures in
-    let m = fill_node hole.frames (forced_node c.args.var order) in (
+    let m = fill_one hole.frames (forced_node c.args.var order) in (
       m.0,
-      m.1 ∙ ap (fill hole.frames) (sym row),
-      (node_forced order c.args.var c.requires.0 hole c.args.kids o k one c.in-Some.ties ties m.0 m.1).0,
+      sym m.1 ∙ ap (fill hole.frames) (sym row),
+      (node_forced order c.args.var c.requires.0 hole c.args.kids o k one c.in-Some.ties ties m.0 (sym m.1)).0,
     )
 
 pub returns-in-None-clause-refused : goal.returns-in-None-clause-refused
@@ -52,7 +53,7 @@ returns-in_ok-tree-in-Some-clause-forced c = λ tree o.
     c.in-Some.ties c.in-Some.is c.in_ok-found.ensures in
     let row : c.in_ok-row-in-Some.row ≡ forced_node c.args.var order ∷ [] =
     c.in_ok-row-in-Some.ensures ∙ ap (λ (z : Node). z ∷ []) c.in_ok-node-in-Some.ensures in
-    let m = fill_node hole.frames (forced_node c.args.var order) in
+    let m = fill_one hole.frames (forced_node c.args.var order) in
     subst (IsForced order c.args.var tree)
-    (sym (c.in_ok-tree-in-Some.ensures m.0 (m.1 ∙ ap (fill hole.frames) (sym row))))
-    (node_forced order c.args.var tree hole c.args.kids o k one c.in-Some.ties ties m.0 m.1).1
+    (sym (c.in_ok-tree-in-Some.ensures m.0 (sym m.1 ∙ ap (fill hole.frames) (sym row))))
+    (node_forced order c.args.var tree hole c.args.kids o k one c.in-Some.ties ties m.0 (sym m.1)).1

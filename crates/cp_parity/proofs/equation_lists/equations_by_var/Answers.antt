@@ -3,7 +3,7 @@ use Rattle.std.proofs.Common.{◌≡◌, ◌++◌, ◌∷◌, [], ℕ, ◌+◌, 
 use Rattle.std.proofs.lemmas.List.{get_or_read}
 use Rattle.std.proofs.lemmas.Option.{slice_get-get_or}
 use Rattle.cp_base.specs.declared.equation.Equation.{Equation}
-use Rattle.cp_parity.specs.Equations.{HasVarsBelow}
+use Rattle.cp_parity.specs.Equations.{IsOverVars}
 use Rattle.cp_parity.specs.EquationLists.{AreListed}
 use Rattle.cp_parity.proofs.EquationLists.{AreListed-none, AreListed-more}
 use Rattle.cp_parity.proofs.equation_lists.equations_by_var.Goals as goal
@@ -11,7 +11,7 @@ use Rattle.cp_parity.proofs.equation_lists.equations_by_var.Goals as goal
 -- what is read and appended twice, in the lists' own terms
 listed_twice : (eqs : List Equation) (vars place : ℕ) (lists : List (List ℕ)) (e : Equation)
     (one two first second : List ℕ)
-    → AreListed eqs vars place lists → HasVarsBelow vars e → slice_get eqs place ≡ Some e
+    → AreListed eqs vars place lists → IsOverVars vars e → slice_get eqs place ≡ Some e
     → first ≡ get_or lists e.x first → one ≡ first ++ place ∷ []
     → second ≡ get_or (set lists e.x one) e.y second → two ≡ second ++ place ∷ []
     → AreListed eqs vars (place + 1) (set (set lists e.x one) e.y two)

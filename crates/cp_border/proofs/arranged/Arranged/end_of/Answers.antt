@@ -1,7 +1,7 @@
 use Rattle.std.proofs.Common.{◌/◌, arith}
 use Rattle.cp_cgraph.specs.Clustered.{edges}
 use Rattle.cp_border.specs.Borders.{crossed}
-use Rattle.cp_border.proofs.Numbering.{before_next}
+use Rattle.cp_border.proofs.Numbering.{sum_below-next}
 use Rattle.cp_border.proofs.arranged.Arranged.end_of.Goals as goal
 
 pub overflow_add-result : goal.overflow_add-result
@@ -9,7 +9,7 @@ overflow_add-result c =
     omega (
       arith,
       c.args.self.now.first_told.told (c.args.d / 2) (omega arith),
-      before_next
+      sum_below-next
           (crossed c.args.self.now.graph.now) (c.args.d / 2) (edges c.args.self.now.graph.now) (omega arith),
       c.args.self.now.few_vertices,
     )
@@ -19,7 +19,7 @@ overflow_mul-result c =
     omega (
       arith,
       c.args.self.now.first_told.told (c.args.d / 2) (omega arith),
-      before_next
+      sum_below-next
           (crossed c.args.self.now.graph.now) (c.args.d / 2) (edges c.args.self.now.graph.now) (omega arith),
       c.args.self.now.few_vertices,
     )
@@ -29,7 +29,7 @@ overflow_add-result-else-d-eq0 c =
     omega (
       arith,
       c.args.self.now.first_told.told (c.args.d / 2) (omega arith),
-      before_next
+      sum_below-next
           (crossed c.args.self.now.graph.now) (c.args.d / 2) (edges c.args.self.now.graph.now) (omega arith),
       c.args.self.now.few_vertices,
     )
@@ -39,7 +39,7 @@ overflow_add-result-else-d-eq0-2 c =
     omega (
       arith,
       c.args.self.now.first_told.told (c.args.d / 2) (omega arith),
-      before_next
+      sum_below-next
           (crossed c.args.self.now.graph.now) (c.args.d / 2) (edges c.args.self.now.graph.now) (omega arith),
       c.args.self.now.few_vertices,
       c.crossed.ensures.value,
@@ -50,7 +50,7 @@ overflow_mul-result-else-d-eq0 c =
     omega (
       arith,
       c.args.self.now.first_told.told (c.args.d / 2) (omega arith),
-      before_next
+      sum_below-next
           (crossed c.args.self.now.graph.now) (c.args.d / 2) (edges c.args.self.now.graph.now) (omega arith),
       c.args.self.now.few_vertices,
       c.crossed.ensures.value,
@@ -61,7 +61,7 @@ overflow_add-result-else-d-eq0-3 c =
     omega (
       arith,
       c.args.self.now.first_told.told (c.args.d / 2) (omega arith),
-      before_next
+      sum_below-next
           (crossed c.args.self.now.graph.now) (c.args.d / 2) (edges c.args.self.now.graph.now) (omega arith),
       c.args.self.now.few_vertices,
       c.crossed.ensures.value,

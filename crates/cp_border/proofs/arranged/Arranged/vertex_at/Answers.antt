@@ -1,7 +1,7 @@
 use Rattle.std.proofs.Common.{arith}
 use Rattle.cp_cgraph.specs.Clustered.{edges}
 use Rattle.cp_border.specs.Borders.{crossed}
-use Rattle.cp_border.proofs.Numbering.{before_next}
+use Rattle.cp_border.proofs.Numbering.{sum_below-next}
 use Rattle.cp_border.proofs.Rotation.{crossing_of}
 use Rattle.cp_border.proofs.arranged.Arranged.vertex_at.Goals as goal
 
@@ -10,7 +10,7 @@ overflow_add-result c =
     omega (
       arith,
       c.args.self.now.first_told.told c.args.e (omega arith),
-      before_next
+      sum_below-next
           (crossed c.args.self.now.graph.now) c.args.e (edges c.args.self.now.graph.now) c.requires.edge,
       c.args.self.now.few_vertices,
       c.nodes.ensures.value,
@@ -23,7 +23,7 @@ overflow_add-result-2 c =
     omega (
       arith,
       c.args.self.now.first_told.told c.args.e (omega arith),
-      before_next
+      sum_below-next
           (crossed c.args.self.now.graph.now) c.args.e (edges c.args.self.now.graph.now) c.requires.edge,
       c.args.self.now.few_vertices,
       c.nodes.ensures.value,

@@ -1,5 +1,5 @@
 use Rattle.std.proofs.Common.{◌≡◌, ℕ, ◌+◌, ◌*◌, ◌<◌, slice_index, subst, arith, length-set}
-use Rattle.cp_border.specs.Borders.{before, crossed, first_segment, segments}
+use Rattle.cp_border.specs.Borders.{sum_below, crossed, first_segment, segments}
 use Rattle.cp_border.specs.Tables.{HoldsTable, segment_vertices}
 use Rattle.cp_border.proofs.Darts.{first_segment-le}
 use Rattle.cp_border.proofs.TablesLaw.{edge-start, edge-more, edge-end}
@@ -7,7 +7,7 @@ use Rattle.cp_border.proofs.arranged.Arranged.write_edge.Goals as goal
 
 pub bounds-at-start : goal.bounds-at-start
 bounds-at-start c =
-    let told : slice_index c.args.self.now.first.now c.args.e ≡ before (crossed c.args.self.now.graph.now) c.args.e =
+    let told : slice_index c.args.self.now.first.now c.args.e ≡ sum_below (crossed c.args.self.now.graph.now) c.args.e =
     c.args.self.now.first_told.told c.args.e (omega arith) in
     let low : first_segment c.args.self.now.graph.now c.args.e + 0 < segments c.args.self.now.graph.now =
     first_segment-le c.args.self.now.graph.now c.args.e 0 c.requires.edge (omega arith) in
@@ -15,14 +15,14 @@ bounds-at-start c =
 
 pub loop-i-init : goal.loop-i-init
 loop-i-init c =
-    let told : slice_index c.args.self.now.first.now c.args.e ≡ before (crossed c.args.self.now.graph.now) c.args.e =
+    let told : slice_index c.args.self.now.first.now c.args.e ≡ sum_below (crossed c.args.self.now.graph.now) c.args.e =
     c.args.self.now.first_told.told c.args.e (omega arith) in
     rw (told, c.ends-source.ensures.ends) (edge-start c.args.self.now.graph.now c.args.at.now c.args.e c.requires.edge
     c.requires.room c.requires.done)
 
 pub bounds-at-start-in-loop-i : goal.bounds-at-start-in-loop-i
 bounds-at-start-in-loop-i c =
-    let told : slice_index c.args.self.now.first.now c.args.e ≡ before (crossed c.args.self.now.graph.now) c.args.e =
+    let told : slice_index c.args.self.now.first.now c.args.e ≡ sum_below (crossed c.args.self.now.graph.now) c.args.e =
     c.args.self.now.first_told.told c.args.e (omega arith) in
     let low : first_segment c.args.self.now.graph.now c.args.e + (c.loop-i.i + 1) < segments c.args.self.now.graph.now =
     first_segment-le c.args.self.now.graph.now c.args.e (c.loop-i.i + 1) c.requires.edge
@@ -31,7 +31,7 @@ bounds-at-start-in-loop-i c =
 
 pub bounds-at-start-in-loop-i-2 : goal.bounds-at-start-in-loop-i-2
 bounds-at-start-in-loop-i-2 c =
-    let told : slice_index c.args.self.now.first.now c.args.e ≡ before (crossed c.args.self.now.graph.now) c.args.e =
+    let told : slice_index c.args.self.now.first.now c.args.e ≡ sum_below (crossed c.args.self.now.graph.now) c.args.e =
     c.args.self.now.first_told.told c.args.e (omega arith) in
     let low : first_segment c.args.self.now.graph.now c.args.e + (c.loop-i.i + 1) < segments c.args.self.now.graph.now =
     first_segment-le c.args.self.now.graph.now c.args.e (c.loop-i.i + 1) c.requires.edge
@@ -40,7 +40,7 @@ bounds-at-start-in-loop-i-2 c =
 
 pub loop-i-preserved : goal.loop-i-preserved
 loop-i-preserved c =
-    let told : slice_index c.args.self.now.first.now c.args.e ≡ before (crossed c.args.self.now.graph.now) c.args.e =
+    let told : slice_index c.args.self.now.first.now c.args.e ≡ sum_below (crossed c.args.self.now.graph.now) c.args.e =
     c.args.self.now.first_told.told c.args.e (omega arith) in
     let so_far : HoldsTable (2 * first_segment c.args.self.now.graph.now c.args.e + 2 * c.loop-i.i + 1) c.loop-i.at
     (slice_index (segment_vertices c.args.self.now.graph.now)) =
@@ -52,7 +52,7 @@ loop-i-preserved c =
 
 pub bounds-at-start-2 : goal.bounds-at-start-2
 bounds-at-start-2 c =
-    let told : slice_index c.args.self.now.first.now c.args.e ≡ before (crossed c.args.self.now.graph.now) c.args.e =
+    let told : slice_index c.args.self.now.first.now c.args.e ≡ sum_below (crossed c.args.self.now.graph.now) c.args.e =
     c.args.self.now.first_told.told c.args.e (omega arith) in
     let low : first_segment c.args.self.now.graph.now c.args.e + crossed c.args.self.now.graph.now c.args.e < segments
     c.args.self.now.graph.now =
@@ -62,7 +62,7 @@ bounds-at-start-2 c =
 
 pub returns : goal.returns
 returns c =
-    let told : slice_index c.args.self.now.first.now c.args.e ≡ before (crossed c.args.self.now.graph.now) c.args.e =
+    let told : slice_index c.args.self.now.first.now c.args.e ≡ sum_below (crossed c.args.self.now.graph.now) c.args.e =
     c.args.self.now.first_told.told c.args.e (omega arith) in
     let all : c.loop-i.i ≡ crossed c.args.self.now.graph.now c.args.e = omega (arith, c.crossed-count.ensures.value) in
     let whole : HoldsTable (2 * first_segment c.args.self.now.graph.now c.args.e + 2 * crossed c.args.self.now.graph.now

@@ -1,14 +1,14 @@
 use Rattle.std.proofs.Common.{◌≡◌, ◌+◌, ◌*◌, slice_index, ap, subst, arith}
 use Rattle.cp_cgraph.specs.Clustered.{edges}
 use Rattle.cp_rot.specs.Systems.{IsRotation, darts}
-use Rattle.cp_border.specs.Borders.{borders, before, crossed}
+use Rattle.cp_border.specs.Borders.{borders, sum_below, crossed}
 use Rattle.cp_border.specs.Views.{Drawn}
 use Rattle.cp_border.proofs.RotationLaw.{IsRotation-borders, length-borders_at-graph}
 use Rattle.cp_border.proofs.view.ViewRotationSystem.darts.Goals as goal
 
 pub returns-clause-value : goal.returns-clause-value
 returns-clause-value c =
-    let sum : slice_index c.self.inside.arranged.first.now (edges c.self.inside.arranged.graph.now) ≡ before
+    let sum : slice_index c.self.inside.arranged.first.now (edges c.self.inside.arranged.graph.now) ≡ sum_below
     (crossed c.self.inside.arranged.graph.now) (edges c.self.inside.arranged.graph.now) =
     c.self.invariant.first_told.told (edges c.self.inside.arranged.graph.now) (omega arith) in
     let last : slice_index c.self.inside.arranged.first.now c.edges-edges.result ≡ slice_index
@@ -25,7 +25,7 @@ returns-clause-value c =
 
 pub returns-clause-bound : goal.returns-clause-bound
 returns-clause-bound c =
-    let sum : slice_index c.self.inside.arranged.first.now (edges c.self.inside.arranged.graph.now) ≡ before
+    let sum : slice_index c.self.inside.arranged.first.now (edges c.self.inside.arranged.graph.now) ≡ sum_below
     (crossed c.self.inside.arranged.graph.now) (edges c.self.inside.arranged.graph.now) =
     c.self.invariant.first_told.told (edges c.self.inside.arranged.graph.now) (omega arith) in
     let last : slice_index c.self.inside.arranged.first.now c.edges-edges.result ≡ slice_index

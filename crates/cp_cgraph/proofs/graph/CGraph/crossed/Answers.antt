@@ -18,6 +18,6 @@ returns-clause-bound c =
     omega (
       arith,
       value,
-      crossed_le g c.is_clustered.ensures c.args.e (2 ^ 60) c.requires
-          (omega (arith, c.clusters-clusters.ensures.value, c.clusters-clusters.ensures.bound)),
+      crossed_le g c.is_clustered.ensures.clustered c.args.e (2 ^ 60) c.requires
+          c.is_clustered.ensures.few_clusters,
     )
