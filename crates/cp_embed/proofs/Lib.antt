@@ -14,6 +14,8 @@ mod BuiltTrees
 mod MetEquations
 mod UnwoundSteps
 mod UnwoundStages
+mod UnwoundLists
+mod EdgeRuns
 mod Cuts
 mod DartLists
 mod MovedVertices

@@ -2,7 +2,7 @@
 use Rattle.std.specs.Prelude.{◌≡◌, ℕ, suc, List, [], ◌∷◌, length, slice_index, reverse}
 use Rattle.cp_pq.specs.Trees.{PQTree}
 use Rattle.cp_embed.specs.declared.taking.Frame.{Frame}
-use Rattle.cp_embed.specs.ListedBlocks.{ListedGraph, list_given}
+use Rattle.cp_embed.specs.ListedBlocks.{ListedGraph, IsListedBlock, list_given}
 use Rattle.cp_embed.specs.TreeSteps.{IsStageTree, IsTreeStep}
 use Rattle.cp_embed.specs.VertexOrders.{IsTakingOrder, edges_in, edges_out, taken_at, last_of, dart_at}
 
@@ -26,6 +26,7 @@ IsBuilt block order later root (frame ∷ frames) tree =
 
 -- the tree of vertex t of the block, with the first vertex that was taken and the frames of the others but t
 pub record IsUnwindable (block : ListedGraph) (t first : ℕ) (frames : List Frame) (tree : PQTree) : Type 0 where
+  pub well : IsListedBlock block
   pub order : List ℕ
   pub later : List ℕ
   pub root : ℕ

@@ -6,6 +6,7 @@ pub mod ListedBlocks
 pub mod TreePairs
 pub mod Pairs
 pub mod Embeddings
+pub mod Unwound
 -- what functions inside promise each other
 pub mod Steps
 pub mod Stages

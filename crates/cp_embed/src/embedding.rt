@@ -48,10 +48,7 @@ fn has_pair<T: OrderTree>(alloc: Global, tree: &T) -> Result<(), EmbedFault>
     ensures none { IfErr result (λ fault. fault ≡ NotPlanar → HasSomePair (T.tree tree.now) → ⊥) }
 {
     match solve(alloc, tree.vars(), tree.equations()) {
-        Ok(bits) => {
-            let _order = tree.order_by(alloc, bits.as_slice())?;
-            Ok(())
-        }
+        Ok(_) => Ok(()),
         Err(ParityFault::Conflict { .. }) => Err(EmbedFault::NotPlanar),
         Err(ParityFault::Memory) => Err(EmbedFault::Memory),
     }
@@ -94,6 +91,24 @@ pub fn embed<T: OrderTree + Drop>(
 }
 
 impl<T: OrderTree> Embedded<T> {
+    ghost use Rattle.cp_embed.specs.BuiltTrees.{IsUnwindable};
+
+    // The vertex that was taken first, and the frames of the others but the last, in their order.
+    pub(crate) fn taken(&self) -> (usize, &[Frame])
+        ensures { IsUnwindable self.now.block self.now.vertex result.0 result.1.now self.now.tree }
+    {
+        (self.first, self.frames.items())
+    }
+
+    // The block and the vertex.
+    pub(crate) fn block(&self) -> (&QBlock, usize)
+        ensures block { result.0.now ≡ self.now.block }
+        ensures vertex { result.1 ≡ self.now.vertex }
+        ensures exact { IsEmbeddingTree self.now.block self.now.vertex self.now.tree }
+    {
+        (&self.block, self.vertex)
+    }
+
     /// The tree. It takes no memory.
     pub fn tree(&self) -> &T
         ensures value { T.tree result.now ≡ self.now.tree }
