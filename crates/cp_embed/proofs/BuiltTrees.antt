@@ -24,7 +24,7 @@ module _ (block : ListedGraph) (well : IsListedBlock block) (order later : List 
   -- a tree that is built, the last frame first, is that of the stage behind the frames
   pub built-IsStageTree : (frames : List Frame) (tree : PQTree) → IsBuilt block order later root frames tree
       → IsStageTree block r (taken_at order (suc (length frames))) tree
-  built-IsStageTree [] tree built = built
+  built-IsStageTree [] tree built = built.0
   built-IsStageTree (frame ∷ frames) tree built = built.3
 
   -- in the order of the frames

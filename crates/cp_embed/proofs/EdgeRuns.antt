@@ -39,7 +39,8 @@ module _ (ends : List (ℕ × ℕ)) (vertex : ℕ) (outs word : List ℕ) (h : H
   )
 
   -- its place
-  module _ (place : ℕ) (le : place ≤ length word) (before : (i : ℕ) → i < place → touches ends vertex (get_or word i 0) ≡ false)
+  module _ (place : ℕ) (le : place ≤ length word) (before : (i : ℕ) → i < place
+      → touches ends vertex (get_or word i 0) ≡ false)
       (there : place < length word → touches ends vertex (get_or word place 0) ≡ true) where
     -- it is the first place at which an edge of the vertex stands
     pub run-place : place ≡ length h.front
@@ -86,7 +87,8 @@ module _ (ends : List (ℕ × ℕ)) (vertex : ℕ) (outs word : List ℕ) (h : H
         ∙ drop-append_seam h.run h.behind
         in
         let middle : slice_range word place end ≡ h.run =
-        ap₂ (λ n ws. take n ws) span (ap₂ (λ n ws. drop n ws) run-place h.word_is ∙ drop-append_seam h.front (h.run ++ h.behind))
+        ap₂ (λ n ws. take n ws) span (ap₂ (λ n ws. drop n ws) run-place h.word_is
+        ∙ drop-append_seam h.front (h.run ++ h.behind))
         ∙ take-append_seam h.run h.behind
         in
         record {

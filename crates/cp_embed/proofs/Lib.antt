@@ -15,6 +15,10 @@ mod MetEquations
 mod UnwoundSteps
 mod UnwoundStages
 mod UnwoundLists
+mod Sides
+mod LinkedEdges
+mod OwnedTrees
+mod BondedOwners
 mod EdgeRuns
 mod Cuts
 mod DartLists

@@ -76,7 +76,8 @@ module _ (block : ListedGraph) (well : IsListedBlock block) (order later : List 
   order-apart i j li lj ne same = ne (Distinct-once order
       (Exactly-Distinct block.graph.vertices (λ v. true) order ord.bipolar.each_once) i j li lj same)
 
-  -- what is left to take back of a pair: a pair of the tree of an earlier stage, and whatever lists have those that were
+  -- what is left to take back of a pair: a pair of the tree of an earlier stage, and whatever lists have those that
+  -- were
   -- given so far and come from the earlier pair come from the pair
   pub record IsLeft (frames : List Frame) (tree : PQTree) (built : IsBuilt block order later root frames tree)
       (bits : List Bool) (word : List ℕ) (lists : List (List ℕ)) (rest : List Frame) (left : List ℕ) : Type 0 where
@@ -121,7 +122,8 @@ module _ (block : ListedGraph) (well : IsListedBlock block) (order later : List 
       (built-IsStageTree block well order later root ord frames built.0 built.1)
       in
       let once : Distinct word =
-      (pair-Distinct block well order later root ord (λ v. []) (taken_at order (suc (suc j))) tree built.3 word bits p).1
+      (pair-Distinct block well order later root ord (λ v. []) (taken_at order (suc (suc j))) tree built.3 word bits
+      p).1
       in
       let leads : (k : ℕ) → Has k word → (d : ℕ) × (edge_of d ≡ k) × LeadsInto at e (x ∷ y ∷ others) d =
       λ k h. let w = (built.3.leaves_are k).0 (inr (pair-leaf tree word bits p k h)) in (
@@ -200,7 +202,8 @@ module _ (block : ListedGraph) (well : IsListedBlock block) (order later : List 
     IsLeft-step lists more frame rest left new list lt each z out more_is =
         let x : ℕ = slice_index order (suc (length rest)) in
         let inc : List ℕ = part_word bits frame.part in
-        let some = (frame-IsTakenBack block well order later root ord (λ v. []) frame rest z.old z.old_built z.old_bits left
+        let some = (frame-IsTakenBack block well order later root ord (λ v. []) frame rest z.old z.old_built
+        z.old_bits left
         lt z.pair).some
         in
         let reads : ReadsPart (given z.old_bits) frame.part inc =
@@ -209,7 +212,8 @@ module _ (block : ListedGraph) (well : IsListedBlock block) (order later : List 
         let run_is : IsArrangementOf out.run (edges_out block.graph.ends later x) =
         subst (IsArrangementOf out.run) z.old_built.2.outs out.run_is
         in
-        let pair = (run_back block well order later root ord (λ v. []) frame rest z.old z.old_built z.old_bits left lt z.pair
+        let pair = (run_back block well order later root ord (λ v. []) frame rest z.old z.old_built z.old_bits left lt
+        z.pair
         out.front inc out.run out.behind out.word_is run_is reads).0
         in
         let set_is : more ≡ set lists x list = more_is ∙ ap (λ v. set lists v list) z.old_built.2.vertex in
@@ -267,7 +271,8 @@ module _ (block : ListedGraph) (well : IsListedBlock block) (order later : List 
         (Has_at order 0 (omega (arith, long))))
         in
         let t_within : t < length (set lists s first_list) =
-        subst (λ n. t < n) (sym (length-set lists s first_list ∙ each)) ((order-within block well order later root ord t).0
+        subst (λ n. t < n) (sym (length-set lists s first_list
+        ∙ each)) ((order-within block well order later root ord t).0
         (Has_at order (length order - 1) (omega (arith, long))))
         in
         let other : (v : ℕ) → v ≢ t → v ≢ s → slice_index_or more v [] ≡ slice_index_or lists v [] =
@@ -285,7 +290,8 @@ module _ (block : ListedGraph) (well : IsListedBlock block) (order later : List 
         ap (λ rows. slice_index_or rows t []) more_is
         ∙ get_or-set_same (set lists s first_list) t cyclic [] t_within
         in
-        let w = unwound-Realises block well order later root ord (λ v. slice_index_or more v []) frames tree built bits word
+        let w = unwound-Realises block well order later root ord (λ v. slice_index_or more v []) frames tree built
+        bits word
         all p
         (z.goes_on (λ v. slice_index_or more v [])
         (λ i past within. other (slice_index order i)
@@ -303,7 +309,7 @@ module _ (block : ListedGraph) (well : IsListedBlock block) (order later : List 
             order_is = turn-trans cyclic (root ∷ word) (edges_round w.0 t) turn w.1.order_is;
             lists_kept = w.1.lists_kept;
           };
-          lists_are = λ v lt. ⊎_elim
+          lists_are = λ v lt. ⊎_elim {C = IsTurn (slice_index_or more v []) (edges_round w.0 v)}
               (λ same. subst (λ u. IsTurn (slice_index_or more u []) (edges_round w.0 u)) (sym same)
               (subst (λ us. IsTurn us (edges_round w.0 t)) (sym at_t)
               (turn-trans cyclic (root ∷ word) (edges_round w.0 t) turn w.1.order_is)))
@@ -326,7 +332,8 @@ pub record IsUnwoundTo (block : ListedGraph) (t first : ℕ) (frames : List Fram
   pub pair : IsPair tree (tree.root ∷ begin) bits
   pub within : left ≤ length frames
   pub list_each : length lists ≡ block.graph.vertices
-  pub rest : IsLeft block way.well way.order way.later way.root way.order_is (reverse frames) tree way.built bits begin lists
+  pub rest : IsLeft block way.well way.order way.later way.root way.order_is (reverse frames) tree way.built bits
+      begin lists
       (reverse (take left frames)) word
 
 -- the frames up to a place, from the last
@@ -385,7 +392,8 @@ module _ (block : ListedGraph) (t first : ℕ) (frames : List Frame) (tree : PQT
       (length way.order - 1) (omega (arith, way.frame_each)) way.built
       in
       let once : Distinct (tree.root ∷ p.word) =
-      pair-Distinct block way.well way.order way.later way.root way.order_is (λ v. []) (taken_at way.order (length way.order - 1))
+      pair-Distinct block way.well way.order way.later way.root way.order_is (λ v. []) (taken_at way.order (length
+      way.order - 1))
       tree stage p.word bits p.pair
       in
       let same : p.word ≡ word =
@@ -402,9 +410,11 @@ module _ (block : ListedGraph) (t first : ℕ) (frames : List Frame) (tree : PQT
         pair = pair;
         within = omega (arith, left_is);
         list_each = each;
-        rest = subst (λ fs. IsLeft block way.well way.order way.later way.root way.order_is (reverse frames) tree way.built bits
+        rest = subst (λ fs. IsLeft block way.well way.order way.later way.root way.order_is (reverse frames) tree
+            way.built bits
             word lists fs word) (sym (ap (λ n. reverse (take n frames)) left_is ∙ ap reverse (take-length frames)))
-            (IsLeft-all block way.well way.order way.later way.root way.order_is (reverse frames) tree way.built bits word lists
+            (IsLeft-all block way.well way.order way.later way.root way.order_is (reverse frames) tree way.built bits
+            word lists
             pair);
       }
 
@@ -413,9 +423,11 @@ module _ (block : ListedGraph) (t first : ℕ) (frames : List Frame) (tree : PQT
       (z : IsUnwoundTo block t first frames tree bits order root lists left word) (frame : Frame)
       (frame_is : frame ≡ get_or frames next frame) where
     -- what is left begins with it
-    left_frame : IsLeft block z.way.well z.way.order z.way.later z.way.root z.way.order_is (reverse frames) tree z.way.built
+    left_frame : IsLeft block z.way.well z.way.order z.way.later z.way.root z.way.order_is (reverse frames) tree
+        z.way.built
         bits z.begin lists (frame ∷ reverse (take next frames)) word
-    left_frame = subst (λ fs. IsLeft block z.way.well z.way.order z.way.later z.way.root z.way.order_is (reverse frames) tree
+    left_frame = subst (λ fs. IsLeft block z.way.well z.way.order z.way.later z.way.root z.way.order_is (reverse
+        frames) tree
         z.way.built bits z.begin lists fs word) (rest_is frames left next frame is z.within frame_is) z.rest
 
     -- its place is in front of the last
@@ -424,7 +436,8 @@ module _ (block : ListedGraph) (t first : ℕ) (frames : List Frame) (tree : PQT
 
     -- the edges of its vertex are a run of the word
     pub IsUnwoundTo-run : HasEdgesAsRun block.graph.ends frame.vertex frame.outs.items word
-    IsUnwoundTo-run = IsLeft-run block z.way.well z.way.order z.way.later z.way.root z.way.order_is (reverse frames) tree
+    IsUnwoundTo-run = IsLeft-run block z.way.well z.way.order z.way.later z.way.root z.way.order_is (reverse frames)
+        tree
         z.way.built bits z.begin lists frame (reverse (take next frames)) word place_within left_frame
 
     -- its vertex has a list
@@ -449,8 +462,10 @@ module _ (block : ListedGraph) (t first : ℕ) (frames : List Frame) (tree : PQT
       pair = z.pair;
       within = omega (arith, is, z.within);
       list_each = ap length more_is ∙ length-set lists frame.vertex list ∙ z.list_each;
-      rest = IsLeft-step block z.way.well z.way.order z.way.later z.way.root z.way.order_is (reverse frames) tree z.way.built
-          bits z.begin lists more frame (reverse (take next frames)) word new list place_within z.list_each left_frame out
+      rest = IsLeft-step block z.way.well z.way.order z.way.later z.way.root z.way.order_is (reverse frames) tree
+          z.way.built
+          bits z.begin lists more frame (reverse (take next frames)) word new list place_within z.list_each left_frame
+          out
           more_is;
     }
 
@@ -473,7 +488,8 @@ module _ (block : ListedGraph) (t first : ℕ) (frames : List Frame) (tree : PQT
         → more ≡ set (set lists first first_list) t order → AreUnwound block t order (bit_of bits) more
     IsUnwoundTo-none first_list more first_list_is more_is =
         subst (λ v. AreUnwound block v order (bit_of bits) more) z.way.last
-        (IsLeft-none block z.way.well z.way.order z.way.later z.way.root z.way.order_is (reverse frames) tree z.way.built bits
+        (IsLeft-none block z.way.well z.way.order z.way.later z.way.root z.way.order_is (reverse frames) tree
+        z.way.built bits
         z.begin lists more word order first_list
         (ap (λ n. suc (suc n)) (length-reverse frames) ∙ z.way.frame_each) z.list_each z.pair
         (subst (λ fs. IsLeft block z.way.well z.way.order z.way.later z.way.root z.way.order_is (reverse frames) tree

@@ -7,6 +7,7 @@ pub mod TreePairs
 pub mod Pairs
 pub mod Embeddings
 pub mod Unwound
+pub mod Bonds
 -- what functions inside promise each other
 pub mod Steps
 pub mod Stages
@@ -14,5 +15,6 @@ pub mod Sweeps
 pub mod Splits
 pub mod VertexOrders
 pub mod BuiltTrees
+pub mod OwnedTrees
 pub mod Cuts
 pub mod TreeSteps

@@ -1,7 +1,9 @@
 // The order tree of a vertex of a block.
 ghost use Rattle.std.specs.Prelude.{◌≡◌, ◌<◌, ℕ, IfOk, IfErr, MatchOption};
+ghost use Rattle.cp_conn.specs.Bonds.{IsBond};
 ghost use Rattle.cp_force.specs.Owners.{IsSoleP};
 ghost use Rattle.cp_pq.specs.Trees.{IsPair, IsWellFormed};
+ghost use Rattle.cp_embed.specs.Bonds.{as_named};
 ghost use Rattle.cp_embed.specs.Embeddings.{HasTwoEdges, IsEmbeddingTree, IsNeverEmbedded, HasSomePair};
 ghost use Rattle.cp_embed.specs.declared.fault.EmbedFault.TheVariants.{NotPlanar};
 
@@ -119,8 +121,9 @@ impl<T: OrderTree> Embedded<T> {
 
     /// The owner of the tree's body, exactly where the body is one P-node whose kids are all leaves. It takes no memory.
     pub fn pole(&self) -> Option<usize>
-        ensures { MatchOption result ((owner : ℕ) → IsSoleP self.now.tree owner → ⊥) (IsSoleP self.now.tree) }
+        ensures owner { MatchOption result ((owner : ℕ) → IsSoleP self.now.tree owner → ⊥) (IsSoleP self.now.tree) }
+        ensures bond { MatchOption result (Unit {0}) (IsBond (as_named self.now.block.graph) self.now.vertex) }
     {
-        self.tree().sole_owner()
+        self.tree.sole_owner()
     }
 }

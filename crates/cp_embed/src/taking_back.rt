@@ -84,7 +84,8 @@ fn taken_back(
     word: &[usize],
 ) -> Result<TakenBack, Memory>
     requires { HasEdgesAsRun ends.now frame.now.vertex frame.now.outs.items word.now }
-    ensures { IfOk result (λ back. IsTakenOutOf word.now frame.now.outs.items (part_word bits.now frame.now.part) back.word.items back.list) }
+    ensures { IfOk result (λ back. IsTakenOutOf word.now frame.now.outs.items (part_word bits.now frame.now.part)
+        back.word.items back.list) }
 {
     let start = place_of_run(word, ends, frame.vertex);
     let end = start + frame.outs.len();

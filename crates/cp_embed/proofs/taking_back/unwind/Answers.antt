@@ -19,7 +19,8 @@ within_own block own v t own_is v_is lt =
     subst (λ (b : ListedGraph). v < b.graph.vertices) (sym own_is) (subst (λ u. u < block.graph.vertices) (sym v_is) lt)
 
 -- the first of its edges, in the code's own terms
-root_own : (block own : ListedGraph) (v t : ℕ) (edges : List ℕ) → own ≡ block → v ≡ t → edges ≡ edges_at own.graph.ends v
+root_own : (block own : ListedGraph) (v t : ℕ) (edges : List ℕ) → own ≡ block → v ≡ t
+    → edges ≡ edges_at own.graph.ends v
     → slice_index edges 0 ≡ slice_index (edges_at block.graph.ends t) 0
 root_own block own v t edges own_is v_is is =
     ap (λ us. slice_index us 0) is ∙ ap₂ (λ (b : ListedGraph) u. slice_index (edges_at b.graph.ends u) 0) own_is v_is
@@ -31,7 +32,8 @@ each_own block own g n lists own_is g_is n_is is = ap length is ∙ length-repli
     ∙ ap (λ (h : PlainGraph). h.vertices) g_is ∙ ap (λ (b : ListedGraph). b.graph.vertices) own_is
 
 -- the ends of the edges, in the code's own terms
-ends_own : (block own : ListedGraph) (g : PlainGraph) (ends : List (ℕ × ℕ)) → own ≡ block → g ≡ own.graph → ends ≡ g.ends
+ends_own : (block own : ListedGraph) (g : PlainGraph) (ends : List (ℕ × ℕ)) → own ≡ block → g ≡ own.graph
+    → ends ≡ g.ends
     → ends ≡ block.graph.ends
 ends_own block own g ends own_is g_is is = is ∙ ap (λ (h : PlainGraph). h.ends) g_is
     ∙ ap (λ (b : ListedGraph). b.graph.ends) own_is
@@ -40,7 +42,8 @@ pub edges_at-requires : goal.edges_at-requires
 edges_at-requires g c =
     within_own c.args.m.now.block c.block-vertex.result.0.now c.block-vertex.result.1 c.args.m.now.vertex
     c.block-vertex.ensures.block c.block-vertex.ensures.vertex
-    (way-within c.args.m.now.block c.args.m.now.vertex c.taken-first.result.0 c.taken-first.result.1.now c.args.m.now.tree
+    (way-within c.args.m.now.block c.args.m.now.vertex c.taken-first.result.0 c.taken-first.result.1.now
+    c.args.m.now.tree
     c.args.bits.now c.args.order.now 0 c.taken-first.ensures)
 
 pub bounds-edges_at-0 : goal.bounds-edges_at-0
@@ -48,7 +51,8 @@ bounds-edges_at-0 g c = subst (λ us. 0 < length us) (sym c.edges_at.ensures.val
     (edges-some c.block-vertex.result.0.now c.edges_at.ensures.block c.block-vertex.result.1
     (within_own c.args.m.now.block c.block-vertex.result.0.now c.block-vertex.result.1 c.args.m.now.vertex
     c.block-vertex.ensures.block c.block-vertex.ensures.vertex
-    (way-within c.args.m.now.block c.args.m.now.vertex c.taken-first.result.0 c.taken-first.result.1.now c.args.m.now.tree
+    (way-within c.args.m.now.block c.args.m.now.vertex c.taken-first.result.0 c.taken-first.result.1.now
+    c.args.m.now.tree
     c.args.bits.now c.args.order.now 0 c.taken-first.ensures)))
 
 pub rest_behind-requires : goal.rest_behind-requires
