@@ -24,7 +24,7 @@ use Rattle.cp_pq.specs.declared.node.Node.{Node}
 use Rattle.cp_pq.specs.declared.node.Node.TheVariants.{Leaf, P}
 use Rattle.cp_pq.specs.Nodes.{leaves, IsIn, itself}
 use Rattle.cp_pq.specs.Owners.{AreOnOneSide}
-use Rattle.cp_pq.specs.Trees.{PQTree}
+use Rattle.cp_pq.specs.Trees.{PQTree, IsWellFormed}
 use Rattle.cp_pq.proofs.NodeLayers.{leaves_P}
 use Rattle.cp_force.specs.Owners.{IsSoleP}
 use Rattle.cp_embed.specs.declared.taking.Frame.{Frame}
@@ -253,7 +253,14 @@ module _ (block : ListedGraph) (well : IsListedBlock block) (t r : ℕ) (t_in : 
         (far (as_named g) t k) o.1 off p.0 o.0 p.1;
   }
 
--- the tree of a vertex with what was kept of its building
+-- the tree of a vertex with what was kept of its building is well formed
+pub way-IsWellFormed : (block : ListedGraph) (t first : ℕ) (frames : List Frame) (tree : PQTree)
+    → IsUnwindable block t first frames tree → IsWellFormed tree
+way-IsWellFormed block t first frames tree way =
+    (built-stage block way.well way.order way.later way.root way.order_is frames tree (length way.order - 1)
+    (omega (arith, way.frame_each)) way.built).formed
+
+-- its vertex and the owner of its body are a bond
 pub way-IsBond : (block : ListedGraph) (t first : ℕ) (frames : List Frame) (tree : PQTree)
     → IsUnwindable block t first frames tree → (v : ℕ) → IsSoleP tree v → IsBond (as_named block.graph) t v
 way-IsBond block t first frames tree way v sole =

@@ -19,6 +19,8 @@ mod Sides
 mod LinkedEdges
 mod OwnedTrees
 mod BondedOwners
+mod EveryOrders
+pub mod TurnedPairs
 mod EdgeRuns
 mod Cuts
 mod DartLists

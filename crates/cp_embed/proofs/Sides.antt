@@ -11,7 +11,7 @@ use Rattle.cp_pq.proofs.NodeLayers.{P_P, P_Q, Leaf_P, Leaf_Q, Q_Q, leaves_Leaf, 
 use Rattle.cp_embed.specs.TreeSteps.{row_body}
 
 -- no node is a kid in an empty row
-no_kid : (k : Node) → IsKid k [] → ⊥
+pub no_kid : (k : Node) → IsKid k [] → ⊥
 no_kid k h = empty h.0 h.1 h.2
   where
     empty : (before after : List Node) → [] ≡ before ++ k ∷ after → ⊥
@@ -19,7 +19,7 @@ no_kid k h = empty h.0 h.1 h.2
     empty (y ∷ before) after e = cc
 
 -- a kid is the first one or one of the others
-kid_or : (k x : Node) (xs : List Node) → IsKid k (x ∷ xs) → (x ≡ k) ⊎ IsKid k xs
+pub kid_or : (k x : Node) (xs : List Node) → IsKid k (x ∷ xs) → (x ≡ k) ⊎ IsKid k xs
 kid_or k x xs h = by_place h.0 h.1 h.2
   where
     by_place : (before after : List Node) → x ∷ xs ≡ before ++ k ∷ after → (x ≡ k) ⊎ IsKid k xs
@@ -27,13 +27,13 @@ kid_or k x xs h = by_place h.0 h.1 h.2
     by_place (y ∷ before) after e = let f : xs ≡ before ++ k ∷ after = cc in inr (before, after, f)
 
 -- the leaves of a row with a kid
-kid_leaves : (k : Node) (ks : List Node) → (h : IsKid k ks)
+pub kid_leaves : (k : Node) (ks : List Node) → (h : IsKid k ks)
     → all_leaves ks ≡ all_leaves h.0 ++ (leaves k ++ all_leaves h.1)
 kid_leaves k ks h = ap all_leaves h.2 ∙ all_leaves_append h.0 (k ∷ h.1)
     ∙ ap (λ xs. all_leaves h.0 ++ xs) (all_leaves_cons k h.1)
 
 -- a leaf of a kid is one of the row
-kid_leaf : (a : ℕ) (k : Node) (ks : List Node) → IsKid k ks → Has a (leaves k) → Has a (all_leaves ks)
+pub kid_leaf : (a : ℕ) (k : Node) (ks : List Node) → IsKid k ks → Has a (leaves k) → Has a (all_leaves ks)
 kid_leaf a k ks h l = subst (Has a) (sym (kid_leaves k ks h))
     (Has-append_right a (all_leaves h.0) (leaves k ++ all_leaves h.1) (Has-append_left a (leaves k) (all_leaves h.1) l))
 
@@ -100,7 +100,7 @@ row-leaves_are (x ∷ xs) = all_leaves_cons (Leaf x) (map Leaf xs)
     ∙ ap₂ (λ us vs. us ++ vs) (leaves_Leaf x) (row-leaves_are xs)
 
 -- a kid in a row of leaves is a leaf
-leaf_kid : (xs : List ℕ) (k : Node) → IsKid k (map Leaf xs) → (x : ℕ) × (k ≡ Leaf x)
+pub leaf_kid : (xs : List ℕ) (k : Node) → IsKid k (map Leaf xs) → (x : ℕ) × (k ≡ Leaf x)
 leaf_kid [] k h = absurd (no_kid k h)
 leaf_kid (x ∷ xs) k h = ⊎_elim (λ e. (x, sym e)) (λ later. leaf_kid xs k later) (kid_or k (Leaf x) (map Leaf xs) h)
 

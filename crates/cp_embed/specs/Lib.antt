@@ -8,6 +8,7 @@ pub mod Pairs
 pub mod Embeddings
 pub mod Unwound
 pub mod Bonds
+pub mod EveryOrder
 -- what functions inside promise each other
 pub mod Steps
 pub mod Stages
