@@ -24,7 +24,7 @@ module _ (block : ListedGraph) (well : IsListedBlock block) (order later : List 
   -- a tree that is built, the last frame first, is that of the stage behind the frames
   pub built-IsStageTree : (frames : List Frame) (tree : PQTree) → IsBuilt block order later root frames tree
       → IsStageTree block r (taken_at order (suc (length frames))) tree
-  built-IsStageTree [] tree built = built
+  built-IsStageTree [] tree built = built.0
   built-IsStageTree (frame ∷ frames) tree built = built.3
 
   -- in the order of the frames
@@ -114,7 +114,7 @@ module _ (block : ListedGraph) (well : IsListedBlock block) (order later : List 
     last_stage = built-stage frames tree (length order - 1) (omega (arith, all)) built
 
     -- its root
-    tree_root : tree.root ≡ root
+    pub tree_root : tree.root ≡ root
     tree_root = last_stage.root ∙ (root_dart block well order later root ord).2
 
     -- where it has a pair, it is the tree of the last vertex
@@ -144,6 +144,7 @@ module _ (block : ListedGraph) (well : IsListedBlock block) (order later : List 
     pub built-IsUnwindable : (copy : ListedGraph) (t first : ℕ) → copy ≡ block → last_of order ≡ t
         → first ≡ slice_index order 0 → IsUnwindable copy t first frames tree
     built-IsUnwindable copy t first same last first_is = subst (λ b. IsUnwindable b t first frames tree) (sym same) (record {
+      well = well;
       order = order;
       later = later;
       root = root;

@@ -14,6 +14,14 @@ mod BuiltTrees
 mod MetEquations
 mod UnwoundSteps
 mod UnwoundStages
+mod UnwoundLists
+mod Sides
+mod LinkedEdges
+mod OwnedTrees
+mod BondedOwners
+mod EveryOrders
+pub mod TurnedPairs
+mod EdgeRuns
 mod Cuts
 mod DartLists
 mod MovedVertices

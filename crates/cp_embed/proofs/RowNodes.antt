@@ -50,12 +50,12 @@ row_leaves var (x ∷ []) = leaves_Leaf x
 row_leaves var (x ∷ y ∷ xs) = leaves_Q var (map Leaf (x ∷ y ∷ xs)) ∙ leaves_row (x ∷ y ∷ xs)
 
 -- all tests of the images are the test of all
-list_all-map : (f : Node → Bool) (kids : List Node) → list_all (λ (b : Bool). b) (map f kids) ≡ list_all f kids
+pub list_all-map : (f : Node → Bool) (kids : List Node) → list_all (λ (b : Bool). b) (map f kids) ≡ list_all f kids
 list_all-map f [] = refl
 list_all-map f (k ∷ ks) = ap (λ b. f k && b) (list_all-map f ks)
 
 -- as many images as items
-length-images : (f : Node → Bool) (ks : List Node) → length (map f ks) ≡ length ks
+pub length-images : (f : Node → Bool) (ks : List Node) → length (map f ks) ≡ length ks
 length-images f [] = refl
 length-images f (k ∷ ks) = let e = length-images f ks in omega (arith, e)
 
@@ -65,7 +65,7 @@ unfolding is_branching
 branching_Leaf x = ap is_branching (sym (rolls-Leaf x)) ∙ fold-roll-Node Bool branching_step (Node-F.Leaf x)
 
 -- a Q-node is so where it has two kids at least and they are
-branching_Q : (var : ℕ) (ks : List Node)
+pub branching_Q : (var : ℕ) (ks : List Node)
     → is_branching (Q var ks) ≡ (nat_lt 1 (length ks) && list_all is_branching ks)
 unfolding is_branching
 branching_Q var ks = ap is_branching (sym (rolls-Q var ks)) ∙ fold-roll-Node Bool branching_step (Node-F.Q var ks)
@@ -120,7 +120,7 @@ row_below vars var (x ∷ y ∷ xs) lt = below_Q vars var (map Leaf (x ∷ y ∷
     (leaves_below vars (x ∷ y ∷ xs))
 
 -- a row of leaves reads itself
-leaves_read : (may : ℕ → Bool → Bool) (xs : List ℕ) → ReadsAll may (map Leaf xs) xs
+pub leaves_read : (may : ℕ → Bool → Bool) (xs : List ℕ) → ReadsAll may (map Leaf xs) xs
 leaves_read may [] = none
 leaves_read may (x ∷ xs) = more (Leaf x) (map Leaf xs) (x ∷ []) xs (leaf x) (leaves_read may xs)
 
@@ -134,14 +134,14 @@ leaf_reads_at may _ _ (forward v ks xs m all) x e = absurd (Leaf_Q x v ks (sym e
 leaf_reads_at may _ _ (backward v ks xs m all) x e = absurd (Leaf_Q x v ks (sym e))
 
 -- a row of leaves reads itself alone
-leaves_read_only : (may : ℕ → Bool → Bool) (xs word : List ℕ) → ReadsAll may (map Leaf xs) word → word ≡ xs
+pub leaves_read_only : (may : ℕ → Bool → Bool) (xs word : List ℕ) → ReadsAll may (map Leaf xs) word → word ≡ xs
 leaves_read_only may [] word all = ReadsAll_nil may word all
 leaves_read_only may (x ∷ xs) word all =
     let w = ReadsAll_cons may (Leaf x) (map Leaf xs) word all in
     w.2 ∙ ap₂ (λ us vs. us ++ vs) (leaf_reads_at may (Leaf x) w.0 w.3 x refl) (leaves_read_only may xs w.1 w.4)
 
 -- leaves in reverse
-leaves-reverse : (xs : List ℕ) → map Leaf (reverse xs) ≡ reverse (map Leaf xs)
+pub leaves-reverse : (xs : List ℕ) → map Leaf (reverse xs) ≡ reverse (map Leaf xs)
 leaves-reverse [] = refl
 leaves-reverse (x ∷ xs) =
     ap (map Leaf) (reverse-append (x ∷ []) xs) ∙ images-append (reverse xs) (x ∷ [])

@@ -252,7 +252,7 @@ module _ (block : ListedGraph) (r : ℕ)
 
   -- a step without a given list gives the tree of the next stage
   pub free_step-IsStageTree : (new : PQTree) (part : Part) → psi x ≡ None → IsWellFormed new
-      → IsFreeStep ins outs old new part → IsStageTree block r (x ∷ taken) new
+      → IsFreeStep x ins outs old new part → IsStageTree block r (x ∷ taken) new
   free_step-IsStageTree new part none formed s = record {
     formed = formed;
     root = s.replaced.root ∙ s.reduced.root ∙ stage.root;

@@ -78,12 +78,13 @@ module _ (old mid : PQTree) (mid_root : mid.root ≡ old.root)
 -- the steps of a vertex without a given list
 pub free-IsFreeStep : (ins outs : List ℕ) (owner : ℕ) (old mid new : PQTree) (node : Node) (part : Part)
     → node ≡ star_body owner outs → Distinct outs → IsReduced ins old mid → IsReplaced ins node mid new part
-    → IsFreeStep ins outs old new part
+    → IsFreeStep owner ins outs old new part
 free-IsFreeStep ins outs owner old mid new node part is once reduced replaced = record {
   mid = mid;
   node = node;
   reduced = reduced;
   replaced = replaced;
+  node_is = is;
   reads = subst (λ n. ReadsAnyOrder n outs) (sym is) (star-ReadsAnyOrder owner outs once);
   node_leaves = λ k. (
     subst (Has k) (ap leaves is ∙ star_leaves owner outs),
@@ -196,6 +197,7 @@ listed-IsListedStep x list ins outs first second row old mid new node part split
   split = split;
   forced = forced;
   replaced = replaced;
+  node_is = body;
   reads = subst (λ n. ReadsRow n (reverse second) x mid.vars) (sym body) (row-ReadsRow x mid.vars (reverse second) lt);
   node_leaves = λ k. (
     λ h. (split.second_is.items k).0 (reverse-Has k second (subst (Has k) (ap leaves body ∙ row_leaves x (reverse second)) h)),

@@ -1,4 +1,5 @@
--- From a pair of a tree that is built back to lists: frame by frame the run of a vertex's edges to vertices behind it is
+-- From a pair of a tree that is built back to lists: frame by frame the run of a vertex's edges to vertices behind it
+-- is
 -- exchanged for a reading of its part, and the two are its list; the pair is one of these lists.
 use Rattle.std.proofs.Common.{◌≡◌, ◌≢◌, ℕ, suc, ◌+◌, ◌-◌, ◌<◌, Bool, false, List, [], ◌∷◌, ◌++◌, length, map, slice_index, take, reverse, sym, refl, ap, ap₂, ◌∙◌, subst, inl, ⊎_elim, arith}
 use Rattle.std.proofs.lemmas.List.{reverse-reverse, get_or-take}
@@ -65,22 +66,21 @@ module _ (block : ListedGraph) (well : IsListedBlock block) (order later : List 
       × IsUnwound frames built.0 built.1 (take built.0.vars bits) (front ++ (inc ++ behind))
 
   -- no pair of the tree of a stage has an edge twice
-  pair-Distinct : (taken : List ℕ) (tree : PQTree) → IsStageTree block r taken tree → (word : List ℕ) (bits : List Bool)
+  pub pair-Distinct : (taken : List ℕ) (tree : PQTree) → IsStageTree block r taken tree
+      → (word : List ℕ) (bits : List Bool)
       → IsPair tree (tree.root ∷ word) bits → Distinct (tree.root ∷ word)
   pair-Distinct taken tree stage word bits p =
       Admits-Distinct tree (tree.root ∷ word) stage.formed (IsPair-Admits tree (tree.root ∷ word) bits p)
 
-  -- a frame for a pair: the pair of the tree before, whose word has the reading of the part, which arranges the edges to
-  -- what is taken, and the list of the vertex is kept
-  frame_back : (frame : Frame) (frames : List Frame) (tree : PQTree)
+  -- a frame for a pair: the step that it tells of is taken back
+  pub frame-IsTakenBack : (frame : Frame) (frames : List Frame) (tree : PQTree)
       (built : IsBuilt block order later root (frame ∷ frames) tree) (bits : List Bool) (word : List ℕ)
       → suc (suc (length frames)) < length order → IsPair tree (tree.root ∷ word) bits
-      → (u : IsUnwound (frame ∷ frames) tree built bits word)
-      → IsPair built.0 (built.0.root ∷ (u.0 ++ (u.1 ++ u.3))) (take built.0.vars bits)
-      × IsArrangementOf u.1 (edges_in block.graph.ends later (slice_index order (suc (length frames))))
-      × KeepsDirection (list_given block.lists (slice_index order (suc (length frames))))
-      (bit_of bits (slice_index order (suc (length frames)))) (lists (slice_index order (suc (length frames))))
-  frame_back frame frames tree built bits word lt p u =
+      → IsTakenBack (list_given block.lists (slice_index order (suc (length frames))))
+      (slice_index order (suc (length frames)))
+      (edges_in block.graph.ends later (slice_index order (suc (length frames))))
+      (edges_out block.graph.ends later (slice_index order (suc (length frames)))) built.0 frame.part bits word
+  frame-IsTakenBack frame frames tree built bits word lt p =
       let j : ℕ = length frames in
       let x : ℕ = slice_index order (suc j) in
       let old : PQTree = built.0 in
@@ -93,31 +93,71 @@ module _ (block : ListedGraph) (well : IsListedBlock block) (order later : List 
       let one = some_in block well order later root ord j less in
       let other = some_out block well order later root ord j less in
       let root_out : Has old.root ins → ⊥ =
-      λ h. has_lacks old.root _ ((place-IsLeafSet block well order later root ord j less old stage).leaves_of old.root h)
+      λ h. has_lacks old.root _ ((place-IsLeafSet block well order later root ord j less old stage).leaves_of old.root
+      h)
       stage.formed.distinct.0
       in
       let root_apart : Has old.root outs → ⊥ =
       λ h. (place-IsFreshSet block well order later root ord j less old stage).fresh old.root h (inl refl)
       in
-      let back : IsTakenBack (list_given block.lists x) x ins outs old frame.part bits word =
       step-IsTakenBack x ins outs old tree frame.part one.0 other.0 one.1 other.1 root_out root_apart
       (pair-Distinct (taken_at order (suc j)) old stage) word bits p (list_given block.lists x)
-      (λ list is. (given_arranges block well order later root ord x (place-within block well order later root ord j less)
+      (λ list is. (given_arranges block well order later root ord x (place-within block well order later root ord j
+      less)
       list is).distinct) built.2.step
-      in
-      let same = same_run back.front back.run back.behind u.0 u.2 u.3 other.0
+
+  -- where a run of the word arranges the vertex's edges to vertices behind it, each reading of the part in its place
+  -- gives a pair of the tree before and arranges the edges to what is taken, and the two are a list that is kept
+  pub run_back : (frame : Frame) (frames : List Frame) (tree : PQTree)
+      (built : IsBuilt block order later root (frame ∷ frames) tree) (bits : List Bool) (word : List ℕ)
+      → suc (suc (length frames)) < length order → IsPair tree (tree.root ∷ word) bits
+      → (front inc run behind : List ℕ) → word ≡ front ++ (run ++ behind)
+      → IsArrangementOf run (edges_out block.graph.ends later (slice_index order (suc (length frames))))
+      → ReadsPart (given bits) frame.part inc
+      → IsPair built.0 (built.0.root ∷ (front ++ (inc ++ behind))) (take built.0.vars bits)
+      × IsArrangementOf inc (edges_in block.graph.ends later (slice_index order (suc (length frames))))
+      × KeepsDirection (list_given block.lists (slice_index order (suc (length frames))))
+      (bit_of bits (slice_index order (suc (length frames)))) (inc ++ reverse run)
+  run_back frame frames tree built bits word lt p front inc run behind word_is run_is reads =
+      let j : ℕ = length frames in
+      let x : ℕ = slice_index order (suc j) in
+      let old : PQTree = built.0 in
+      let other = some_out block well order later root ord j (let less : suc j + 1 < length order = omega (arith, lt)
+      in less) in
+      let back = frame-IsTakenBack frame frames tree built bits word lt p in
+      let same = same_run back.front back.run back.behind front run behind other.0
       (subst Distinct back.word_is (pair-Distinct (taken_at order (suc (suc j))) tree built.3 word bits p).1)
-      (sym back.word_is ∙ u.4) ((back.run_is.items other.0).1 other.1)
-      (λ d. ((λ h. (u.5.items d).1 ((back.run_is.items d).0 h)), (λ h. (back.run_is.items d).1 ((u.5.items d).0 h))))
-      in
-      let old_pair : IsPair old (old.root ∷ (u.0 ++ (u.1 ++ u.3))) (take old.vars bits) =
-      subst (λ ws. IsPair old (old.root ∷ ws) (take old.vars bits))
-      (ap₂ (λ us vs. us ++ (u.1 ++ vs)) same.0 same.2) (back.pair u.1 u.6)
+      (sym back.word_is ∙ word_is) ((back.run_is.items other.0).1 other.1)
+      (λ d. (
+        (λ h. (run_is.items d).1 ((back.run_is.items d).0 h)),
+        (λ h. (back.run_is.items d).1 ((run_is.items d).0
+            h)),
+      ))
       in (
-        old_pair,
-        back.arranges u.1 u.6,
-        subst (KeepsDirection (list_given block.lists x) (bit_of bits x))
-            (ap (λ us. u.1 ++ reverse us) same.1 ∙ sym u.7) (back.list_kept u.1 u.6),
+        subst (λ ws. IsPair old (old.root ∷ ws) (take old.vars bits))
+            (ap₂ (λ us vs. us ++ (inc ++ vs)) same.0 same.2) (back.pair inc reads),
+        back.arranges inc reads,
+        subst (KeepsDirection (list_given block.lists x) (bit_of bits x)) (ap (λ us. inc ++ reverse us) same.1)
+            (back.list_kept inc reads),
+      )
+
+  -- a frame for a pair: the pair of the tree before, whose word has the reading of the part, which arranges the edges
+  -- to
+  -- what is taken, and the list of the vertex is kept
+  frame_back : (frame : Frame) (frames : List Frame) (tree : PQTree)
+      (built : IsBuilt block order later root (frame ∷ frames) tree) (bits : List Bool) (word : List ℕ)
+      → suc (suc (length frames)) < length order → IsPair tree (tree.root ∷ word) bits
+      → (u : IsUnwound (frame ∷ frames) tree built bits word)
+      → IsPair built.0 (built.0.root ∷ (u.0 ++ (u.1 ++ u.3))) (take built.0.vars bits)
+      × IsArrangementOf u.1 (edges_in block.graph.ends later (slice_index order (suc (length frames))))
+      × KeepsDirection (list_given block.lists (slice_index order (suc (length frames))))
+      (bit_of bits (slice_index order (suc (length frames)))) (lists (slice_index order (suc (length frames))))
+  frame_back frame frames tree built bits word lt p u =
+      let w = run_back frame frames tree built bits word lt p u.0 u.1 u.2 u.3 u.4 u.5 u.6 in (
+        w.0,
+        w.1,
+        subst (KeepsDirection (list_given block.lists (slice_index order (suc (length frames))))
+            (bit_of bits (slice_index order (suc (length frames))))) (sym u.7) w.2,
       )
 
   -- the word of the pair is an order of the stage in which each vertex has its list
@@ -130,7 +170,7 @@ module _ (block : ListedGraph) (well : IsListedBlock block) (order later : List 
       let taken : taken_at order 1 ≡ slice_index order 0 ∷ [] = first_taken block well order later root ord in
       let q : IsStagePair at e (list_given block.lists) r (slice_index order 0 ∷ []) word (bit_of bits) =
       subst (λ us. IsStagePair at e (list_given block.lists) r us word (bit_of bits)) taken
-      ((built.pairs word (bit_of bits)).0 (bits, p, λ v less. refl))
+      ((built.0.pairs word (bit_of bits)).0 (bits, p, λ v less. refl))
       in
       subst (λ us. IsStagePair at e (all_given lists) r us word forward) (sym taken)
       (unwound-first at e r lists forward (λ v. refl) (no_loops block well order later root ord) (slice_index order 0)
@@ -178,7 +218,7 @@ module _ (block : ListedGraph) (well : IsListedBlock block) (order later : List 
       let taken : taken_at order 1 ≡ slice_index order 0 ∷ [] = first_taken block well order later root ord in
       let q : IsStagePair at e (list_given block.lists) r (slice_index order 0 ∷ []) word (bit_of bits) =
       subst (λ us. IsStagePair at e (list_given block.lists) r us word (bit_of bits)) taken
-      ((built.pairs word (bit_of bits)).0 (bits, p, λ w below. refl))
+      ((built.0.pairs word (bit_of bits)).0 (bits, p, λ w below. refl))
       in
       let kept : KeepsDirection (list_given block.lists (slice_index order 0)) (bit_of bits (slice_index order 0))
       (lists (slice_index order 0)) =

@@ -138,7 +138,7 @@ module _ (x : ℕ) (ins outs : List ℕ) (old new : PQTree) (part : Part) (i o :
   )
 
   -- without a given list
-  free_taken_back : IsFreeStep ins outs old new part → IsTakenBack None x ins outs old part bits word
+  free_taken_back : IsFreeStep x ins outs old new part → IsTakenBack None x ins outs old part bits word
   free_taken_back s =
       let w : IsReadBack ins s.node s.mid new part s.replaced i one (λ h. in_out (subst (λ k. Has k ins) s.reduced.root h))
       mid_words outs_read word bits p =

@@ -6,6 +6,9 @@ pub mod ListedBlocks
 pub mod TreePairs
 pub mod Pairs
 pub mod Embeddings
+pub mod Unwound
+pub mod Bonds
+pub mod EveryOrder
 -- what functions inside promise each other
 pub mod Steps
 pub mod Stages
@@ -13,5 +16,6 @@ pub mod Sweeps
 pub mod Splits
 pub mod VertexOrders
 pub mod BuiltTrees
+pub mod OwnedTrees
 pub mod Cuts
 pub mod TreeSteps

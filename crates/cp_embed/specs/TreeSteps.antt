@@ -7,7 +7,7 @@ use Rattle.cp_pq.specs.declared.node.Node.TheVariants.{Leaf, Q}
 use Rattle.cp_pq.specs.declared.part.Part.{Part}
 use Rattle.cp_pq.specs.Bits.{bit_of}
 use Rattle.cp_pq.specs.Nodes.{leaves}
-use Rattle.cp_pq.specs.Promises.{IsReduced, IsForced, IsReplaced, IsNeverConsecutive, IsNeverInRow}
+use Rattle.cp_pq.specs.Promises.{IsReduced, IsForced, IsReplaced, IsNeverConsecutive, IsNeverInRow, star_body}
 use Rattle.cp_pq.specs.Readings.{Reads, given}
 use Rattle.cp_pq.specs.Trees.{PQTree, IsWellFormed}
 use Rattle.cp_embed.specs.Arrangements.{IsArrangementOf}
@@ -33,13 +33,14 @@ pub record ReadsRow (node : Node) (row : List ℕ) (var vars : ℕ) : Type 0 whe
   pub only : (bits : List Bool) (word : List ℕ) → Reads (given bits) node word → word ≡ directed (bit_of bits var) row
   pub all : (bits : List Bool) → length bits ≡ vars → Reads (given bits) node (directed (bit_of bits var) row)
 
--- a vertex without a given list is taken: the tree is reduced by its edges to the vertices before, and a node that reads
+-- a vertex x without a given list is taken: the tree is reduced by its edges to the vertices before, and a node that reads
 -- its others in any order stands in their place
-pub record IsFreeStep (ins outs : List ℕ) (old new : PQTree) (part : Part) : Type 0 where
+pub record IsFreeStep (x : ℕ) (ins outs : List ℕ) (old new : PQTree) (part : Part) : Type 0 where
   pub mid : PQTree
   pub node : Node
   pub reduced : IsReduced ins old mid
   pub replaced : IsReplaced ins node mid new part
+  pub node_is : node ≡ star_body x outs
   pub reads : ReadsAnyOrder node outs
   pub node_leaves : (k : ℕ) → Has k (leaves node) ↔ Has k outs
 
@@ -53,12 +54,13 @@ pub record IsListedStep (x : ℕ) (list ins outs : List ℕ) (old new : PQTree) 
   pub split : IsSplit list ins outs first second
   pub forced : IsForced first x old mid
   pub replaced : IsReplaced ins node mid new part
+  pub node_is : node ≡ row_body x (reverse second)
   pub reads : ReadsRow node (reverse second) x mid.vars
   pub node_leaves : (k : ℕ) → Has k (leaves node) ↔ Has k outs
 
 -- x is taken, by what is given for it
 abbrev pub IsTreeStep : Option (List ℕ) → ℕ → List ℕ → List ℕ → PQTree → PQTree → Part → Type 0
-IsTreeStep None x ins outs old new part = IsFreeStep ins outs old new part
+IsTreeStep None x ins outs old new part = IsFreeStep x ins outs old new part
 IsTreeStep (Some list) x ins outs old new part = IsListedStep x list ins outs old new part
 
 -- x cannot be taken: no order of the tree's shape has its edges to the vertices before consecutive, as its given list

@@ -113,7 +113,7 @@ pub(crate) struct Cut {
 }
 
 // The items of the one and then those of the other.
-fn joined(alloc: Global, first: &[usize], second: &[usize]) -> Result<Vec<usize>, Memory>
+pub(crate) fn joined(alloc: Global, first: &[usize], second: &[usize]) -> Result<Vec<usize>, Memory>
     ensures { IfOk result (λ all. all.items ≡ first.now ++ second.now) }
 {
     let mut all = Vec::from_slice(alloc, first)?;

@@ -1,8 +1,12 @@
 // The order tree of a vertex of a block.
-ghost use Rattle.std.specs.Prelude.{◌≡◌, ◌<◌, ℕ, IfOk, IfErr, MatchOption};
+ghost use Rattle.std.specs.Prelude.{◌≡◌, ◌<◌, ◌≤◌, ℕ, length, IfOk, IfErr, MatchOption};
+ghost use Rattle.cp_conn.specs.Bonds.{IsBond};
 ghost use Rattle.cp_force.specs.Owners.{IsSoleP};
+ghost use Rattle.cp_pq.specs.Nodes.{leaves};
 ghost use Rattle.cp_pq.specs.Trees.{IsPair, IsWellFormed};
+ghost use Rattle.cp_embed.specs.Bonds.{as_named};
 ghost use Rattle.cp_embed.specs.Embeddings.{HasTwoEdges, IsEmbeddingTree, IsNeverEmbedded, HasSomePair};
+ghost use Rattle.cp_embed.specs.EveryOrder.{HasEveryOrder};
 ghost use Rattle.cp_embed.specs.declared.fault.EmbedFault.TheVariants.{NotPlanar};
 
 use crate::block::QBlock;
@@ -48,10 +52,7 @@ fn has_pair<T: OrderTree>(alloc: Global, tree: &T) -> Result<(), EmbedFault>
     ensures none { IfErr result (λ fault. fault ≡ NotPlanar → HasSomePair (T.tree tree.now) → ⊥) }
 {
     match solve(alloc, tree.vars(), tree.equations()) {
-        Ok(bits) => {
-            let _order = tree.order_by(alloc, bits.as_slice())?;
-            Ok(())
-        }
+        Ok(_) => Ok(()),
         Err(ParityFault::Conflict { .. }) => Err(EmbedFault::NotPlanar),
         Err(ParityFault::Memory) => Err(EmbedFault::Memory),
     }
@@ -94,6 +95,24 @@ pub fn embed<T: OrderTree + Drop>(
 }
 
 impl<T: OrderTree> Embedded<T> {
+    ghost use Rattle.cp_embed.specs.BuiltTrees.{IsUnwindable};
+
+    // The vertex that was taken first, and the frames of the others but the last, in their order.
+    pub(crate) fn taken(&self) -> (usize, &[Frame])
+        ensures { IsUnwindable self.now.block self.now.vertex result.0 result.1.now self.now.tree }
+    {
+        (self.first, self.frames.items())
+    }
+
+    // The block and the vertex.
+    pub(crate) fn block(&self) -> (&QBlock, usize)
+        ensures block { result.0.now ≡ self.now.block }
+        ensures vertex { result.1 ≡ self.now.vertex }
+        ensures exact { IsEmbeddingTree self.now.block self.now.vertex self.now.tree }
+    {
+        (&self.block, self.vertex)
+    }
+
     /// The tree. It takes no memory.
     pub fn tree(&self) -> &T
         ensures value { T.tree result.now ≡ self.now.tree }
@@ -102,10 +121,15 @@ impl<T: OrderTree> Embedded<T> {
         &self.tree
     }
 
-    /// The owner of the tree's body, exactly where the body is one P-node whose kids are all leaves. It takes no memory.
+    /// The other pole of a bond of the block (Bläsius, Rutter 2016): the owner of the tree's body, exactly where the body
+    /// is one P-node whose kids are all leaves. Where the vertex has four edges at least, that is exactly where each
+    /// cyclic order of its edges is one of the tree. It takes no memory.
     pub fn pole(&self) -> Option<usize>
-        ensures { MatchOption result ((owner : ℕ) → IsSoleP self.now.tree owner → ⊥) (IsSoleP self.now.tree) }
+        ensures owner { MatchOption result ((owner : ℕ) → IsSoleP self.now.tree owner → ⊥) (IsSoleP self.now.tree) }
+        ensures every_order { MatchOption result (3 ≤ length (leaves self.now.tree.body)
+            → HasEveryOrder self.now.tree → ⊥) (λ owner. HasEveryOrder self.now.tree) }
+        ensures bond { MatchOption result (Unit {0}) (IsBond (as_named self.now.block.graph) self.now.vertex) }
     {
-        self.tree().sole_owner()
+        self.tree.sole_owner()
     }
 }

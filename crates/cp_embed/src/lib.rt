@@ -9,8 +9,10 @@ mod fault;
 mod first_tree;
 mod nodes;
 mod taking;
+mod taking_back;
 mod vertex_order;
 
 pub use block::{PsiList, QBlock};
 pub use embedding::{Embedded, embed};
 pub use fault::EmbedFault;
+pub use taking_back::unwind;

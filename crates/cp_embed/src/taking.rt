@@ -64,7 +64,7 @@ fn take_free<T: OrderTree + Drop>(
 ) -> Result<(T, Part), EmbedFault>
     requires leaf_set { IsLeafSet ins.now (T.tree old) }
     requires fresh { IsFreshSet outs.now (T.tree old) }
-    ensures step { IfOk result (λ r. IsFreeStep ins.now outs.now (T.tree old) (T.tree r.0) r.1) }
+    ensures step { IfOk result (λ r. IsFreeStep vertex ins.now outs.now (T.tree old) (T.tree r.0) r.1) }
     ensures formed { IfOk result (λ r. IsWellFormed (T.tree r.0)) }
     ensures refused { IfErr result (λ fault. fault ≡ NotPlanar → IsNeverConsecutive ins.now (T.tree old)) }
 {

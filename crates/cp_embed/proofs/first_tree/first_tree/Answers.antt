@@ -10,6 +10,7 @@ use Rattle.cp_pq.specs.Trees.{PQTree}
 use Rattle.cp_embed.specs.ListedBlocks.{edges_at, list_given}
 use Rattle.cp_embed.proofs.FirstEdges.{rest-some}
 use Rattle.cp_embed.proofs.FirstOrders.{star-distinct, first_free, first_vars, row-distinct, row-leaves, row-some, first_listed, first_refused, root-listed}
+use Rattle.cp_embed.proofs.OwnedTrees.{star-HaveOwner, kept-HaveOwner}
 use Rattle.cp_embed.proofs.StageTrees.{order-long}
 use Rattle.cp_embed.proofs.first_tree.first_tree.Goals as goal
 
@@ -198,3 +199,23 @@ returns-clause-stage g c =
     c.in_ok-back.ensures) (g.T.OrderTree.tree c.in_ok-new.new)
     (subst (λ v. IsForced c.as_slice-2.result.now v (g.T.OrderTree.tree c.in_ok-star.star) (g.T.OrderTree.tree c.in_ok-new.new)) first_is
     c.in_ok-new.ensures.forced) c.in_ok-new.ensures.formed
+
+pub returns-in-None-clause-owner : goal.returns-in-None-clause-owner
+returns-in-None-clause-owner g c =
+    star-HaveOwner c.args.order.now.root c.vertices.result c.index-first.result.now
+    (slice_index c.args.order.now.vertices.items 0) c.as_slice.result.now (g.T.OrderTree.tree c.in_ok-star.star)
+    (vertex_is c.args.order.now.vertices.items 0 c.index-first.result.now
+    (omega (arith, order-long c.args.block.now c.edges_at.ensures.block c.args.order.now.vertices.items c.args.order.now.later.items c.args.order.now.root c.requires.order))
+    c.index-first.ensures)
+    c.in_ok-star.ensures.star
+
+pub returns-clause-owner : goal.returns-clause-owner
+returns-clause-owner g c =
+    kept-HaveOwner (slice_index c.args.order.now.vertices.items 0) (g.T.OrderTree.tree c.in_ok-star.star)
+    (g.T.OrderTree.tree c.in_ok-new.new) c.in_ok-new.ensures.forced.owners
+    (star-HaveOwner c.args.order.now.root c.vertices.result c.index-first.result.now
+    (slice_index c.args.order.now.vertices.items 0) c.as_slice.result.now (g.T.OrderTree.tree c.in_ok-star.star)
+    (vertex_is c.args.order.now.vertices.items 0 c.index-first.result.now
+    (omega (arith, order-long c.args.block.now c.edges_at.ensures.block c.args.order.now.vertices.items c.args.order.now.later.items c.args.order.now.root c.requires.order))
+    c.index-first.ensures)
+    c.in_ok-star.ensures.star)

@@ -95,11 +95,13 @@ some_refused given list us vs ins outs old is same others refused =
     (subst (λ ws. IsRefusedStep (Some list) us ws old) others refused))
 
 -- a step without a given list
-none_step : (given : Option (List ℕ)) (x : ℕ) (us vs ins outs : List ℕ) (old new : PQTree) (part : Part) → given ≡ None
-    → us ≡ ins → vs ≡ outs → IsFreeStep us vs old new part → IsTreeStep given x ins outs old new part
-none_step given x us vs ins outs old new part is same others step =
-    subst (λ l. IsTreeStep l x ins outs old new part) (sym is) (subst (λ ws. IsFreeStep ws outs old new part) same
-    (subst (λ ws. IsFreeStep us ws old new part) others step))
+none_step : (given : Option (List ℕ)) (v x : ℕ) (us vs ins outs : List ℕ) (old new : PQTree) (part : Part)
+    → given ≡ None → v ≡ x → us ≡ ins → vs ≡ outs → IsFreeStep v us vs old new part
+    → IsTreeStep given x ins outs old new part
+none_step given v x us vs ins outs old new part is v_is same others step =
+    subst (λ l. IsTreeStep l x ins outs old new part) (sym is) (subst (λ u. IsFreeStep u ins outs old new part) v_is
+    (subst (λ ws. IsFreeStep v ws outs old new part) same
+    (subst (λ ws. IsFreeStep v us ws old new part) others step)))
 
 -- and one with a given list
 some_step : (given : Option (List ℕ)) (list : List ℕ) (v x : ℕ) (us vs ins outs : List ℕ) (old new : PQTree)
@@ -302,13 +304,14 @@ returns-clause-step g c =
           (edges_in c.args.block.now.graph.ends c.args.order.now.later.items (slice_index c.args.order.now.vertices.items c.args.place))
           (edges_out c.args.block.now.graph.ends c.args.order.now.later.items (slice_index c.args.order.now.vertices.items c.args.place)) (g.T.OrderTree.tree c.args.old)
           (g.T.OrderTree.tree pair.0) pair.1) (sym w.new-is)
-          (none_step (list_given c.args.block.now.lists (slice_index c.args.order.now.vertices.items c.args.place)) (slice_index c.args.order.now.vertices.items c.args.place)
+          (none_step (list_given c.args.block.now.lists (slice_index c.args.order.now.vertices.items c.args.place)) c.index-vertex.result.now
+          (slice_index c.args.order.now.vertices.items c.args.place)
           w.as_slice-in-None.result.now w.as_slice-in-None-2.result.now
           (edges_in c.args.block.now.graph.ends c.args.order.now.later.items (slice_index c.args.order.now.vertices.items c.args.place))
           (edges_out c.args.block.now.graph.ends c.args.order.now.later.items (slice_index c.args.order.now.vertices.items c.args.place)) (g.T.OrderTree.tree c.args.old)
           (g.T.OrderTree.tree w.in_ok-take_free-in-None.new) w.in_ok-take_free-in-None.part
           (subst (λ v. list_given c.args.block.now.lists v ≡ None) v_is w.in-None.ensures)
-          (w.as_slice-in-None.ensures.value ∙ ins_is) (w.as_slice-in-None-2.ensures.value ∙ outs_is)
+          v_is (w.as_slice-in-None.ensures.value ∙ ins_is) (w.as_slice-in-None-2.ensures.value ∙ outs_is)
           w.in_ok-take_free-in-None.ensures.step)
       | in-Some+in_ok-new-in-Some w ↦
           subst (λ pair. IsTreeStep (list_given c.args.block.now.lists (slice_index c.args.order.now.vertices.items c.args.place)) (slice_index c.args.order.now.vertices.items c.args.place)
