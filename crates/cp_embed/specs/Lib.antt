@@ -6,6 +6,7 @@ pub mod ListedBlocks
 pub mod TreePairs
 pub mod Pairs
 pub mod Embeddings
+pub mod BoardBlocks
 -- what functions inside promise each other
 pub mod Steps
 pub mod Stages
@@ -15,3 +16,4 @@ pub mod VertexOrders
 pub mod BuiltTrees
 pub mod Cuts
 pub mod TreeSteps
+pub mod BoardCuts
