@@ -1,3 +1,7 @@
+-- Facts about the definitions, for callers.
+pub mod BoardBlocks
+pub mod NumberedBlocks
+-- What the functions rest on.
 mod Lists
 mod EdgeRows
 mod RowNodes
@@ -49,3 +53,5 @@ mod ReplacedPairs
 mod TreeSteps
 mod StarPairs
 mod Triangle
+mod BoardBlockParts
+mod BoardBlockCuts

@@ -9,6 +9,7 @@ pub mod Embeddings
 pub mod Unwound
 pub mod Bonds
 pub mod EveryOrder
+pub mod BoardBlocks
 -- what functions inside promise each other
 pub mod Steps
 pub mod Stages
@@ -19,3 +20,4 @@ pub mod BuiltTrees
 pub mod OwnedTrees
 pub mod Cuts
 pub mod TreeSteps
+pub mod BoardCuts

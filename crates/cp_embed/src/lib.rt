@@ -3,6 +3,7 @@
 #![tactic(auto)]
 
 mod block;
+mod board_blocks;
 mod edge_lists;
 mod embedding;
 mod fault;
@@ -13,6 +14,7 @@ mod taking_back;
 mod vertex_order;
 
 pub use block::{PsiList, QBlock};
+pub use board_blocks::{EdgeBlock, block_of, cut_out, rank_among};
 pub use embedding::{Embedded, embed};
 pub use fault::EmbedFault;
 pub use taking_back::unwind;
