@@ -20,6 +20,8 @@ mod tests_merge;
 #[cfg(test)]
 mod tests_poles;
 #[cfg(test)]
+mod tests_sides;
+#[cfg(test)]
 mod tests_star;
 #[cfg(test)]
 mod tests_systems;

@@ -11,7 +11,6 @@ mod Ranges
 mod GatheredLists
 mod TabledLists
 mod RisingLists
-mod Permutations
 mod OpenedBorders
 mod TurnedMaps
 mod LoopLists

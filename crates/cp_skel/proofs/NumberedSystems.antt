@@ -26,7 +26,7 @@ use Rattle.cp_maps.proofs.ListFacts.{Below-from, below_item}
 use Rattle.cp_maps.proofs.MapLists.{IsMapOf-by}
 use Rattle.cp_maps.proofs.Names.{named_lists-OneGenus}
 use Rattle.cp_maplaw.proofs.Systems.{system_flat}
-use Rattle.cp_skel.proofs.Permutations.{IsPermutation-Distinct, IsPermutation-Has, IsPermutation-from}
+use Rattle.cp_lists.proofs.PermutedLists.{Distinct-IsPermutation, Has-IsPermutation, IsPermutation-from}
 use Rattle.cp_skel.proofs.Ranges.{Distinct-range, Has-range, range-Has}
 use Rattle.cp_skel.proofs.SystemLists.{IsMapOf-vertices}
 use Rattle.cp_lists.specs.Rows.{flat}
@@ -233,12 +233,12 @@ arranged-AreEdgeLists n m ends s all =
     λ v lt. All-contains (λ x. ArrangesEdges (numbers n m ends) x (s x)) (range_with_len 0 n) v all
     ((Has-Contains v (range_with_len 0 n)).0 (Has-range v 0 n (omega arith) (omega (arith, lt)))) in
     record {
-      distinct = λ v lt. IsPermutation-Distinct (edges_at (numbers n m ends) v) (s v) (of v lt)
+      distinct = λ v lt. Distinct-IsPermutation (edges_at (numbers n m ends) v) (s v) (of v lt)
           (filter-Distinct (ends_at (numbers n m ends) v) (range_with_len 0 m) (Distinct-range 0 m));
       item = λ v e lt h. edges_at-Has n m ends v e
-          (IsPermutation-Has (s v) (edges_at (numbers n m ends) v) e
+          (Has-IsPermutation e (s v) (edges_at (numbers n m ends) v)
           (IsPermutation-sym (edges_at (numbers n m ends) v) (s v) (of v lt)) h);
-      own = λ v e lt less end. IsPermutation-Has (edges_at (numbers n m ends) v) (s v) e (of v lt)
+      own = λ v e lt less end. Has-IsPermutation e (edges_at (numbers n m ends) v) (s v) (of v lt)
           (Has-edges_at n m ends v e less end);
     }
 

@@ -28,7 +28,7 @@ use Rattle.cp_skel.proofs.DartVertices.{StandsAt, StandsAt-kept, in_dart-StandsA
 use Rattle.cp_skel.proofs.KeptDarts.{segment-differ}
 use Rattle.cp_skel.proofs.KeptSegments.{kept-segment, piece-Has, piece_kept, piece_loop, pieces-Has}
 use Rattle.cp_skel.proofs.NumberedSystems.{Has-edges_at, edges_at-Has}
-use Rattle.cp_skel.proofs.Permutations.{IsPermutation-from}
+use Rattle.cp_lists.proofs.PermutedLists.{IsPermutation-from}
 use Rattle.cp_skel.proofs.Ranges.{Distinct-range, Has-range, range-Has}
 use Rattle.cp_skel.proofs.RisingLists.{Rising, Rising-append, Rising-filter, Rising-map, Rising-range, rising_at, rising_same}
 use Rattle.cp_skel.proofs.SkeletonGraph.{edge_names-skeletons, find_named, graph-skeletons, vert_names-skeletons}
