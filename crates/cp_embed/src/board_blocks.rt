@@ -18,8 +18,8 @@ use std::alloc::Global;
 /// A block of a board.
 #[derive(Drop)]
 pub struct EdgeBlock {
-    /// The block. Vertex `i` is the one named `verts[i]`, and edge `j` the one named `edges[j]`. A Q-vertex has what its
-    /// list has of the edges of the block; a P-vertex has no list.
+    /// The block. Vertex `i` is the one named `verts[i]`, and edge `j` the one named `edges[j]`. A Q-vertex has what
+    /// its list has of the edges of the block; a P-vertex has no list.
     pub block: QBlock,
     /// The names of the vertices, rising.
     pub verts: Names,

@@ -1,16 +1,15 @@
 -- A rotation of an instance is flat exactly where each of its blocks is and no two blocks cross at a vertex.
-use Rattle.std.proofs.Common.{◌≡◌, ◌≢◌, ℕ, ◌+◌, ◌-◌, ◌*◌, ◌/◌, ◌%◌, ◌<◌, ◌≤◌, ◌↔◌, Bool, true, false, cond, eqb, List, length, map, filter, slice_index, sym, refl, ap, ◌∙◌, subst, inl, inr, ⊎_elim, arith}
+use Rattle.std.proofs.Common.{◌≡◌, ◌≢◌, ℕ, ◌+◌, ◌-◌, ◌*◌, ◌/◌, ◌%◌, ◌<◌, ◌↔◌, cond, eqb, List, length, map, filter, slice_index, sym, refl, ap, ◌∙◌, subst, ⊎_elim, arith}
 use Rattle.std.specs.List.{All, Contains}
 use Rattle.std.proofs.lemmas.Bool.{cases_eq, cond-false, cond-true, eq-eqb, eqb-true, ne_eqb, or_cases}
-use Rattle.std.proofs.lemmas.List.{length-map}
 use Rattle.std.proofs.lemmas.List.Elements.{All-contains}
 use Rattle.std.proofs.lemmas.List.Sorted.{Contains-permutation, IsPermutation-sym}
-use Rattle.cp_lists.specs.CyclicLists.{Distinct, Has}
+use Rattle.cp_lists.specs.CyclicLists.{Has}
 use Rattle.cp_lists.proofs.Counting.{IsCount-le}
 use Rattle.cp_lists.proofs.DistinctLists.{Has-Contains}
 use Rattle.cp_faces.specs.Twins.{twin}
 use Rattle.cp_conn.specs.Blocks.{AreInOneBlock}
-use Rattle.cp_conn.specs.NamedGraphs.{NamedGraph, InOneBlock, edges_at, ends_at, far, rank}
+use Rattle.cp_conn.specs.NamedGraphs.{NamedGraph, edges_at, far, rank}
 use Rattle.cp_conn.specs.Numbering.{AreNumbered}
 use Rattle.cp_conn.proofs.BlockSteps.{twin-edge}
 use Rattle.cp_conn.proofs.NamedGraphs.{edges_at-Contains, rank_at}
@@ -19,8 +18,8 @@ use Rattle.cp_maps.specs.Genus.{CanBeFlat, IsFlat}
 use Rattle.cp_maps.specs.Maps.{IsMapOf}
 use Rattle.cp_maplaw.specs.NamedDarts.{AreDartsOf, IsArrangedBy, dart_list}
 use Rattle.cp_maplaw.proofs.NamedBlocks.{named_blocks-IsFlat}
-use Rattle.cp_sync.specs.Numbering.{numbered, numbered_ends}
-use Rattle.cp_board.specs.Instances.{IsSynchronized, Synchronized, edge_names, graph, vert_names}
+use Rattle.cp_sync.specs.Numbering.{numbered}
+use Rattle.cp_board.specs.Instances.{IsSynchronized, Synchronized, graph, vert_names}
 use Rattle.cp_board.specs.Rotations.{ArrangesEdges, dart}
 use Rattle.cp_embed.proofs.BoardBlocks.{live_ends, pairs-HaveNoLoop, rising_distinct}
 use Rattle.cp_embed.proofs.NumberedBlocks.{number_of, one_number}

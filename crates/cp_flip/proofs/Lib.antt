@@ -3,3 +3,4 @@ mod TakingTurns
 mod CrossingLists
 -- genus by blocks for instances, on which solving them rests
 mod FlatBlocks
+mod UncrossedLists

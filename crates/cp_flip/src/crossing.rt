@@ -81,8 +81,8 @@ fn first_crossing_of<B: Board>(
     Ok(None)
 }
 
-/// The least Q-vertex at which two blocks cross: its list has edges of two blocks in turn. `None` where there is no such
-/// vertex. Quadratic in the number of edges of each Q-vertex, and linear in the rest, up to a logarithm.
+/// The least Q-vertex at which two blocks cross: its list has edges of two blocks in turn. `None` where there is none.
+/// Quadratic in the number of edges of each Q-vertex, and linear in the rest, up to a logarithm.
 pub fn first_crossing<B: Board>(alloc: Global, board: &B) -> Result<Option<usize>, Memory>
     ensures { IfOk result (λ found. MatchOption found (HasNoCrossing (B.instance board.now)) (IsFirstCrossing (B.instance board.now))) }
 {

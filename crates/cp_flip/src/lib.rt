@@ -6,3 +6,6 @@ mod crossing;
 mod turns;
 
 pub use crossing::first_crossing;
+
+#[cfg(test)]
+mod tests;

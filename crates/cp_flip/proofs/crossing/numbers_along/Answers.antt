@@ -1,5 +1,5 @@
 -- The place of an edge of the list is that of a number.
-use Rattle.std.proofs.Common.{◌<◌, ℕ, List, [], ◌∷◌, ◌++◌, length, map, slice_index, take, sym, ap, ◌∙◌, arith, rules}
+use Rattle.std.proofs.Common.{◌<◌, ℕ, [], ◌∷◌, ◌++◌, length, map, slice_index, take, sym, ap, ◌∙◌, arith, rules}
 use Rattle.std.proofs.lemmas.List.{map-append, take_more}
 use Rattle.cp_conn.specs.NamedGraphs.{rank}
 use Rattle.cp_conn.proofs.NamedGraphs.{rank_at}

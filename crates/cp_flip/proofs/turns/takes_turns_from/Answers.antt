@@ -1,5 +1,5 @@
 -- One place more is passed, or the number takes turns there.
-use Rattle.std.proofs.Common.{◌≡◌, ◌+◌, ◌<◌, ℕ, length, slice_index, sym, refl, subst, inl, inr, arith}
+use Rattle.std.proofs.Common.{◌+◌, ◌<◌, ℕ, length, slice_index, sym, refl, subst, inl, inr, arith}
 use Rattle.cp_flip.proofs.TakingTurns.{IsPassed, IsPassed-met, IsPassed-other, IsPassed-turns}
 use Rattle.cp_flip.proofs.turns.takes_turns_from.Goals as goal
 use Rattle.cp_flip.proofs.turns.takes_turns_from.Goals.{then-numbers-k+else-far-k, else-numbers-k+then-lasts-k, else-numbers-k+else-lasts-k}
