@@ -1,5 +1,5 @@
 -- Where the tree of a vertex is one P-node of leaves, the vertex and the owner are a bond.
-use Rattle.std.proofs.Common.{◌≡◌, ◌≢◌, ℕ, ◌+◌, ◌-◌, ◌*◌, ◌<◌, ◌⊎◌, ◌↔◌, Bool, true, Option, Some, None, List, [], ◌∷◌, suc, length, map, reverse, slice_index, slice_index_or, get_or, sym, refl, ap, ◌∙◌, subst, inl, inr, ⊎_elim, arith}
+use Rattle.std.proofs.Common.{◌≡◌, ◌≢◌, ℕ, ◌-◌, ◌*◌, ◌<◌, ◌⊎◌, ◌↔◌, true, Option, Some, None, List, ◌∷◌, suc, length, map, reverse, slice_index, slice_index_or, sym, refl, ap, ◌∙◌, subst, inl, inr, ⊎_elim, arith}
 use Rattle.std.specs.Prelude.{MatchOption}
 use Rattle.std.specs.List.{Contains, range_with_len}
 use Rattle.std.proofs.lemmas.Bool.{cases_eq}
@@ -12,7 +12,7 @@ use Rattle.cp_conn.specs.Blocks.{HaveNoLoop}
 use Rattle.cp_conn.specs.Bonds.{ConnectedWithout, IsBond}
 use Rattle.cp_conn.specs.CutVertex.{avoids, without_vertex}
 use Rattle.cp_conn.specs.Darts.{start}
-use Rattle.cp_conn.specs.NamedGraphs.{pairs, far, edges_at, ends_at}
+use Rattle.cp_conn.specs.NamedGraphs.{pairs, far, edges_at}
 use Rattle.cp_conn.proofs.Bonds.{ConnectedWithout-second}
 use Rattle.cp_conn.proofs.CutVertices.{kept_pair, kept_of, avoided, avoids_of}
 use Rattle.cp_conn.proofs.DartChains.{Joins-sym}
@@ -20,7 +20,6 @@ use Rattle.cp_conn.proofs.NamedGraphs.{pairs_have, pairs_from, edges_at-Contains
 use Rattle.cp_ears.specs.Bipolar.{IsOneBlock, HaveEdges}
 use Rattle.cp_ears.proofs.Biconnected.{biconnected_of}
 use Rattle.cp_faces.specs.Twins.{twin}
-use Rattle.cp_pq.specs.declared.node.Node.{Node}
 use Rattle.cp_pq.specs.declared.node.Node.TheVariants.{Leaf, P}
 use Rattle.cp_pq.specs.Nodes.{leaves, IsIn, itself}
 use Rattle.cp_pq.specs.Owners.{AreOnOneSide}
@@ -31,7 +30,7 @@ use Rattle.cp_embed.specs.declared.taking.Frame.{Frame}
 use Rattle.cp_embed.specs.Bonds.{as_named}
 use Rattle.cp_embed.specs.BuiltTrees.{IsUnwindable}
 use Rattle.cp_embed.specs.Directions.{edge_of}
-use Rattle.cp_embed.specs.ListedBlocks.{ListedGraph, IsListedBlock, touches, other_end}
+use Rattle.cp_embed.specs.ListedBlocks.{ListedGraph, IsListedBlock}
 use Rattle.cp_embed.specs.OwnedTrees.{HasOwners, AreLinkedBehind, Reaches, here as stays, over}
 use Rattle.cp_embed.specs.Sweeps.{LeadsInto}
 use Rattle.cp_embed.specs.TreeSteps.{IsStageTree}
@@ -39,7 +38,7 @@ use Rattle.cp_embed.specs.VertexOrders.{taken_at, last_of, dart_at}
 use Rattle.cp_embed.proofs.BipolarSweeps.{last_taken-Has}
 use Rattle.cp_embed.proofs.BuiltTrees.{built-stage}
 use Rattle.cp_embed.proofs.DartLists.{range-Has}
-use Rattle.cp_embed.proofs.EdgeDarts.{dart_at-start, other_end-is}
+use Rattle.cp_embed.proofs.EdgeDarts.{dart_at-start}
 use Rattle.cp_embed.proofs.OwnedTrees.{built-HasOwners}
 use Rattle.cp_embed.proofs.Sides.{leaf_sides, row-leaves_are}
 use Rattle.cp_embed.proofs.StageTrees.{root_dart, order-within}

@@ -1,5 +1,5 @@
 -- Trees that have every order: one P-node of leaves has, and where the body has three leaves at least, no other tree.
-use Rattle.std.proofs.Common.{◌≡◌, ◌≢◌, ℕ, zero, suc, ◌+◌, ◌<◌, ◌≤◌, ◌⊎◌, Bool, true, ◌&&◌, List, [], ◌∷◌, ◌++◌, length, map, reverse, drop, get_or, sym, refl, ap, ap₂, ◌∙◌, subst, inl, inr, ⊎_elim, arith, append_assoc, length-append, append-nil}
+use Rattle.std.proofs.Common.{◌≡◌, ◌≢◌, ℕ, zero, suc, ◌+◌, ◌<◌, ◌≤◌, ◌⊎◌, Bool, true, ◌&&◌, List, [], ◌∷◌, ◌++◌, length, map, reverse, drop, get_or, sym, refl, ap, ap₂, ◌∙◌, subst, inl, inr, ⊎_elim, arith, append_assoc, length-append}
 use Rattle.std.specs.Prelude.{nat_lt}
 use Rattle.std.specs.List.{list_all, All}
 use Rattle.std.specs.List.Sorted.{IsPermutation}
@@ -7,8 +7,8 @@ use Rattle.std.proofs.Math.Seq.{get_or-append_seam}
 use Rattle.std.proofs.lemmas.Bool.{and_parts, ltb-true, cases_eq}
 use Rattle.std.proofs.lemmas.List.{reverse-reverse, reverse-append}
 use Rattle.std.proofs.lemmas.List.Sorted.{IsPermutation-map, IsPermutation-refl, IsPermutation-sym, IsPermutation-reverse, All-permutation, length_permutation}
-use Rattle.cp_lists.specs.CyclicLists.{Has, Lacks, Distinct, but, head_or}
-use Rattle.cp_lists.proofs.DistinctLists.{has_lacks, has_cases, Lacks-from, Has-append_left, Has-append_right, Distinct-apart, Distinct-append_right, but-Has, Has-but, but-Lacks, but-Lacks_other, but-Distinct}
+use Rattle.cp_lists.specs.CyclicLists.{Has, Distinct, but, head_or}
+use Rattle.cp_lists.proofs.DistinctLists.{has_lacks, Has-append_left, Has-append_right, Distinct-apart, Distinct-append_right, but-Has, Has-but, but-Lacks, but-Lacks_other, but-Distinct}
 use Rattle.cp_lists.proofs.ReversedLists.{Has-reverse, reverse-Has}
 use Rattle.cp_pq.specs.declared.node.Node.{Node}
 use Rattle.cp_pq.specs.declared.node.Node.TheOpen.{Node-F}
@@ -16,7 +16,7 @@ use Rattle.cp_pq.specs.declared.node.Node.TheFolds.{fold-roll-Node}
 use Rattle.cp_pq.specs.declared.node.Node.TheVariants.{Leaf, P, Q, rolls-P}
 use Rattle.cp_pq.specs.Nodes.{leaves, all_leaves, IsKid, is_branching, branching_step}
 use Rattle.cp_pq.specs.Readings.{Reads, ReadsAll, leaf, any_order, forward, backward, none, more, given}
-use Rattle.cp_pq.specs.Trees.{PQTree, IsPair, IsWellFormed}
+use Rattle.cp_pq.specs.Trees.{PQTree, IsWellFormed}
 use Rattle.cp_pq.proofs.NodeLayers.{leaves_Leaf, leaves_P, leaves_Q}
 use Rattle.cp_pq.proofs.PermutedLists.{Has-IsPermutation, Distinct-IsPermutation}
 use Rattle.cp_pq.proofs.ReadingLaws.{Reads_P, Reads_Q, read_leaves, read_all_leaves}

@@ -1,13 +1,12 @@
 -- Walks over the vertices that are taken, when one vertex more is taken.
-use Rattle.std.proofs.Common.{◌≡◌, ◌≢◌, ℕ, ◌*◌, ◌<◌, ◌⊎◌, ◌↔◌, List, [], ◌∷◌, map, sym, refl, ap, ◌∙◌, subst, inl, inr, ⊎_elim, arith}
-use Rattle.std.proofs.lemmas.Bool.{cases_eq}
+use Rattle.std.proofs.Common.{◌≡◌, ◌≢◌, ℕ, ◌*◌, ◌<◌, ◌⊎◌, ◌↔◌, List, ◌∷◌, map, sym, refl, ap, ◌∙◌, subst, inl, inr, ⊎_elim, arith}
 use Rattle.cp_lists.specs.CyclicLists.{Has, Lacks}
-use Rattle.cp_lists.proofs.DistinctLists.{has_lacks, has_cases, Lacks-from}
+use Rattle.cp_lists.proofs.DistinctLists.{has_lacks, Lacks-from}
 use Rattle.cp_lists.proofs.MappedLists.{Has-map_on, map_on-Has}
 use Rattle.cp_faces.specs.Twins.{twin}
 use Rattle.cp_faces.proofs.Twins.{twin-twin, twin-below, half_twin, same_half}
 use Rattle.cp_pq.specs.declared.node.Node.{Node}
-use Rattle.cp_pq.specs.Owners.{AreOnOneSide, IsExchangedFor}
+use Rattle.cp_pq.specs.Owners.{AreOnOneSide}
 use Rattle.cp_embed.specs.Directions.{edge_of}
 use Rattle.cp_embed.specs.OwnedTrees.{HasOldSides, Reaches, here, over, AreLinkedBehind}
 use Rattle.cp_embed.specs.Sweeps.{ins_of, outs_of, LeadsInto}

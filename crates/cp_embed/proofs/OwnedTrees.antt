@@ -1,26 +1,25 @@
 -- The owners of the P-nodes along the building of a tree: where an owner is removed, edges on different sides of its
 -- P-node are not connected by what is taken.
-use Rattle.std.proofs.Common.{◌≡◌, ◌≢◌, ℕ, suc, ◌+◌, ◌*◌, ◌<◌, ◌⊎◌, Option, Some, None, List, [], ◌∷◌, length, map, slice_index, reverse, sym, refl, ap, ◌∙◌, subst, inl, inr, ⊎_elim, arith}
+use Rattle.std.proofs.Common.{◌≡◌, ◌≢◌, ℕ, suc, ◌+◌, ◌<◌, ◌⊎◌, Option, Some, None, List, [], ◌∷◌, length, slice_index, reverse, sym, ap, ◌∙◌, subst, inl, inr, ⊎_elim, arith}
 use Rattle.cp_lists.specs.CyclicLists.{Has, Lacks, Distinct}
 use Rattle.cp_lists.proofs.DistinctLists.{has_lacks, Lacks-from}
 use Rattle.cp_conn.specs.Darts.{start}
 use Rattle.cp_faces.specs.Twins.{twin}
 use Rattle.cp_pq.specs.declared.node.Node.{Node}
-use Rattle.cp_pq.specs.declared.node.Node.TheVariants.{Leaf, P}
+use Rattle.cp_pq.specs.declared.node.Node.TheVariants.{P}
 use Rattle.cp_pq.specs.declared.part.Part.{Part}
-use Rattle.cp_pq.specs.Nodes.{leaves, all_leaves, IsIn}
-use Rattle.cp_pq.specs.Owners.{AreOnOneSide, IsExchangedFor, KeepsOwners, ExchangesOwners}
+use Rattle.cp_pq.specs.Nodes.{leaves, IsIn}
+use Rattle.cp_pq.specs.Owners.{AreOnOneSide, IsExchangedFor, KeepsOwners}
 use Rattle.cp_pq.specs.Promises.{IsStar}
 use Rattle.cp_pq.specs.Trees.{PQTree}
 use Rattle.cp_embed.specs.declared.taking.Frame.{Frame}
 use Rattle.cp_embed.specs.BuiltTrees.{IsBuilt}
 use Rattle.cp_embed.specs.Directions.{edge_of}
 use Rattle.cp_embed.specs.ListedBlocks.{ListedGraph, IsListedBlock, list_given}
-use Rattle.cp_embed.specs.OwnedTrees.{HasOldSides, IsOwnerStep, HaveOwner, HasOwners, AreLinkedBehind}
-use Rattle.cp_embed.specs.Sweeps.{ins_of, outs_of, LeadsInto}
-use Rattle.cp_embed.specs.TreeSteps.{IsFreeStep, IsListedStep, IsTreeStep}
-use Rattle.cp_embed.specs.VertexOrders.{IsTakingOrder, edges_in, edges_out, taken_at, last_of, dart_at}
-use Rattle.cp_embed.proofs.BuiltTrees.{built-IsStageTree}
+use Rattle.cp_embed.specs.OwnedTrees.{HasOldSides, IsOwnerStep, HaveOwner, HasOwners}
+use Rattle.cp_embed.specs.Sweeps.{LeadsInto}
+use Rattle.cp_embed.specs.TreeSteps.{IsTreeStep}
+use Rattle.cp_embed.specs.VertexOrders.{IsTakingOrder, edges_in, edges_out, taken_at}
 use Rattle.cp_embed.proofs.FirstOrders.{first_taken}
 use Rattle.cp_embed.proofs.LinkedEdges.{after_cases, linked_after}
 use Rattle.cp_embed.proofs.Sides.{AreOnOneSide-trans, kids-Distinct, outside_sides, in_star, in_row}

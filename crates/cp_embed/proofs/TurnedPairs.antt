@@ -1,5 +1,5 @@
 -- A pair of a tree, as it is handed in to be taken back.
-use Rattle.std.proofs.Common.{◌≡◌, ℕ, Bool, List, ◌∷◌, sym, subst}
+use Rattle.std.proofs.Common.{ℕ, Bool, List, subst}
 use Rattle.cp_lists.specs.Turns.{IsTurn}
 use Rattle.cp_lists.proofs.TurnedLists.{turn-refl}
 use Rattle.cp_pq.specs.Trees.{PQTree, IsPair}

@@ -1,14 +1,14 @@
 -- Vertices taken back one after another, from the last frame to the first: the lists that they are given are those of a
 -- rotation system.
-use Rattle.std.proofs.Common.{◌≡◌, ◌≢◌, ℕ, zero, suc, ◌+◌, ◌-◌, ◌*◌, ◌<◌, ◌≤◌, ◌⊎◌, Bool, true, false, not, List, [], ◌∷◌, ◌++◌, length, map, set, get_or, slice_index, slice_index_or, take, reverse, min, sym, refl, ap, ◌∙◌, subst, inl, inr, ⊎_elim, arith, length-set}
+use Rattle.std.proofs.Common.{◌≡◌, ◌≢◌, ℕ, suc, ◌+◌, ◌-◌, ◌*◌, ◌<◌, ◌≤◌, ◌⊎◌, Bool, true, false, not, List, [], ◌∷◌, ◌++◌, length, map, set, get_or, slice_index, slice_index_or, take, reverse, min, sym, refl, ap, ◌∙◌, subst, inl, inr, ⊎_elim, arith, length-set}
 use Rattle.std.proofs.Math.Seq.{take-suc, take-length}
 use Rattle.std.proofs.lemmas.Bool.{cases_eq, cases_Bool}
 use Rattle.std.proofs.lemmas.List.{reverse-append, get_or-take, get_or-set_same, get_or-set_other, length-take-le, length-take, length-reverse}
 use Rattle.cp_lists.specs.CyclicLists.{Has, Lacks, Distinct}
 use Rattle.cp_lists.specs.Turns.{IsTurn}
-use Rattle.cp_lists.proofs.DistinctLists.{has_lacks, Has-append_left, Has-append_right, Distinct-apart, Distinct-once, Exactly-Distinct, Has_at}
+use Rattle.cp_lists.proofs.DistinctLists.{has_lacks, Has-append_left, Distinct-apart, Distinct-once, Exactly-Distinct, Has_at}
 use Rattle.cp_lists.proofs.FilteredLists.{filter-Has}
-use Rattle.cp_lists.proofs.MappedLists.{map_on-Has, Has-map_on}
+use Rattle.cp_lists.proofs.MappedLists.{Has-map_on}
 use Rattle.cp_lists.proofs.TurnedLists.{turn-trans, turn_to_item-unique, turn-Distinct, turn-sym, Has-of_turn}
 use Rattle.cp_faces.specs.Twins.{twin}
 use Rattle.cp_faces.proofs.Twins.{twin-twin, half_twin}
@@ -22,27 +22,24 @@ use Rattle.cp_pq.proofs.PermutedLists.{Has-IsPermutation}
 use Rattle.cp_pq.proofs.ReadingLaws.{read_leaves}
 use Rattle.cp_force.specs.Words.{part_word}
 use Rattle.cp_force.proofs.PartWords.{ReadsPart-by_bits, given-Lets}
-use Rattle.cp_rot.specs.Systems.{System}
 use Rattle.std.proofs.lemmas.List.Sorted.{IsPermutation-sym}
 use Rattle.cp_embed.specs.declared.taking.Frame.{Frame}
 use Rattle.cp_embed.specs.Arrangements.{IsArrangementOf}
 use Rattle.cp_embed.specs.BuiltTrees.{IsBuilt, IsUnwindable}
 use Rattle.cp_embed.specs.Directions.{edge_of}
 use Rattle.cp_embed.specs.Embeddings.{IsLeastEdge, IsEmbeddingTree}
-use Rattle.cp_embed.specs.ListedBlocks.{ListedGraph, IsListedBlock, list_given, touches, edges_at}
-use Rattle.cp_embed.specs.Realisations.{Realises, edges_round}
+use Rattle.cp_embed.specs.ListedBlocks.{ListedGraph, IsListedBlock, touches, edges_at}
+use Rattle.cp_embed.specs.Realisations.{edges_round}
 use Rattle.cp_embed.specs.Sweeps.{outs_of, LeadsInto}
-use Rattle.cp_embed.specs.TreeSteps.{IsStageTree}
 use Rattle.cp_embed.specs.Unwound.{IsTurnedPair, AreUnwound, HasEdgesAsRun, IsTakenOutOf}
 use Rattle.cp_embed.specs.VertexOrders.{IsTakingOrder, enters, edges_out, taken_at, last_of, dart_at}
 use Rattle.cp_embed.proofs.BuiltTrees.{built-IsStageTree, built-stage, tree_root}
 use Rattle.cp_embed.proofs.DartLists.{outs_of-Has}
 use Rattle.cp_embed.proofs.EdgeDarts.{edges_at-Has, dart-touches, other_end-is}
-use Rattle.cp_embed.proofs.StageTrees.{root_dart, taken_more, taken_is, order-within, order-long, outs_are, place-IsFreshSet}
+use Rattle.cp_embed.proofs.StageTrees.{taken_more, taken_is, order-within, order-long, outs_are, place-IsFreshSet}
 use Rattle.cp_embed.proofs.Sweeps.{twin_within}
 use Rattle.cp_embed.proofs.TakingOrders.{root-edge, root-least}
 use Rattle.cp_embed.proofs.UnwoundStages.{IsUnwound, pair-Distinct, frame-IsTakenBack, run_back, unwound-Realises}
-use Rattle.cp_embed.proofs.UnwoundSteps.{IsTakenBack}
 
 -- the items of a pair are the leaves of its tree
 pair-leaf : (tree : PQTree) (word : List ℕ) (bits : List Bool) → IsPair tree (tree.root ∷ word) bits → (k : ℕ)
@@ -478,10 +475,6 @@ module _ (block : ListedGraph) (t first : ℕ) (frames : List Frame) (tree : PQT
         (subst (λ v. v < block.graph.vertices) z.way.first_is
         ((order-within block z.way.well z.way.order z.way.later z.way.root z.way.order_is (slice_index z.way.order 0)).0
         (Has_at z.way.order 0 (omega (arith, z.way.frame_each)))))
-
-    -- and the last
-    pub IsUnwoundTo-last : t < length lists
-    IsUnwoundTo-last = subst (λ n. t < n) (sym z.list_each) (way-within z.way)
 
     -- with their lists all are there
     pub IsUnwoundTo-none : (first_list : List ℕ) (more : List (List ℕ)) → first_list ≡ root ∷ reverse word

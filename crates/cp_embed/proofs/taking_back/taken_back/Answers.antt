@@ -1,5 +1,5 @@
 -- The run of the vertex's edges stands at its place and is as long as their list.
-use Rattle.std.proofs.Common.{◌≡◌, ℕ, ◌+◌, ◌≤◌, List, ◌++◌, length, slice_index, take, drop, sym, ap, ◌∙◌, arith}
+use Rattle.std.proofs.Common.{◌≡◌, ◌+◌, ◌≤◌, ◌++◌, length, slice_index, take, drop, sym, ap, ◌∙◌, arith}
 use Rattle.cp_lists.proofs.DistinctLists.{Has_at}
 use Rattle.cp_force.specs.Words.{part_word}
 use Rattle.cp_embed.proofs.EdgeRuns.{run-end, run-IsTakenOutOf}

@@ -5,11 +5,10 @@ use Rattle.cp_base.specs.Graphs.{PlainGraph}
 use Rattle.cp_force.specs.Words.{part_word}
 use Rattle.cp_lists.specs.CyclicLists.{Has}
 use Rattle.cp_lists.specs.Turns.{IsTurn}
-use Rattle.cp_pq.specs.Bits.{bit_of}
-use Rattle.cp_embed.specs.ListedBlocks.{ListedGraph, IsListedBlock, edges_at}
-use Rattle.cp_embed.specs.Unwound.{AreUnwound, HasEdgesAsRun, IsTakenOutOf}
+use Rattle.cp_embed.specs.ListedBlocks.{ListedGraph, edges_at}
+use Rattle.cp_embed.specs.Unwound.{HasEdgesAsRun, IsTakenOutOf}
 use Rattle.cp_embed.proofs.TakingOrders.{edges-some}
-use Rattle.cp_embed.proofs.UnwoundLists.{IsUnwoundTo, way-within, pair-Has_root, IsUnwoundTo-all, IsUnwoundTo-run, IsUnwoundTo-vertex, IsUnwoundTo-step, IsUnwoundTo-first, IsUnwoundTo-last, IsUnwoundTo-none}
+use Rattle.cp_embed.proofs.UnwoundLists.{way-within, pair-Has_root, IsUnwoundTo-all, IsUnwoundTo-run, IsUnwoundTo-vertex, IsUnwoundTo-step, IsUnwoundTo-first, IsUnwoundTo-none}
 use Rattle.cp_embed.proofs.taking_back.unwind.Goals as goal
 
 -- the vertex is one of the block, in the code's own terms
