@@ -8,6 +8,7 @@ pub mod DroppedPipes
 pub mod ShapeEquations
 pub mod PlantedRows
 pub mod ListTests
+pub mod KeptRules
 mod WheelShape
 mod BrokenRules
 mod CrossingBlocks

@@ -40,7 +40,6 @@ mod SolutionLists
 mod SolutionArranged
 mod SolutionGood
 -- What the functions write.
-mod KeptRules
 mod BorderPairs
 mod SegmentRows
 mod PipeRows

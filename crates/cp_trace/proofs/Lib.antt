@@ -8,4 +8,15 @@ mod RunText
 mod CutLemmas
 mod NumberLemmas
 mod WordLemmas
-mod NumberLines
+mod LineWords
+mod LineValues
+mod ToldLists
+mod InstanceLines
+mod KeptTold
+mod PairWords
+mod PartWords
+mod BodySame
+mod DigitFronts
+mod BodyReads
+mod StepLines
+mod RunLines

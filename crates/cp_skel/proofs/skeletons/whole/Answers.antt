@@ -1,6 +1,6 @@
 use Rattle.std.proofs.Common.{subst}
 use Rattle.cp_sync.specs.Faults.{IsFaultOf, with_parts}
-use Rattle.cp_skel.proofs.KeptRules.{no_rule_broken}
+use Rattle.cp_board.proofs.KeptRules.{no_rule_broken}
 use Rattle.cp_skel.proofs.skeletons.whole.Goals as goal
 
 pub unreachable-requires : goal.unreachable-requires

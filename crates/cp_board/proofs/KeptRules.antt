@@ -1,5 +1,5 @@
 -- Each part of an instance that keeps the rules keeps each rule, so none of them is broken.
-use Rattle.std.proofs.Common.{◌≡◌, ℕ, zero, suc, ◌+◌, ◌^◌, ◌<◌, List, [], ◌∷◌, ◌++◌, length, map, take, drop, add-one, sym, ap, ◌∙◌, subst, inl, inr, refl, ⊎_elim, arith}
+use Rattle.std.proofs.Common.{◌≡◌, ℕ, zero, suc, ◌+◌, ◌^◌, ◌<◌, ◌≤◌, List, [], ◌∷◌, ◌++◌, length, map, take, drop, add-one, sym, ap, ◌∙◌, subst, inl, inr, refl, ⊎_elim, arith}
 use Rattle.std.specs.Prelude.{slice_index, slice_index_or}
 use Rattle.std.specs.List.{All, flat_map, range_with_len}
 use Rattle.std.specs.List.Sorted.{IsStrictlyIncreasing}
@@ -8,7 +8,7 @@ use Rattle.std.proofs.lemmas.List.{get_or_default, get_or-append-add, get_or-tak
 use Rattle.std.proofs.Math.ListN.{get_or-append}
 use Rattle.std.proofs.Math.Seq.{drop-cons}
 use Rattle.std.proofs.lemmas.List.Concat.{flat_map-append}
-use Rattle.std.proofs.lemmas.List.Elements.{All-append}
+use Rattle.std.proofs.lemmas.List.Elements.{All-append, All-cons, All-nil}
 use Rattle.cp_lists.specs.CyclicLists.{Distinct, Has, Lacks}
 use Rattle.cp_lists.proofs.DistinctLists.{Distinct-apart_right, Has-append_left}
 use Rattle.cp_board.specs.declared.parts.Kind.TheVariants.{P}
@@ -17,8 +17,6 @@ use Rattle.cp_board.specs.declared.parts.EdgeRow.{EdgeRow}
 use Rattle.cp_board.specs.declared.parts.Pipe.{Pipe}
 use Rattle.cp_board.specs.Instances.{AreNames, Synchronized, IsSynchronized, cell_of, edge_names, pipe_names, vert_names}
 use Rattle.cp_board.specs.Faults.{EdgeAt, Ends, IsFirstBroken, IsNextName, Keeps, Lists, Names, Part, Partners, PipeAt, PipeEnds, Rule, VertAt, parts, pipe_in_place}
-use Rattle.cp_skel.proofs.Ranges.{range-Has}
-use Rattle.cp_skel.proofs.SkeletonRules.{All-map}
 
 -- what holds of all items of two lists holds of those of the first
 All-first : {A : Type 0} (holds : A → Type 0) (xs ys : List A) → All holds (xs ++ ys) → All holds xs
@@ -65,12 +63,18 @@ IsNextName-from names are k lt = (
       omega (arith, at, same, up),
 )
 
+-- what holds of what is made of each number of a range
+All-range : {A : Type 0} (holds : A → Type 0) (f : ℕ → A) (a n : ℕ)
+    → ((k : ℕ) → a ≤ k → k < a + n → holds (f k)) → All holds (map f (range_with_len a n))
+All-range holds f a zero each = All-nil holds
+All-range holds f a (suc n) each =
+    All-cons holds (f a) (map f (range_with_len (a + 1) n)) (each a (omega arith) (omega arith))
+    (All-range holds f (a + 1) n (λ k low lt. each k (omega (arith, low)) (omega (arith, lt))))
+
 -- all parts of one kind keep a rule
 Keeps-kind : (i : Synchronized) (rule : Rule) (part : ℕ → Part) (n : ℕ) → ((k : ℕ) → k < n → Keeps i rule (part k))
     → All (Keeps i rule) (map part (range_with_len 0 n))
-Keeps-kind i rule part n each =
-    All-map (Keeps i rule) part (range_with_len 0 n)
-    (λ k h. let w = range-Has k 0 n h in each k (omega (arith, w.1)))
+Keeps-kind i rule part n each = All-range (Keeps i rule) part 0 n (λ k low lt. each k (omega (arith, lt)))
 
 module _ (i : Synchronized) (is : IsSynchronized i) where
   -- no pipe before has an end of the pipe at place k
