@@ -46,7 +46,7 @@ small_kids (k ∷ ks) small = (
 )
 
 -- what holds of leaves, and of inner nodes where it holds of all their kids, holds of each branch
-branch_induction : (M : Branch → Type 0)
+pub branch_induction : (M : Branch → Type 0)
     → ((x : ℕ) → M (Leaf x))
     → ((kids : List Branch) → AllByRecursion M kids → M (P kids))
     → ((kids : List Branch) → AllByRecursion M kids → M (Q kids))

@@ -20,3 +20,6 @@ mod DigitFronts
 mod BodyReads
 mod StepLines
 mod RunLines
+mod RunReads
+mod EndLines
+mod FeedFree

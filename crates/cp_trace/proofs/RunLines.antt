@@ -12,7 +12,7 @@ use Rattle.cp_trace.proofs.InstanceLines.{edge_rows, edges_not_vert, end_lines, 
 use Rattle.cp_trace.proofs.LineValues.{edge_same, pipe_same, vert_same}
 
 -- the line of a reduction begins with its letter
-head_of_step : (s : Step) (lines : List (List ℕ)) → head_byte (step_line s ∷ lines) ≡ 115
+pub head_of_step : (s : Step) (lines : List (List ℕ)) → head_byte (step_line s ∷ lines) ≡ 115
 head_of_step (Small pipe) lines = refl
 head_of_step (FreePole pipe end pole) lines = refl
 head_of_step (FusePoles pipe end pole) lines = refl

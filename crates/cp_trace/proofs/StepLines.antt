@@ -1,6 +1,7 @@
 -- The lines of reductions, by their words.
-use Rattle.std.proofs.Common.{◌≡◌, ◌⊎◌, ℕ, ◌+◌, ◌*◌, ◌<◌, ◌^◌, cond, eqb, codes, List, [], ◌∷◌, ◌++◌, length, map, inl, inr, refl, sym, ap, ◌∙◌, arith, append_assoc}
-use Rattle.std.specs.List.{AllByRecursion, flat_map}
+use Rattle.std.proofs.Common.{◌≡◌, ◌⊎◌, ℕ, true, ltb, ◌+◌, ◌*◌, ◌<◌, ◌^◌, cond, eqb, codes, List, [], ◌∷◌, ◌++◌, length, map, inl, inr, refl, sym, ap, ◌∙◌, arith, append_assoc}
+use Rattle.std.specs.List.{AllByRecursion, flat_map, list_all}
+use Rattle.std.proofs.lemmas.Bool.{and_parts, ltb-true}
 use Rattle.std.specs.Fmt.{decimal}
 use Rattle.std.proofs.lemmas.List.{append-nil}
 use Rattle.std.proofs.lemmas.List.Splits.{length-slice_split}
@@ -52,13 +53,25 @@ numbers_free : (ns : List ℕ) → AreSmall ns → AllByRecursion (Lacks 32) (ma
 numbers_free [] small = tt
 numbers_free (n ∷ ns) small = (number_free 32 (omega arith) n small.0, numbers_free ns small.1)
 
+-- no blank stands in letters
+pub letters_free : (word : List ℕ) → list_all (λ b. ltb 32 b) word ≡ true → Lacks 32 word
+letters_free [] h = tt
+letters_free (x ∷ xs) h =
+    let both = and_parts (ltb 32 x) (list_all (λ b. ltb 32 b) xs) h in
+    ((λ e. omega (arith, e, ltb-true 32 x both.0)), letters_free xs both.1)
+
 -- the words of a line of two keys and numbers
+pub two_keys : (first key : List ℕ) (ns : List ℕ) → Lacks 32 first → Lacks 32 key → AreSmall ns
+    → words (first ++ 32 ∷ (key ++ flat_map spaced ns)) ≡ first ∷ key ∷ map decimal ns
+two_keys first key ns free_first free small =
+    words-cut first (key ++ flat_map spaced ns) free_first
+    ∙ ap (λ ws. first ∷ ws) (ap (λ t. words (key ++ t)) (numbers_row ns)
+    ∙ words_of_row key (map decimal ns) free (numbers_free ns small))
+
+-- of one that begins with `step`
 keyed_words : (key : List ℕ) (ns : List ℕ) → Lacks 32 key → AreSmall ns
     → words (codes "step" ++ 32 ∷ (key ++ flat_map spaced ns)) ≡ codes "step" ∷ key ∷ map decimal ns
-keyed_words key ns free small =
-    words-cut (codes "step") (key ++ flat_map spaced ns) (key_free 32 (omega arith) (codes "step") refl)
-    ∙ ap (λ ws. codes "step" ∷ ws) (ap (λ t. words (key ++ t)) (numbers_row ns)
-    ∙ words_of_row key (map decimal ns) free (numbers_free ns small))
+keyed_words key ns = two_keys (codes "step") key ns (letters_free (codes "step") refl)
 
 -- the words of the line of a reduction with a shape
 tree_words : (pipe end root : ℕ) (body : List ℕ) → pipe < 2 ^ 63 → end < 2 ^ 63 → root < 2 ^ 63

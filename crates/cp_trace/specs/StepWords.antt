@@ -3,6 +3,8 @@ use Rattle.std.specs.Prelude.{ℕ, codes, List, [], ◌∷◌}
 use Rattle.std.specs.Fmt.{decimal}
 use Rattle.cp_board.specs.declared.steps.Step.{Step}
 use Rattle.cp_board.specs.declared.steps.Step.TheVariants.{Small, FreePole, FusePoles, Toroidal, Join, Propagate}
+use Rattle.cp_board.specs.declared.steps.Reason.{Reason}
+use Rattle.cp_board.specs.declared.steps.Reason.TheVariants.{NotPlanar, CyclesDiffer, BlocksCross, Conflict}
 use Rattle.cp_trace.specs.declared.step_key.StepKey.{StepKey}
 use Rattle.cp_trace.specs.declared.step_key.StepKey.TheVariants as keys
 use Rattle.cp_trace.specs.Reading.{words}
@@ -35,3 +37,10 @@ step_args (Toroidal pipe) = decimal pipe ∷ []
 step_args (Join pipe) = decimal pipe ∷ []
 step_args (Propagate pipe end shape) =
     decimal pipe ∷ decimal end ∷ decimal shape.root ∷ words (body_text shape.body)
+
+-- the words of the line that tells why there is no solution
+abbrev pub reason_words : Reason → List (List ℕ)
+reason_words (NotPlanar edge) = codes "failed" ∷ codes "not-planar" ∷ decimal edge ∷ []
+reason_words (CyclesDiffer a b) = codes "failed" ∷ codes "cycles" ∷ decimal a ∷ decimal b ∷ []
+reason_words (BlocksCross vertex) = codes "failed" ∷ codes "cross" ∷ decimal vertex ∷ []
+reason_words Conflict = codes "failed" ∷ codes "conflict" ∷ []

@@ -5,6 +5,7 @@ mod fault;
 mod named_parts;
 mod numbers;
 mod read_body;
+mod read_end;
 mod read_instance;
 mod read_lists;
 mod read_numbers;

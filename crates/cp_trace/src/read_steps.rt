@@ -6,15 +6,17 @@ ghost use Rattle.cp_base.specs.Shapes.{leaves};
 ghost use Rattle.cp_board.specs.declared.steps.Step.{Step as AnyStep};
 ghost use Rattle.cp_trace.specs.declared.step_key.StepKey.{StepKey as AnyKey};
 ghost use Rattle.cp_trace.specs.Faults.{AreSmall, IsToldStep};
+ghost use Rattle.std.specs.List.{AllByRecursion};
+ghost use Rattle.cp_trace.specs.Reading.{AreLines, GoesNoFurther};
 ghost use Rattle.cp_trace.specs.StepWords.{key_of_step, key_word, step_args};
 ghost use Rattle.cp_trace.specs.Texts.{body_text, step_line};
 
 use crate::read_body::read_body;
 use crate::read_words::{take_end, take_number, take_word};
 use crate::step_key::StepKey;
-use crate::word::Words;
-use cp_base::{Memory, Shape};
-use cp_board::Step;
+use crate::word::{Words, cut};
+use cp_base::{Items, Memory, Shape};
+use cp_board::{Step, StepList};
 use std::alloc::Global;
 
 // Which reduction the word names.
@@ -39,7 +41,7 @@ fn key_of(word: &[u8]) -> Option<StepKey>
 }
 
 // Takes the one number that is left.
-fn one_number(words: &mut Words<'_>) -> Option<usize>
+pub(crate) fn one_number(words: &mut Words<'_>) -> Option<usize>
     ensures { MatchOption result ((n : ℕ) → n < 2 ^ 63 → words.old ≡ decimal n ∷ [] → ⊥) (λ n. (n < 2 ^ 63) × (words.old ≡ decimal n ∷ [])) }
 {
     let number = take_number(words)?;
@@ -151,4 +153,20 @@ pub(crate) fn step_of(alloc: Global, line: &[u8]) -> Result<Option<Step>, Memory
         Some(step) => Ok(Some(step)),
         None => Ok(None),
     }
+}
+
+// The reductions that the first lines tell, and what stands behind them. Linear in the length of these lines.
+pub(crate) fn read_steps(alloc: Global, bytes: &[u8]) -> Result<(StepList, &[u8]), Memory>
+    ensures { IfOk result (λ r. AreLines step_line (AllByRecursion IsToldStep) bytes.now r.0 r.1.now × GoesNoFurther step_line (AllByRecursion IsToldStep) r.0 r.1.now) }
+{
+    let mut steps = Items::new(alloc);
+    let mut rest = bytes;
+    while let Some((line, after)) = cut(rest, b'\n') {
+        let Some(step) = step_of(alloc, line)? else {
+            return Ok((steps, rest));
+        };
+        steps.push(step)?;
+        rest = after;
+    }
+    Ok((steps, rest))
 }
