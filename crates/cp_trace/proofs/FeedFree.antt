@@ -1,9 +1,8 @@
 -- No line feed stands in the line of a reduction.
-use Rattle.std.proofs.Common.{◌≡◌, ℕ, ◌<◌, ◌^◌, true, ltb, codes, List, [], ◌∷◌, ◌++◌, map, refl, sym, subst, arith, append_assoc}
+use Rattle.std.proofs.Common.{◌≡◌, ℕ, true, ltb, codes, List, [], ◌∷◌, map, refl, sym, subst, arith, append_assoc}
 use Rattle.std.specs.List.{AllByRecursion, flat_map, join_with_byte, list_all}
 use Rattle.std.proofs.lemmas.Bool.{and_parts, ltb-true}
 use Rattle.cp_base.specs.declared.shape.Branch.{Branch}
-use Rattle.cp_base.specs.declared.shape.Branch.TheVariants.{Leaf, P, Q}
 use Rattle.cp_base.specs.Shapes.{leaves}
 use Rattle.cp_board.specs.declared.steps.Step.{Step}
 use Rattle.cp_board.specs.declared.steps.Step.TheVariants.{Small, FreePole, FusePoles, Toroidal, Join, Propagate}

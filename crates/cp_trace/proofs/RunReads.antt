@@ -1,12 +1,11 @@
 -- Where bytes cease to be a run.
-use Rattle.std.proofs.Common.{◌≡◌, ◌≢◌, ◌⊎◌, ℕ, ◌+◌, ◌<◌, ◌≤◌, codes, List, [], ◌∷◌, ◌++◌, length, map, refl, sym, ap, ◌∙◌, subst, arith, append_assoc}
+use Rattle.std.proofs.Common.{◌≡◌, ℕ, codes, List, [], ◌∷◌, ◌++◌, map, refl, sym, ap, ◌∙◌, arith, append_assoc}
 use Rattle.std.specs.List.{AllByRecursion}
-use Rattle.std.proofs.lemmas.List.{append-nil}
 use Rattle.cp_board.specs.declared.steps.Step.{Step}
 use Rattle.cp_board.specs.Instances.{Synchronized}
 use Rattle.cp_trace.specs.declared.trace.Trace.{Trace}
-use Rattle.cp_trace.specs.Faults.{IsDraft, IsLine, IsToldStep, lines_behind_first, lines_behind_last}
-use Rattle.cp_trace.specs.Texts.{end_line, instance_lines, step_line, text_of, trace_lines}
+use Rattle.cp_trace.specs.Faults.{IsDraft, IsLine, lines_behind_first, lines_behind_last}
+use Rattle.cp_trace.specs.Texts.{instance_lines, step_line, text_of, trace_lines}
 use Rattle.cp_trace.proofs.CutLemmas.{cut_unique}
 use Rattle.cp_trace.proofs.InstanceLines.{head_byte, lines_after}
 use Rattle.cp_trace.proofs.RunLines.{head_of_step, instance_same, steps_compare, trace_grouped}
@@ -23,7 +22,8 @@ no_step_left (m ∷ more) i x y h =
     absurd (let e : Same 115 105 = sym (head_of_step m (map step_line more ++ x)) ∙ ap head_byte h in omega arith)
 
 -- a draft whose lines begin with those of another has no lines more
-pub prefix_free : (t s : Trace) (y : List (List ℕ)) → IsDraft t → IsDraft s → trace_lines t ≡ trace_lines s ++ y → y ≡ []
+pub prefix_free : (t s : Trace) (y : List (List ℕ)) → IsDraft t → IsDraft s → trace_lines t ≡ trace_lines s ++ y
+    → y ≡ []
 prefix_free t s y dt ds h =
     let whole : codes "cplan-trace 1" ∷ (instance_lines t.first ++ lines_behind_first t)
     ≡ codes "cplan-trace 1" ∷ (instance_lines s.first ++ (lines_behind_first s ++ y)) =
@@ -38,7 +38,8 @@ prefix_free t s y dt ds h =
     let steps = steps_compare t.steps s.steps (instance_lines t.last ++ lines_behind_last t)
     (instance_lines s.last ++ (lines_behind_last s ++ y)) dt.steps
     (λ e. let f : Same 105 115 = e in omega arith) (first.1 ∙ behind) in
-    let none = no_step_left steps.0 s.last (instance_lines t.last ++ lines_behind_last t) (lines_behind_last s ++ y) steps.2 in
+    let none = no_step_left steps.0 s.last (instance_lines t.last ++ lines_behind_last t) (lines_behind_last s ++ y)
+    steps.2 in
     let last = instance_same t.last s.last (lines_behind_last t) (lines_behind_last s ++ y) dt.last ds.last none.1 in
     sym (ap (λ ls. lines_after (lines_after ls)) last.1)
 

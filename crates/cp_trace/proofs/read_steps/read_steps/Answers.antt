@@ -22,7 +22,8 @@ loop-line-preserved c =
     let told = rw c.in-Some-2.is at c.in_ok-step.ensures in
     rw c.in_ok-push.ensures.ok (one_line_more step_line (AllByRecursion IsToldStep) c.args.bytes.now c.loop-line.steps
     c.loop-line.rest.now c.in-Some.line.now c.in-Some.after.now c.in-Some-2.step c.loop-line.invariant
-    c.in-Some.ensures.1 told.1 (all_push IsToldStep c.loop-line.steps c.in-Some-2.step c.loop-line.invariant.may told.0))
+    c.in-Some.ensures.1 told.1 (all_push IsToldStep c.loop-line.steps c.in-Some-2.step c.loop-line.invariant.may
+    told.0))
 
 pub returns : goal.returns
 returns c = (
