@@ -1,10 +1,10 @@
 -- Lists of bytes cut at a byte.
-use Rattle.std.proofs.Common.{◌≡◌, ◌≢◌, ℕ, ◌+◌, ◌<◌, eqb, Bool, true, false, cond, List, [], ◌∷◌, ◌++◌, Some, None, take, drop, get_or, refl, sym, ap, ◌∙◌, eq-eqb, arith}
+use Rattle.std.proofs.Common.{◌≡◌, ◌≢◌, ℕ, ◌+◌, ◌<◌, eqb, Bool, true, false, cond, List, [], ◌∷◌, ◌++◌, Some, None, Option, take, drop, get_or, refl, sym, ap, ◌∙◌, eq-eqb, arith, Bor, MatchOption}
 use Rattle.std.specs.Prelude.{position}
 use Rattle.std.specs.List.{AllByRecursion, slice_split, position_from}
 use Rattle.std.proofs.lemmas.Bool.{eqb-false, ne_eqb, eqb-true}
 use Rattle.std.proofs.lemmas.Iterator.Adapters.{position_from-zero}
-use Rattle.std.proofs.lemmas.List.{drop_more, get_or_default, take-append-drop, get_or-take, length-take}
+use Rattle.std.proofs.lemmas.List.{drop_more, get_or_default, take-append-drop, get_or-take, length-take, append_cancel_left}
 use Rattle.std.proofs.lemmas.List.Quantifiers.{position-Some}
 use Rattle.std.proofs.lemmas.List.Elements.{All-from_recursion, recursion_from_All}
 use Rattle.std.proofs.lemmas.List.Splits.{slice_split_none, slice_split_at}
@@ -70,3 +70,27 @@ split_whole c bytes h = slice_split_none (λ y. eqb y c) bytes
 pub lacks-append : (c : ℕ) (xs ys : List ℕ) → Lacks c xs → Lacks c ys → Lacks c (xs ++ ys)
 lacks-append c [] ys h k = k
 lacks-append c (x ∷ xs) ys h k = (h.0, lacks-append c xs ys h.1 k)
+
+-- a cut at the first such byte is unique
+pub cut_unique : (c : ℕ) (a b x y : List ℕ) → Lacks c a → Lacks c b → a ++ c ∷ x ≡ b ++ c ∷ y → (a ≡ b) × (x ≡ y)
+cut_unique c [] [] x y la lb h = (refl, cc)
+cut_unique c [] (z ∷ b) x y la lb h = absurd (lb.0 cc)
+cut_unique c (z ∷ a) [] x y la lb h = absurd (la.0 cc)
+cut_unique c (z ∷ a) (w ∷ b) x y la lb h =
+    let head : z ≡ w = cc in
+    let tails : a ++ c ∷ x ≡ b ++ c ∷ y = cc in
+    let both = cut_unique c a b x y la.1 lb.1 tails in
+    (ap (λ (n : ℕ). n ∷ a) head ∙ ap (λ (t : List ℕ). w ∷ t) both.0, both.1)
+
+-- bytes do not lack one that stands among them
+pub lacks_not : (c : ℕ) (a b : List ℕ) → Lacks c (a ++ c ∷ b) → ⊥
+lacks_not c [] b h = h.0 refl
+lacks_not c (x ∷ a) b h = lacks_not c a b h.1
+
+-- a line feed behind the line
+pub line_behind : (bytes line rest : List ℕ) (r : Option (Bor (List ℕ))) → bytes ≡ line ++ rest
+    → MatchOption r ((after : List ℕ) → rest ≡ 10 ∷ after → ⊥) (λ x. rest ≡ 10 ∷ x.now)
+    → MatchOption r ((after : List ℕ) → bytes ≡ line ++ 10 ∷ after → ⊥) (λ x. bytes ≡ line ++ 10 ∷ x.now)
+line_behind bytes line rest None e h =
+    λ after again. h after (append_cancel_left line rest (10 ∷ after) (sym e ∙ again))
+line_behind bytes line rest (Some x) e h = e ∙ ap (λ t. line ++ t) h

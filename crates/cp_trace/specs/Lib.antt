@@ -5,5 +5,7 @@ pub mod Faults
 -- what functions inside promise each other
 pub mod Parts
 pub mod Reading
+pub mod Bodies
+pub mod StepWords
 -- examples
 pub mod Rows

@@ -1,11 +1,10 @@
-// Numbers, and lines of a key and numbers, read exactly.
-ghost use Rattle.std.specs.Prelude.{◌≡◌, ◌++◌, ◌∷◌, [], ℕ, ◌<◌, ◌^◌, map, IsTrue, ◌↔◌, MatchOption, IfOk};
+// Numbers read exactly.
+ghost use Rattle.std.specs.Prelude.{◌≡◌, ℕ, ◌<◌, ◌^◌, map, IsTrue, ◌↔◌, MatchOption, IfOk};
 ghost use Rattle.std.specs.Fmt.{decimal};
-ghost use Rattle.std.specs.List.{flat_map};
-ghost use Rattle.cp_trace.specs.Reading.{AreSmall, IsPlain};
-ghost use Rattle.cp_trace.specs.Texts.{keyed, spaced};
+ghost use Rattle.cp_trace.specs.Faults.{AreSmall};
+ghost use Rattle.cp_trace.specs.Reading.{IsPlain};
 
-use crate::word::{Words, after_front};
+use crate::word::Words;
 use cp_base::Memory;
 use std::alloc::Global;
 use std::str;
@@ -44,7 +43,7 @@ pub(crate) fn number_of(text: &[u8]) -> Option<usize>
 }
 
 // The numbers that the words spell.
-fn numbers_of(alloc: Global, mut words: Words<'_>) -> Result<Option<Vec<usize>>, Memory>
+pub(crate) fn numbers_of(alloc: Global, mut words: Words<'_>) -> Result<Option<Vec<usize>>, Memory>
     ensures { IfOk result (λ found. MatchOption found ((numbers : _) → AreSmall numbers → words.entry ≡ map decimal numbers → ⊥) (λ numbers. AreSmall numbers.items × (words.entry ≡ map decimal numbers.items))) }
 {
     let mut numbers = Vec::new(alloc);
@@ -55,34 +54,4 @@ fn numbers_of(alloc: Global, mut words: Words<'_>) -> Result<Option<Vec<usize>>,
         }
     }
     Ok(Some(numbers))
-}
-
-// The numbers that the text spells, each behind a blank. Linear in the length of the text.
-fn spaced_numbers(alloc: Global, text: &[u8]) -> Result<Option<Vec<usize>>, Memory>
-    ensures { IfOk result (λ found. MatchOption found ((numbers : _) → AreSmall numbers → text.now ≡ flat_map spaced numbers → ⊥) (λ numbers. AreSmall numbers.items × (text.now ≡ flat_map spaced numbers.items))) }
-{
-    match text.split_first() {
-        None => Ok(Some(Vec::new(alloc))),
-        Some((blank, rest)) => {
-            if *blank == b' ' {
-                numbers_of(alloc, Words::new(rest))
-            } else {
-                Ok(None)
-            }
-        }
-    }
-}
-
-// The numbers of a line that begins with the key. Linear in the length of the line.
-pub(crate) fn keyed_numbers(
-    alloc: Global,
-    line: &[u8],
-    key: &[u8],
-) -> Result<Option<Vec<usize>>, Memory>
-    ensures { IfOk result (λ found. MatchOption found ((numbers : _) → AreSmall numbers → line.now ≡ keyed key.now numbers → ⊥) (λ numbers. AreSmall numbers.items × (line.now ≡ keyed key.now numbers.items))) }
-{
-    match after_front(line, key) {
-        Some(rest) => spaced_numbers(alloc, rest),
-        None => Ok(None),
-    }
 }

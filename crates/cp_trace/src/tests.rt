@@ -1,5 +1,7 @@
 // Texts of runs, whole.
-use crate::write::{push_body, push_reason, push_step};
+use crate::read_instance::read_instance;
+use crate::read_steps::step_of;
+use crate::write::{push_body, push_instance, push_reason, push_step};
 use crate::write_trace;
 use cp_base::{Branch, Branches, CycList, Items, Memory};
 use cp_board::{EdgeRow, EdgeRows, Kind, Pairs, Pipe, Pipes, Reason, Step, Vert, Verts};
@@ -221,5 +223,73 @@ fn shapes_steps_and_reasons_are_written(rt: HostRuntime) -> Result<(), Fail> {
     let mut reason = Vec::new(rt.alloc());
     push_reason(rt.alloc(), &mut reason, Reason::CyclesDiffer { a: 1, b: 3 })?;
     assert_eq!(rt; reason.as_slice(), b"failed cycles 1 3".as_slice());
+    Ok(())
+}
+
+const READ: &[u8] = b"instance
+vertex 0 P
+vertex 1 P
+vertex 2 Q 3: 1 2
+edge 0 0 1
+edge 1 0 2
+edge 2 1 2
+pipe 0 0 1: 0/2 1/0
+instance end
+";
+
+#[test]
+fn an_instance_is_read_back(rt: HostRuntime) -> Result<(), Fail> {
+    let mut text = Vec::new(rt.alloc());
+    text.extend_from_slice(READ)?;
+    text.extend_from_slice(b"step small 0\n")?;
+    let (found, rest) = read_instance(rt.alloc(), text.as_slice())?;
+    assert_eq!(rt; rest, b"step small 0\n".as_slice());
+    let instance = found.ok_or("no instance")?;
+    let mut back = Vec::new(rt.alloc());
+    push_instance(rt.alloc(), &mut back, &instance)?;
+    assert_eq!(rt; back.as_slice(), READ);
+    Ok(())
+}
+
+// Texts of no instance, and how many bytes are left from the first line that does not go on with one.
+const WRONG: [(&str, usize); 6] = [
+    ("instanc\n", 8),
+    ("instance\nvertex 1 P\nvertex 0 P\ninstance end\n", 24),
+    ("instance\nvertex 0 Q 0: 2 1\ninstance end\n", 31),
+    ("instance\nvertex 9223372036854775808 P\ninstance end\n", 42),
+    ("instance\nvertex 0 P\nedge 0 0 0\ninstance end\n", 13),
+    ("instance\nvertex 0 P", 10),
+];
+
+#[test]
+fn wrong_lines_of_instances_are_found(rt: HostRuntime) -> Result<(), Fail> {
+    for (text, left) in WRONG {
+        let (found, rest) = read_instance(rt.alloc(), text.as_bytes())?;
+        assert!(rt; found.is_none(), "{text}");
+        assert_eq!(rt; rest.len(), left, "{text}");
+    }
+    Ok(())
+}
+
+#[test]
+fn steps_are_read_back(rt: HostRuntime) -> Result<(), Fail> {
+    for line in [
+        "step small 1",
+        "step fuse 1 20 3",
+        "step tree 1 2 3 Q[1 P[2 30] P[]]",
+    ] {
+        let step = step_of(rt.alloc(), line.as_bytes())?.ok_or("no step")?;
+        let mut back = Vec::new(rt.alloc());
+        push_step(rt.alloc(), &mut back, &step)?;
+        assert_eq!(rt; back.as_slice(), line.as_bytes());
+    }
+    for line in [
+        "step small 01",
+        "step free 1 2",
+        "step tree 1 2 3 P[1  2]",
+        "step join 1 ",
+    ] {
+        assert!(rt; step_of(rt.alloc(), line.as_bytes())?.is_none(), "{line}");
+    }
     Ok(())
 }

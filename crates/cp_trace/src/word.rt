@@ -28,6 +28,13 @@ pub(crate) fn after_front<'a>(bytes: &'a [u8], front: &[u8]) -> Option<&'a [u8]>
     bytes.strip_prefix(front)
 }
 
+// What stands behind this line, if the bytes begin with it.
+pub(crate) fn after_line<'a>(bytes: &'a [u8], line: &[u8]) -> Option<&'a [u8]>
+    ensures { MatchOption result ((after : _) → bytes.now ≡ line.now ++ 10 ∷ after → ⊥) (λ after. bytes.now ≡ line.now ++ 10 ∷ after.now) }
+{
+    after_front(after_front(bytes, line)?, b"\n")
+}
+
 // The words of a line from some place on.
 #[derive(Drop)]
 pub(crate) struct Words<'a> {
@@ -71,5 +78,12 @@ impl<'a> Words<'a> {
                 Some(whole)
             }
         }
+    }
+
+    // The bytes of the words that are left, if there are some.
+    pub fn left(&self) -> Option<&'a [u8]>
+        ensures { MatchOption result (self.now ≡ []) (λ bytes. self.now ≡ words bytes.now) }
+    {
+        if self.more { Some(self.rest) } else { None }
     }
 }

@@ -145,7 +145,7 @@ fn push_pipes(alloc: Global, text: &mut Vec<u8>, i: &Instance) -> Result<(), Mem
 }
 
 // Appends the lines of an instance.
-fn push_instance(alloc: Global, text: &mut Vec<u8>, i: &Instance) -> Result<(), Memory>
+pub(crate) fn push_instance(alloc: Global, text: &mut Vec<u8>, i: &Instance) -> Result<(), Memory>
     ensures text { OnOk result (text.new.items ≡ text.old.items ++ text_of (instance_lines i.now)) }
     ensures rules { OnOk result (IsSynchronized i.now) }
 {

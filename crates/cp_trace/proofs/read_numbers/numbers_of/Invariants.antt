@@ -1,6 +1,6 @@
 use Rattle.std.proofs.Common.{◌≡◌, ◌++◌, length, map}
 use Rattle.std.specs.Fmt.{decimal}
-use Rattle.cp_trace.specs.Reading.{AreSmall}
+use Rattle.cp_trace.specs.Faults.{AreSmall}
 use Rattle.cp_trace.proofs.read_numbers.numbers_of.Given as goal
 
 -- the words taken so far spell the numbers
