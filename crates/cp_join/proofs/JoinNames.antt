@@ -1,18 +1,18 @@
 -- What is known where a pipe between two parted vertices is joined: its rows, and that new names are apart.
-use Rattle.std.proofs.Common.{◌≡◌, ◌≢◌, ◌⊎◌, ℕ, ◌<◌, Bool, true, false, ◌||◌, eqb, List, [], ◌∷◌, ◌++◌, length, map, slice_index_or, sym, refl, ap, ◌∙◌, subst, ⊎_elim, arith}
+use Rattle.std.proofs.Common.{◌≡◌, ◌≢◌, ℕ, ◌<◌, true, ◌||◌, eqb, List, ◌++◌, length, slice_index_or, sym, ap, ◌∙◌, subst, ⊎_elim, arith}
 use Rattle.std.specs.Prelude.{Some}
 use Rattle.std.specs.List.{All, Contains}
 use Rattle.std.specs.Option.{option_map_or}
 use Rattle.std.proofs.lemmas.Bool.{cases_Bool, both_ways}
 use Rattle.std.proofs.lemmas.List.{get_or-map, get_or_default, length-map}
 use Rattle.cp_lists.specs.CyclicLists.{Distinct, Has}
-use Rattle.cp_lists.proofs.DistinctLists.{Distinct-apart, Distinct-append_left, Has-append_left, Has-append_right, Has-Contains, has_lacks}
-use Rattle.cp_conn.specs.NamedGraphs.{edges_at, ends_at}
-use Rattle.cp_conn.proofs.NamedGraphs.{edges_at-Contains, Contains-edges_at, map_has}
+use Rattle.cp_lists.proofs.DistinctLists.{Distinct-apart, Distinct-append_left, Has-append_left, Has-append_right, has_lacks}
+use Rattle.cp_conn.specs.NamedGraphs.{ends_at}
+use Rattle.cp_conn.proofs.NamedGraphs.{edges_at-Contains, Contains-edges_at}
 use Rattle.cp_board.specs.declared.parts.EdgeRow.{EdgeRow}
 use Rattle.cp_board.specs.declared.parts.Pipe.{Pipe}
 use Rattle.cp_board.specs.Names.{has, AreNew}
-use Rattle.cp_board.specs.Instances.{Synchronized, IsSynchronized, HasRightEnds, HasRightPairs, graph, edge_in, edge_names, edges_of, ends_of, pipe_named, vert_names, pipe_names}
+use Rattle.cp_board.specs.Instances.{Synchronized, IsSynchronized, HasRightEnds, HasRightPairs, graph, edge_names, edges_of, ends_of, pipe_named, vert_names}
 use Rattle.cp_board.specs.Joins.{ArePartsAt}
 use Rattle.cp_board.proofs.EdgesOfVertices.{touch}
 use Rattle.cp_board.proofs.NamedLists.{found_at, rises_from}
@@ -20,7 +20,7 @@ use Rattle.cp_join.specs.declared.parted_ends.Parting.{Parting}
 use Rattle.cp_join.specs.Partings.{AreParted, new_verts}
 use Rattle.cp_join.proofs.FreshNames.{fresh_once, fresh_other}
 use Rattle.cp_join.proofs.NamedParts.{has_from, has_not}
-use Rattle.cp_join.proofs.PartLists.{all_of, all_once, all_has, all_from}
+use Rattle.cp_join.proofs.PartLists.{all_of, all_has, all_from}
 
 -- the ends of the pipe are parted, and there is a new edge for each pair
 pub record HasPartings (i : Synchronized) (p : Pipe) (s t : Parting) (hats : List ℕ) : Type 0 where

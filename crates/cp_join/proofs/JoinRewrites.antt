@@ -1,16 +1,16 @@
 -- The rewrite of Join fits the instance, and gives what the step makes of it.
-use Rattle.std.proofs.Common.{◌≡◌, ◌≢◌, ℕ, zero, suc, ◌+◌, ◌*◌, ◌^◌, ◌<◌, ◌≤◌, Bool, true, false, not, ◌||◌, cond, eqb, List, [], ◌∷◌, ◌++◌, length, map, slice_index, slice_index_or, sym, refl, ap, ap₂, ◌∙◌, subst, subst₂, inl, inr, ⊎_elim, arith, append_assoc, IsPermutation}
+use Rattle.std.proofs.Common.{◌≡◌, ℕ, ◌*◌, ◌^◌, ◌<◌, ◌≤◌, Bool, not, eqb, List, [], ◌∷◌, ◌++◌, length, map, slice_index, slice_index_or, sym, refl, ap, ap₂, ◌∙◌, subst, inl, inr, ⊎_elim, arith, append_assoc}
 use Rattle.std.specs.Prelude.{Some, find, filter}
 use Rattle.std.specs.List.{All, Contains, flat_map, zip}
 use Rattle.std.specs.Option.{option_map_or}
-use Rattle.std.proofs.lemmas.Bool.{cond-true, cond-false, cases_Bool, eq-eqb, ne_eqb, eqb-true}
-use Rattle.std.proofs.lemmas.List.{get_or_default, get_or-map, length-append, length-map, map-id, map-append}
-use Rattle.std.proofs.lemmas.List.Elements.{All-nil, All-cons, All-contains, All-head, All-tail, All-weaker, Contains-append_left, Contains-append_right, filter-append}
+use Rattle.std.proofs.lemmas.Bool.{cond-true, cond-false, cases_Bool, eqb-true}
+use Rattle.std.proofs.lemmas.List.{get_or_default, length-append, length-map, map-id, map-append}
+use Rattle.std.proofs.lemmas.List.Elements.{All-nil, All-cons, All-contains, All-head, All-tail, Contains-append_left, Contains-append_right, filter-append}
 use Rattle.std.proofs.lemmas.List.Kept.{IsStrictlyIncreasing-filter}
 use Rattle.std.proofs.lemmas.List.Sorted.{Contains-permutation, IsPermutation-sym, length_permutation}
-use Rattle.cp_lists.specs.CyclicLists.{Distinct, Has}
+use Rattle.cp_lists.specs.CyclicLists.{Has}
 use Rattle.cp_lists.proofs.DistinctLists.{Has-Contains}
-use Rattle.cp_conn.specs.NamedGraphs.{rank, edges_at, ends_at}
+use Rattle.cp_conn.specs.NamedGraphs.{rank, ends_at}
 use Rattle.cp_conn.proofs.NamedGraphs.{edges_at-Contains}
 use Rattle.cp_conn.proofs.DistinctSubsets.{subset_length}
 use Rattle.cp_board.specs.declared.parts.Kind.TheVariants.{P}
@@ -20,26 +20,25 @@ use Rattle.cp_board.specs.declared.parts.Pipe.{Pipe}
 use Rattle.cp_board.specs.declared.rewrite.Rewrite.{Rewrite}
 use Rattle.cp_board.specs.declared.steps.Step.TheVariants.{Join}
 use Rattle.cp_board.specs.Names.{has, AreNew}
-use Rattle.cp_board.specs.Changes.{edges_by_name, free_vert, other_pipes, other_verts, pipes_by_name, verts_by_name}
-use Rattle.cp_board.specs.Instances.{Synchronized, IsSynchronized, HasRightEnds, HasRightPairs, cell_of, cells, edge_names, edges_of, graph, kind_in, names_of_verts, pipe_named, pipe_names, vert_names}
-use Rattle.cp_board.specs.Joins.{ArePartsAt, IsJoined, bipartite_edge, part_of, part_pipes, vertex_for}
+use Rattle.cp_board.specs.Changes.{edges_by_name, free_vert, other_pipes, pipes_by_name, verts_by_name}
+use Rattle.cp_board.specs.Instances.{Synchronized, IsSynchronized, HasRightEnds, cell_of, cells, edge_names, edges_of, graph, names_of_verts, pipe_names, vert_names}
+use Rattle.cp_board.specs.Joins.{ArePartsAt, IsJoined, part_pipes, vertex_for}
 use Rattle.cp_board.specs.Reductions.{Performs}
-use Rattle.cp_board.specs.Rewrites.{rewritten, IsRewriteOf, with_kinds, after_moves, verts_with, cells_added, first_ones}
-use Rattle.cp_board.specs.Steps.{Allowed, degree, partner}
+use Rattle.cp_board.specs.Rewrites.{rewritten, IsRewriteOf, verts_with, first_ones}
+use Rattle.cp_board.specs.Steps.{partner}
 use Rattle.cp_join.specs.declared.parted_ends.Parting.{Parting}
-use Rattle.cp_join.specs.Partings.{AreParted, IsParting, FitPairs, new_verts}
+use Rattle.cp_join.specs.Partings.{FitPairs, new_verts}
 use Rattle.cp_join.specs.Joining.{hat_among, hat_row, joining}
 use Rattle.cp_join.proofs.NamedParts.{has_not}
-use Rattle.cp_join.proofs.FreshNames.{fresh_dead}
-use Rattle.cp_join.proofs.PipePairs.{firsts, seconds, first, second, found_once, key_has, rank_first}
-use Rattle.cp_join.proofs.SameLists.{All-from_has, map_ranks, map_same_on}
+use Rattle.cp_join.proofs.PipePairs.{firsts, seconds, second, found_once, key_has, rank_first}
+use Rattle.cp_join.proofs.SameLists.{All-from_has}
 use Rattle.cp_join.proofs.LiveVerts.{kind_live, none_some}
-use Rattle.cp_join.proofs.PartLists.{all_of, all_from, all_has, all_once, part_has}
+use Rattle.cp_join.proofs.PartLists.{all_of, all_from, all_has, part_has}
 use Rattle.cp_join.proofs.PartPipes.{ends_of_all, names_of_pipes}
 use Rattle.cp_join.proofs.RisingLists.{Distinct-rising, Has-flat_map}
 use Rattle.cp_join.proofs.JoinNames.{HasPartings, old_other}
 use Rattle.cp_join.proofs.JoinedMoves.{moved_all, moves_fit}
-use Rattle.cp_join.proofs.JoinedGraph.{joined, hat, row, edges_a, edges_b, partner_a, partner_b, once_firsts, once_seconds, hats_all}
+use Rattle.cp_join.proofs.JoinedGraph.{joined, hat, row, edges_a, partner_a, partner_b, once_firsts, once_seconds, hats_all}
 use Rattle.cp_join.proofs.JoinedRules.{IsSynchronized-joined}
 
 -- no more parts than edges

@@ -1,37 +1,36 @@
 -- The edges of each vertex after Join.
-use Rattle.std.proofs.Common.{◌≡◌, ◌≢◌, ◌⊎◌, ℕ, ◌+◌, ◌<◌, Bool, true, false, ◌||◌, cond, eqb, List, [], ◌∷◌, ◌++◌, length, map, slice_index, slice_index_or, sym, refl, ap, ap₂, ◌∙◌, subst, subst₂, inl, inr, ⊎_elim, arith, IsPermutation}
+use Rattle.std.proofs.Common.{◌≡◌, ℕ, Bool, true, false, ◌||◌, cond, eqb, List, [], ◌∷◌, ◌++◌, length, map, sym, refl, ap, ap₂, ◌∙◌, subst, IsPermutation}
 use Rattle.std.specs.Prelude.{filter}
-use Rattle.std.specs.List.{All, Contains}
+use Rattle.std.specs.List.{All}
 use Rattle.std.specs.List.Sorted.{IsStrictlyIncreasing}
-use Rattle.std.proofs.lemmas.Bool.{cases_Bool, cases_eq, both_ways, cond-true, cond-false, eq-eqb, ne_eqb, eqb-true, or_from}
-use Rattle.std.proofs.lemmas.List.{append-nil, get_or_default, length-map, map-append}
-use Rattle.std.proofs.lemmas.List.Elements.{All-head, All-tail, All-map, All-contains, filter-append}
+use Rattle.std.proofs.lemmas.Bool.{cond-true, cond-false, eq-eqb, ne_eqb}
+use Rattle.std.proofs.lemmas.List.{append-nil, length-map, map-append}
+use Rattle.std.proofs.lemmas.List.Elements.{All-head, All-tail, All-map, filter-append}
 use Rattle.std.proofs.lemmas.List.Kept.{IsStrictlyIncreasing-filter}
-use Rattle.std.proofs.lemmas.List.Sorted.{IsPermutation-map, IsPermutation-sym, IsPermutation-trans}
+use Rattle.std.proofs.lemmas.List.Sorted.{IsPermutation-map, IsPermutation-sym}
 use Rattle.cp_lists.specs.CyclicLists.{Distinct, Has}
-use Rattle.cp_lists.proofs.DistinctLists.{Distinct-append, Distinct-once, Has-Contains, Has-place, Has_at, Lacks-from}
-use Rattle.cp_conn.specs.NamedGraphs.{rank, edges_at, ends_at}
+use Rattle.cp_lists.proofs.DistinctLists.{Distinct-append, Has-Contains, Lacks-from}
+use Rattle.cp_conn.specs.NamedGraphs.{ends_at}
 use Rattle.cp_board.specs.declared.parts.EdgeRow.{EdgeRow}
 use Rattle.cp_board.specs.declared.parts.Pipe.{Pipe}
 use Rattle.cp_board.specs.Names.{has}
 use Rattle.cp_board.specs.Changes.{moved_edges, edges_by_name, verts_by_name, pipes_by_name, other_verts, other_pipes, free_vert}
-use Rattle.cp_board.specs.Instances.{Synchronized, IsSynchronized, graph, vert_names, edge_names, edges_of, ends_in}
-use Rattle.cp_board.specs.Joins.{part_of, vertex_for, edge_for, bipartite_edge, part_pipes}
+use Rattle.cp_board.specs.Instances.{Synchronized, graph, edge_names, edges_of}
+use Rattle.cp_board.specs.Joins.{edge_for, bipartite_edge, part_pipes}
 use Rattle.cp_board.specs.Steps.{partner}
-use Rattle.cp_board.proofs.EdgesOfVertices.{touch, moved_row, names_passing, edges_of-rows}
+use Rattle.cp_board.proofs.EdgesOfVertices.{touch, moved_row, names_passing}
 use Rattle.cp_board.proofs.ListTests.{distinct, rises}
 use Rattle.cp_board.proofs.NamedLists.{by_name_keeps, by_name_same, distinct_from_rises, filter-by_name, rises-by_name, rises_from}
 use Rattle.cp_join.specs.declared.parted_ends.Parting.{Parting}
 use Rattle.cp_join.specs.Partings.{new_verts}
-use Rattle.cp_join.proofs.Permutations.{IsPermutation-Distinct, IsPermutation-Has, IsPermutation-from}
+use Rattle.cp_join.proofs.Permutations.{IsPermutation-Distinct, IsPermutation-Has}
 use Rattle.cp_join.proofs.RisingLists.{Distinct-rising}
 use Rattle.cp_join.proofs.FreshNames.{fresh_once, fresh_other}
-use Rattle.cp_join.proofs.NamedParts.{has_from, from_has, has_not}
-use Rattle.cp_join.proofs.PartLists.{all_of, all_once, all_has, all_from, part_has, part_is, vertex_has}
+use Rattle.cp_join.proofs.NamedParts.{has_from, from_has}
 use Rattle.cp_join.proofs.PipePairs.{firsts, seconds, second, first, second_has, first_has, first_second, second_first}
-use Rattle.cp_join.proofs.SameLists.{map_ranks, map_same_on, All-from_has, All-has, names_kept, none_kept, distinct_from, Has-kept, kept-Has, one_order}
-use Rattle.cp_join.proofs.JoinNames.{HasPartings, IsLiveRow, rows_live, touch_is, row_at, row_from, apart, old_other, outer_a_new, inner_a_new, outer_b_new, inner_b_new}
-use Rattle.cp_join.proofs.JoinedMoves.{to, outer_a, outer_b, outer_a_has, outer_b_has}
+use Rattle.cp_join.proofs.SameLists.{map_ranks, All-from_has, names_kept, none_kept, distinct_from, Has-kept, kept-Has, one_order}
+use Rattle.cp_join.proofs.JoinNames.{HasPartings}
+use Rattle.cp_join.proofs.JoinedMoves.{to}
 
 -- one of the two tests fails
 pub or_second : (a b : Bool) → a ≡ false → (a || b) ≡ b

@@ -1,16 +1,14 @@
 -- A pipe that may be joined: what a board tells of it, its parts and new names are all that the rewrite needs.
-use Rattle.std.proofs.Common.{◌≡◌, ℕ, ◌^◌, ◌<◌, Bool, true, eqb, List, [], ◌∷◌, length, map, sym, refl, ap, ◌∙◌, subst, subst₂, inl, inr, ⊎_elim, arith}
+use Rattle.std.proofs.Common.{◌≡◌, ℕ, ◌^◌, ◌<◌, Bool, true, eqb, List, [], ◌∷◌, length, map, sym, refl, ap, ◌∙◌, subst, subst₂, inl, inr, ⊎_elim}
 use Rattle.std.specs.Prelude.{Some, find}
 use Rattle.std.specs.List.{All, Contains}
 use Rattle.std.specs.Option.{option_map_or}
 use Rattle.std.proofs.lemmas.Bool.{cases_Bool, cond-true, cond-false, eqb-true}
 use Rattle.std.proofs.lemmas.List.Elements.{All-head, All-tail}
-use Rattle.std.proofs.lemmas.List.Sorted.{length_permutation}
 use Rattle.cp_lists.specs.CyclicLists.{Has}
 use Rattle.cp_lists.proofs.DistinctLists.{Has-Contains}
 use Rattle.cp_board.specs.declared.parts.Kind.TheVariants.{P}
 use Rattle.cp_board.specs.declared.parts.Pipe.{Pipe}
-use Rattle.cp_board.specs.declared.rewrite.Rewrite.{Rewrite}
 use Rattle.cp_board.specs.declared.steps.Step.TheVariants.{Join}
 use Rattle.cp_board.specs.Names.{AreNew, new_names}
 use Rattle.cp_board.specs.Instances.{Synchronized, IsSynchronized, HasRightEnds, HasRightPairs, edge_names, graph, pairs_of, pipe_ends_of, pipe_named, pipe_names, vert_names}

@@ -1,27 +1,24 @@
 -- After Join the five rules hold.
-use Rattle.std.proofs.Common.{◌≡◌, ◌≢◌, ℕ, zero, suc, ◌+◌, ◌*◌, ◌^◌, ◌<◌, ◌≤◌, Bool, true, false, not, ◌||◌, cond, eqb, ltb, List, [], ◌∷◌, ◌++◌, length, map, take, slice_index, slice_index_or, sym, refl, ap, ap₂, ◌∙◌, subst, inl, inr, ⊎_elim, arith, append_assoc, IsPermutation}
-use Rattle.std.specs.Prelude.{Option, Some, None, find, filter}
-use Rattle.std.specs.List.{All, Contains, flat_map, zip}
+use Rattle.std.proofs.Common.{◌≡◌, ◌≢◌, ℕ, ◌+◌, ◌^◌, ◌<◌, ◌≤◌, Bool, true, false, not, ◌||◌, eqb, List, [], ◌∷◌, ◌++◌, length, map, slice_index, slice_index_or, sym, refl, ap, ap₂, ◌∙◌, subst, ⊎_elim, arith, append_assoc, IsPermutation}
+use Rattle.std.specs.Prelude.{Some, find, filter}
+use Rattle.std.specs.List.{All, Contains, flat_map}
 use Rattle.std.specs.Option.{option_map, option_or}
-use Rattle.std.proofs.lemmas.Bool.{both_ways, cases_Bool, cond-true, cond-false, cond_both, eq-eqb, ne_eqb, eqb-true, or_parts, not-true}
-use Rattle.std.proofs.lemmas.List.{append-nil, get_or-map, get_or-append-add, get_or_default, length-append, length-map, map-append}
-use Rattle.std.proofs.Math.ListN.{get_or-append}
+use Rattle.std.proofs.lemmas.Bool.{both_ways, cond_both, eq-eqb, ne_eqb, or_parts, not-true}
+use Rattle.std.proofs.lemmas.List.{get_or-map, length-map, map-append}
 use Rattle.std.proofs.lemmas.Grind.{flat_map-append}
 use Rattle.std.proofs.lemmas.List.Folds.{find-append}
-use Rattle.std.proofs.lemmas.List.Elements.{All-nil, All-cons, All-head, All-tail, All-append, All-filter, All-map, All-weaker, filter_passes}
-use Rattle.std.proofs.lemmas.List.Sorted.{All-permutation, IsPermutation-append, IsPermutation-append_comm, IsPermutation-append_left, IsPermutation-append_right, IsPermutation-cons, IsPermutation-map, IsPermutation-middle, IsPermutation-refl, IsPermutation-sym, IsPermutation-trans}
+use Rattle.std.proofs.lemmas.List.Elements.{All-nil, All-head, All-tail, All-append, All-filter, All-map, All-weaker, filter_passes}
+use Rattle.std.proofs.lemmas.List.Sorted.{All-permutation, IsPermutation-append, IsPermutation-append_right, IsPermutation-map, IsPermutation-trans}
 use Rattle.std.proofs.lemmas.Map.Views.{All-map-IsPermutation}
-use Rattle.cp_lists.specs.CyclicLists.{Distinct, Has, Lacks}
-use Rattle.cp_lists.proofs.DistinctLists.{Distinct-append, Distinct-append_left, Distinct-append_right, Has-append_cases, Has-append_left, Has-append_right, Has-Contains, Has_at, Lacks-from, has_lacks}
-use Rattle.cp_conn.specs.NamedGraphs.{NamedGraph, edges_at}
-use Rattle.cp_board.specs.declared.parts.Kind.{Kind}
-use Rattle.cp_board.specs.declared.parts.Kind.TheVariants.{P, Q}
+use Rattle.cp_lists.specs.CyclicLists.{Distinct, Has}
+use Rattle.cp_lists.proofs.DistinctLists.{Distinct-append, Has-append_left, Has-append_right, Has-Contains, Has_at, Lacks-from, has_lacks}
+use Rattle.cp_board.specs.declared.parts.Kind.TheVariants.{P}
 use Rattle.cp_board.specs.declared.parts.Vert.{Vert}
 use Rattle.cp_board.specs.declared.parts.EdgeRow.{EdgeRow}
 use Rattle.cp_board.specs.declared.parts.Pipe.{Pipe}
-use Rattle.cp_board.specs.Names.{has, put, by_name}
+use Rattle.cp_board.specs.Names.{has}
 use Rattle.cp_board.specs.Changes.{free_vert, other_verts, other_pipes}
-use Rattle.cp_board.specs.Instances.{Synchronized, IsSynchronized, AreNames, HasRightEnds, HasRightPairs, IsRightKind, graph, cell_of, edge_names, edges_of, kind_in, pipe_names, vert_names}
+use Rattle.cp_board.specs.Instances.{Synchronized, IsSynchronized, HasRightEnds, HasRightPairs, IsRightKind, graph, cell_of, edge_names, edges_of, kind_in, pipe_names, vert_names}
 use Rattle.cp_board.specs.Joins.{part_pipes}
 use Rattle.cp_board.specs.Steps.{partner}
 use Rattle.cp_board.proofs.DroppedPipes.{IsSynchronized-fewer_pipes}
@@ -33,13 +30,13 @@ use Rattle.cp_join.specs.Partings.{new_verts}
 use Rattle.cp_join.proofs.Permutations.{IsPermutation-Distinct, IsPermutation-Has}
 use Rattle.cp_join.proofs.RisingLists.{Distinct-rising}
 use Rattle.cp_join.proofs.FreshNames.{fresh_once, fresh_other, fresh_small}
-use Rattle.cp_join.proofs.NamedParts.{has_from, has_not}
+use Rattle.cp_join.proofs.NamedParts.{has_not}
 use Rattle.cp_join.proofs.SameLists.{All-from_has, names_kept, distinct_from, Has-kept, kept-Has}
 use Rattle.cp_join.proofs.PartPipes.{ends, ends_of_all, flat_by_name, names_of_pipes, ends_of_pipes, All-part_pipes, firsts_of_pipe, seconds_of_pipe, others_apart}
 use Rattle.cp_join.proofs.LiveVerts.{All-by_item, All-values, kind_live, kind_kept, found_kept, found_free, none_found, found_or}
 use Rattle.cp_join.proofs.JoinNames.{HasPartings, IsLiveRow, rows_live, new_once, apart, old_other, outer_a_new, inner_a_new, outer_b_new, inner_b_new}
 use Rattle.cp_join.proofs.JoinedMoves.{to, outer_a, outer_b}
-use Rattle.cp_join.proofs.JoinedGraph.{joined, row, hat, edges_a, kept_rows, new_rows, names_all, names_differ, edges_once}
+use Rattle.cp_join.proofs.JoinedGraph.{joined, row, hat, edges_a, kept_rows, new_rows, names_all, names_differ}
 use Rattle.cp_join.proofs.JoinedVertices.{by_end, first_touch, second_touch, inner_a, inner_b, inner_a_has, inner_b_has, edges_of_old, edges_of_outer_a, edges_of_outer_b, edges_of_inner_a, edges_of_inner_b}
 
 module _ (i : Synchronized) (p : Pipe) (s t : Parting) (hats : List ℕ) (h : HasPartings i p s t hats)

@@ -1,8 +1,7 @@
 -- The edges of old, outer and inner vertices after Join.
-use Rattle.std.proofs.Common.{◌≡◌, ◌≢◌, ℕ, ◌+◌, ◌<◌, Bool, true, false, ◌||◌, cond, eqb, List, [], ◌∷◌, ◌++◌, length, map, slice_index, slice_index_or, sym, refl, ap, ◌∙◌, subst, inl, inr, ⊎_elim, arith, IsPermutation}
+use Rattle.std.proofs.Common.{◌≡◌, ◌≢◌, ℕ, ◌<◌, Bool, true, false, ◌||◌, cond, eqb, List, [], ◌∷◌, ◌++◌, length, map, slice_index, slice_index_or, sym, refl, ap, ◌∙◌, subst, inl, inr, ⊎_elim, arith, IsPermutation}
 use Rattle.std.specs.Prelude.{filter}
 use Rattle.std.specs.List.{All, Contains}
-use Rattle.std.specs.List.Sorted.{IsStrictlyIncreasing}
 use Rattle.std.proofs.lemmas.Bool.{cases_Bool, cases_eq, both_ways, cond-true, cond-false, cond_both, eq-eqb, ne_eqb, eqb-true, or_cases, or_from, or_left, or_right}
 use Rattle.std.proofs.lemmas.List.Sorted.{IsPermutation-map, IsPermutation-trans}
 use Rattle.cp_lists.specs.CyclicLists.{Distinct, Has, Lacks}
@@ -25,7 +24,7 @@ use Rattle.cp_join.proofs.PartLists.{all_of, all_once, all_has, all_from, part_h
 use Rattle.cp_join.proofs.SameLists.{All-from_has, Has-kept, kept-Has}
 use Rattle.cp_join.proofs.JoinNames.{HasPartings, IsLiveRow, rows_live, touch_is, row_at, row_from, new_once, apart, old_other, outer_a_new, inner_a_new, outer_b_new, inner_b_new}
 use Rattle.cp_join.proofs.JoinedMoves.{to, outer_a, outer_b, outer_a_has, outer_b_has}
-use Rattle.cp_join.proofs.JoinedGraph.{joined, row, hat, edges_a, edges_b, kept_part, or_first, or_second, rise_at, once_at, no_new_edge, no_old_edge, partner_of_a, partner_of_b, partner_back, partner_forth}
+use Rattle.cp_join.proofs.JoinedGraph.{joined, row, hat, edges_a, kept_part, or_first, or_second, rise_at, once_at, no_new_edge, no_old_edge, partner_of_a, partner_of_b, partner_back, partner_forth}
 
 -- the vertex for an edge is that at a place exactly where the part at this place has the edge
 vertex_eq : (parts : List (List ℕ)) (verts : List ℕ) (k e : ℕ) → Distinct (all_of parts) → length verts ≡ length parts

@@ -1,6 +1,6 @@
 -- The blocks at a vertex of the numbered graph, by the names of their edges, are the parts at the vertex.
-use Rattle.std.proofs.Common.{◌≡◌, ◌≢◌, ℕ, ◌+◌, ◌*◌, ◌/◌, ◌<◌, ◌↔◌, Bool, true, false, eqb, List, [], ◌∷◌, length, map, slice_index, slice_index_or, sym, refl, ap, ◌∙◌, subst, subst₂, inl, inr, ⊎_elim, arith, IsPermutation}
-use Rattle.std.specs.List.{All, Contains, flat_map, position_or_len}
+use Rattle.std.proofs.Common.{◌≡◌, ◌≢◌, ℕ, ◌+◌, ◌<◌, ◌↔◌, true, false, eqb, List, [], ◌∷◌, length, map, slice_index, slice_index_or, sym, refl, ap, ◌∙◌, subst, subst₂, inl, inr, ⊎_elim, arith}
+use Rattle.std.specs.List.{All, Contains, flat_map}
 use Rattle.std.specs.List.Sorted.{IsStrictlyIncreasing}
 use Rattle.std.proofs.lemmas.Bool.{cases_Bool, eq-eqb, eqb-true, or_cases, or_left, or_right}
 use Rattle.std.proofs.lemmas.List.{get_or-map, get_or_default, length-map}
@@ -9,11 +9,9 @@ use Rattle.std.proofs.lemmas.List.Kept.{IsStrictlyIncreasing-filter}
 use Rattle.std.proofs.lemmas.List.Sums.{position_or_len_is}
 use Rattle.cp_lists.specs.CyclicLists.{Distinct, Has}
 use Rattle.cp_lists.proofs.DistinctLists.{Distinct-once, Has-Contains, Has-place, Has_at}
-use Rattle.cp_orbits.specs.Connected.{Connected, Joins}
 use Rattle.cp_base.specs.Graphs.{AreWithin}
 use Rattle.cp_conn.specs.Blocks.{HaveNoLoop, AreInOneBlock, AreBlocksAt, Touches, item}
-use Rattle.cp_conn.specs.CutVertex.{without_vertex}
-use Rattle.cp_conn.specs.NamedGraphs.{NamedGraph, pairs, ends_at, edges_at, far, rank, InOneBlock}
+use Rattle.cp_conn.specs.NamedGraphs.{NamedGraph, pairs, ends_at, edges_at, rank}
 use Rattle.cp_conn.proofs.BlockParts.{StandsIn, HasWholeBlocks, blocks_of_part}
 use Rattle.cp_conn.proofs.NamedGraphs.{rank_at, rank_is, length-pairs, edges_at-Contains, Contains-edges_at, InOneBlock_at, edge_at}
 use Rattle.cp_sync.specs.Numbering.{numbered_ends}

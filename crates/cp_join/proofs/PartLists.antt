@@ -1,13 +1,13 @@
 -- The parts of the edges of a vertex: where each edge is, and what stands at its place.
-use Rattle.std.proofs.Common.{◌≡◌, ◌≢◌, ℕ, zero, suc, ◌+◌, ◌<◌, ◌≤◌, Bool, true, false, List, [], ◌∷◌, ◌++◌, length, slice_index, slice_index_or, sym, refl, ap, ◌∙◌, subst, ⊎_elim, arith, IsPermutation}
-use Rattle.std.specs.List.{All, Contains, flat_map, position_or_len}
+use Rattle.std.proofs.Common.{◌≡◌, ℕ, zero, suc, ◌<◌, ◌≤◌, Bool, true, List, [], ◌∷◌, length, slice_index_or, ⊎_elim, arith}
+use Rattle.std.specs.List.{Contains, flat_map, position_or_len}
 use Rattle.std.specs.List.Sorted.{IsStrictlyIncreasing}
-use Rattle.std.proofs.lemmas.Bool.{both_ways, cases_lt, cases_order}
+use Rattle.std.proofs.lemmas.Bool.{both_ways, cases_lt}
 use Rattle.std.proofs.lemmas.List.Kept.{IsStrictlyIncreasing-filter}
 use Rattle.std.proofs.lemmas.List.Sums.{fails_before_first, passes_at_first}
 use Rattle.std.proofs.lemmas.List.Sorted.{IsPermutation-sym}
 use Rattle.cp_lists.specs.CyclicLists.{Distinct, Has}
-use Rattle.cp_lists.proofs.DistinctLists.{Distinct-apart, Distinct-append_left, Distinct-append_right, Has-Contains, Has_at, has_lacks}
+use Rattle.cp_lists.proofs.DistinctLists.{Distinct-apart, Distinct-append_right, Has-Contains, Has_at, has_lacks}
 use Rattle.cp_conn.specs.NamedGraphs.{NamedGraph, edges_at, ends_at}
 use Rattle.cp_board.specs.Names.{has}
 use Rattle.cp_board.specs.Joins.{ArePartsAt, part_of, vertex_for}

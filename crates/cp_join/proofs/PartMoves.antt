@@ -1,11 +1,11 @@
 -- Moves of the edges of a vertex to the vertices for their parts.
-use Rattle.std.proofs.Common.{◌≡◌, ◌≢◌, ◌⊎◌, ℕ, zero, suc, ◌+◌, ◌<◌, Bool, true, false, ◌||◌, cond, eqb, List, [], ◌∷◌, ◌++◌, length, map, flat_map, not, slice_index, sym, refl, ap, ◌∙◌, subst, inl, inr, ⊎_elim, arith}
-use Rattle.std.specs.List.{All, Contains, zip}
-use Rattle.std.proofs.lemmas.Bool.{cases_Bool, cases_eq, cond_both, cond-true, cond-false, eq-eqb, ne_eqb, eqb-true, or_cases}
+use Rattle.std.proofs.Common.{◌≡◌, ◌≢◌, ℕ, suc, ◌+◌, Bool, true, false, ◌||◌, cond, eqb, List, [], ◌∷◌, ◌++◌, length, map, not, slice_index, sym, refl, ap, ◌∙◌, subst, inl, inr, ⊎_elim, arith}
+use Rattle.std.specs.List.{All, Contains}
+use Rattle.std.proofs.lemmas.Bool.{cases_eq, cond_both, cond-true, cond-false, eq-eqb, ne_eqb}
 use Rattle.std.proofs.lemmas.List.{map-append}
-use Rattle.std.proofs.lemmas.List.Elements.{All-nil, All-cons, All-head, All-tail, All-append, All-contains}
+use Rattle.std.proofs.lemmas.List.Elements.{All-nil, All-cons, All-head, All-tail, All-append}
 use Rattle.cp_lists.specs.CyclicLists.{Distinct, Has, Lacks}
-use Rattle.cp_lists.proofs.DistinctLists.{Distinct-apart, Distinct-append_left, Distinct-append_right, Has-append_left, Has-append_right, Has-append_cases, has_lacks}
+use Rattle.cp_lists.proofs.DistinctLists.{Distinct-apart, Distinct-append_left, Distinct-append_right, Has-append_left, Has-append_right, has_lacks}
 use Rattle.cp_conn.proofs.NamedGraphs.{map_has}
 use Rattle.cp_board.specs.declared.parts.EdgeRow.{EdgeRow}
 use Rattle.cp_board.specs.declared.rewrite.EdgeMove.{EdgeMove}
@@ -13,7 +13,7 @@ use Rattle.cp_board.specs.Names.{has}
 use Rattle.cp_board.specs.Joins.{part_of, vertex_for}
 use Rattle.cp_board.specs.Rewrites.{moved_end, after_moves, IsMove, AreMoves}
 use Rattle.cp_join.specs.Joining.{moves_to, part_moves}
-use Rattle.cp_join.proofs.NamedParts.{has_from, from_has, has_not}
+use Rattle.cp_join.proofs.NamedParts.{from_has, has_not}
 use Rattle.cp_join.proofs.PartLists.{all_of}
 
 abbrev pub move : ℕ → ℕ → ℕ → EdgeMove

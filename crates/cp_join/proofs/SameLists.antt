@@ -1,17 +1,17 @@
 -- Lists that are equal, or equal up to their order.
-use Rattle.std.proofs.Common.{◌≡◌, ◌≢◌, ◌⊎◌, ℕ, zero, suc, ◌+◌, ◌<◌, ◌≤◌, Bool, true, false, not, ◌||◌, ◌&&◌, cond, eqb, ltb, List, [], ◌∷◌, ◌++◌, length, map, slice_index, slice_index_or, sym, refl, ap, ◌∙◌, subst, inl, inr, ⊎_elim, arith, IsPermutation}
+use Rattle.std.proofs.Common.{◌≡◌, ℕ, zero, suc, ◌<◌, ◌≤◌, Bool, true, false, not, cond, ltb, List, [], ◌∷◌, length, map, slice_index, sym, refl, ap, ◌∙◌, subst, inl, inr, ⊎_elim, arith}
 use Rattle.std.specs.Prelude.{filter}
-use Rattle.std.specs.List.{All, Contains}
-use Rattle.std.proofs.lemmas.Bool.{and_from, and_parts, both_ways, ltb-true, cases_Bool, cond-true, cond-false, cond_both}
+use Rattle.std.specs.List.{All}
+use Rattle.std.proofs.lemmas.Bool.{and_from, and_parts, ltb-true, cases_Bool, cond-true, cond-false, cond_both}
 use Rattle.std.proofs.lemmas.List.{get_or-map, length-map}
 use Rattle.std.proofs.lemmas.List.Elements.{All-head, All-tail}
-use Rattle.cp_lists.specs.CyclicLists.{Distinct, Has, Lacks}
-use Rattle.cp_lists.proofs.DistinctLists.{Has_at, has_lacks}
+use Rattle.cp_lists.specs.CyclicLists.{Distinct, Has}
+use Rattle.cp_lists.proofs.DistinctLists.{has_lacks}
 use Rattle.cp_conn.specs.NamedGraphs.{rank}
 use Rattle.cp_conn.proofs.NamedGraphs.{rank_is}
 use Rattle.cp_board.specs.Names.{has}
 use Rattle.cp_board.proofs.ListTests.{distinct, rises}
-use Rattle.cp_join.proofs.NamedParts.{has_from, from_has, has_not}
+use Rattle.cp_join.proofs.NamedParts.{has_not}
 
 -- lists that agree at each place are equal
 pub same_places : (xs ys : List ℕ) → length xs ≡ length ys

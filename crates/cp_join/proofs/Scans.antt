@@ -1,9 +1,9 @@
 -- What a scan of a list has found.
-use Rattle.std.proofs.Common.{◌≡◌, ◌≢◌, ℕ, ◌+◌, ◌<◌, ◌≤◌, Bool, true, false, ◌||◌, eqb, List, [], ◌∷◌, ◌++◌, length, take, slice_index, slice_index_or, sym, refl, ap, ◌∙◌, subst, ⊎_elim, arith, Ok, Err}
+use Rattle.std.proofs.Common.{◌≡◌, ◌≢◌, ℕ, ◌+◌, ◌<◌, ◌≤◌, Bool, true, false, ◌||◌, eqb, List, [], ◌∷◌, ◌++◌, length, take, slice_index, slice_index_or, sym, ap, ◌∙◌, subst, ⊎_elim, arith}
 use Rattle.std.specs.List.{Contains}
 use Rattle.std.specs.List.Sorted.{IsStrictlyIncreasing}
 use Rattle.std.proofs.lemmas.Bool.{eq-eqb, ne_eqb, cases_order}
-use Rattle.std.proofs.lemmas.List.{get_or_default, take_more}
+use Rattle.std.proofs.lemmas.List.{take_more}
 use Rattle.std.proofs.lemmas.List.Sums.{position_or_len_is}
 use Rattle.cp_lists.specs.CyclicLists.{Has}
 use Rattle.cp_lists.proofs.DistinctLists.{Has-Contains, Has-place, Has_at}
@@ -11,7 +11,7 @@ use Rattle.cp_conn.specs.NamedGraphs.{rank}
 use Rattle.cp_conn.proofs.NamedGraphs.{rank_is}
 use Rattle.cp_board.specs.Names.{has}
 use Rattle.cp_board.specs.Joins.{part_of}
-use Rattle.cp_join.proofs.NamedParts.{has_from, has_not}
+use Rattle.cp_join.proofs.NamedParts.{has_from}
 use Rattle.cp_join.proofs.RisingLists.{Distinct-rising, rising_order}
 
 -- an item that stands in the list passes

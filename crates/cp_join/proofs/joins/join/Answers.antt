@@ -1,5 +1,5 @@
 -- What the board tells of the pipe, its parts and the new names make the rewrite.
-use Rattle.std.proofs.Common.{◌≡◌, ℕ, ◌∙◌, sym, ap, subst}
+use Rattle.std.proofs.Common.{ℕ, ◌∙◌, sym, subst}
 use Rattle.std.specs.List.{Contains}
 use Rattle.cp_board.specs.declared.steps.Step.TheVariants.{Join}
 use Rattle.cp_board.specs.Instances.{vert_names}

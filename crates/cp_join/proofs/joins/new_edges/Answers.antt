@@ -1,6 +1,5 @@
 -- The new edge of one pair more.
-use Rattle.std.proofs.Common.{◌≡◌, ℕ, ◌<◌, List, [], ◌∷◌, ◌++◌, ◌∙◌, length, map, take, slice_index, slice_index_or, sym, ap, ap₂, subst₂}
-use Rattle.std.specs.List.{zip}
+use Rattle.std.proofs.Common.{◌≡◌, ℕ, ◌<◌, [], ◌∷◌, ◌++◌, ◌∙◌, length, slice_index, slice_index_or, sym, ap, ap₂, subst₂}
 use Rattle.cp_board.specs.declared.parts.EdgeRow.{EdgeRow}
 use Rattle.cp_board.specs.Joins.{part_of, vertex_for}
 use Rattle.cp_join.specs.Joining.{hat_row}

@@ -1,5 +1,5 @@
 -- The new names are cut into those for the parts of both ends.
-use Rattle.std.proofs.Common.{◌≡◌, ◌+◌, ◌*◌, ◌≤◌, ◌∙◌, length, take, drop, sym, ap, ap₂, arith}
+use Rattle.std.proofs.Common.{◌≡◌, ◌+◌, ◌*◌, ◌∙◌, length, take, drop, ap, ap₂, arith}
 use Rattle.cp_board.specs.Names.{new_names}
 use Rattle.cp_board.specs.Instances.{pipe_names, vert_names}
 use Rattle.cp_board.proofs.NumberOfNewNames.{length-new_names}

@@ -1,6 +1,5 @@
 -- A binary search finds each number that is one of those that rise.
-use Rattle.std.proofs.Common.{◌<◌, ◌≤◌, ◌≡◌, ℕ, length, slice_index, Ok, Err, subst, arith, ⊎_elim}
-use Rattle.std.specs.Prelude.{MatchResult}
+use Rattle.std.proofs.Common.{◌<◌, ◌≤◌, Ok, Err, arith, ⊎_elim}
 use Rattle.std.proofs.lemmas.Bool.{cases_lt}
 use Rattle.std.proofs.lemmas.List.Sorted.{searched}
 use Rattle.cp_lists.proofs.DistinctLists.{Has-Contains, Has-place}
