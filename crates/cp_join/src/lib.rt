@@ -1,0 +1,9 @@
+//! The reduction Join of synchronized planarity at a pipe between two cut vertices (Bläsius, Fink, Rutter 2021).
+#![tactic(auto)]
+
+mod joins;
+mod parted_ends;
+mod vertex_parts;
+
+pub use joins::join;
+pub use vertex_parts::parts_at;
