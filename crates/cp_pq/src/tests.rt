@@ -10,10 +10,23 @@ ghost use Rattle.cp_pq.specs.SmallTrees.{are_apart, is_star_with, HasLeaves, Are
 use crate::{Node, Part, ReduceFault, Tree, reduce, replace, star};
 use cp_base::{Equation, Equations, Items, Memory};
 use std::alloc::Global;
-use std::test::Fail;
 
 // The owner of each star.
 const OWNER: usize = 7;
+
+// Vars 0 and 1 have one bit.
+const SAME: Equation = Equation {
+    x: 0,
+    y: 1,
+    odd: false,
+};
+
+// No bits meet this equation.
+const CONTRADICTION: Equation = Equation {
+    x: 0,
+    y: 0,
+    odd: true,
+};
 
 // The star with this root and these leaves, reduced by three sets.
 fn star_reduced(
@@ -64,11 +77,7 @@ fn with_contradiction(vars: usize, equations: Equations) -> Result<Equations, Me
     if vars == 0 {
         return Ok(all);
     }
-    all.push(Equation {
-        x: 0,
-        y: 0,
-        odd: true,
-    })?;
+    all.push(CONTRADICTION)?;
     Ok(all)
 }
 
@@ -237,136 +246,227 @@ fn written_part(alloc: Global, part: &Part) -> Result<Items<usize>, Memory> {
     Ok(text)
 }
 
+// What a tree is written as, how many orders its body has where each Q-node is read in either direction, and its
+// equations.
+type Wanted = (&'static [usize], usize, &'static [Equation]);
+
+// Whether the tree is the one that is wanted.
+fn is_wanted(alloc: Global, tree: &Tree, (text, count, equations): Wanted) -> Result<bool, Memory> {
+    let own = written(alloc, tree)?;
+    Ok(own.items() == text && orders(tree.body()) == count && tree.equations() == equations)
+}
+
+// Whether the star reduced by three sets is the tree that is wanted.
+fn reduces_to(
+    alloc: Global,
+    root: usize,
+    leaves: &[usize],
+    first: &[usize],
+    second: &[usize],
+    last: &[usize],
+    want: Wanted,
+) -> Result<bool, ReduceFault>
+    requires first { IsTrue (is_star_with root leaves.now first.now) }
+    requires second { IsTrue (is_star_with root leaves.now second.now) }
+    requires last { IsTrue (is_star_with root leaves.now last.now) }
+{
+    let tree = star_reduced(alloc, root, leaves, first, second, last)?;
+    let is = is_wanted(alloc, &tree, want)?;
+    Ok(is)
+}
+
+// Whether the contradicted tree of the star, reduced again, is the tree that is wanted.
+fn contradicted_to(
+    alloc: Global,
+    root: usize,
+    leaves: &[usize],
+    first: &[usize],
+    second: &[usize],
+    last: &[usize],
+    want: Wanted,
+) -> Result<bool, ReduceFault>
+    requires first { IsTrue (is_star_with root leaves.now first.now) }
+    requires second { IsTrue (is_star_with root leaves.now second.now) }
+    requires last { IsTrue (is_star_with root leaves.now last.now) }
+{
+    let tree = contradicted_and_reduced(alloc, root, leaves, first, second, last)?;
+    let is = is_wanted(alloc, &tree, want)?;
+    Ok(is)
+}
+
+// Whether the star reduced by three sets, with the leaf in place of the last set, is the tree that is wanted, and what
+// the set filled is written as the part, with this var.
+fn replaces_to(
+    alloc: Global,
+    root: usize,
+    leaves: &[usize],
+    first: &[usize],
+    second: &[usize],
+    last: &[usize],
+    leaf: usize,
+    want: Wanted,
+    filled: (&'static [usize], Option<usize>),
+) -> Result<bool, ReduceFault>
+    requires first { IsTrue (is_star_with root leaves.now first.now) }
+    requires second { IsTrue (is_star_with root leaves.now second.now) }
+    requires last { IsTrue (is_star_with root leaves.now last.now) }
+    requires fresh { IsTrue (are_apart (leaf ∷ root ∷ leaves.now)) }
+{
+    let (part, var) = filled;
+    let (tree, taken) = star_replaced(alloc, root, leaves, first, second, last, leaf)?;
+    let is = is_wanted(alloc, &tree, want)?;
+    let own = written_part(alloc, &taken)?;
+    Ok(is && own.items() == part && taken.var == var)
+}
+
+// How many inner nodes of the chain stand one below the other.
+fn chain_depth(alloc: Global, count: usize) -> Result<usize, ReduceFault>
+    requires { 0 < count }
+{
+    let tree = chain(alloc, count)?;
+    Ok(depth(tree.body()))
+}
+
+// How many inner nodes of the reduced deep tree stand one below the other.
+fn reduced_depth(alloc: Global, count: usize) -> Result<usize, ReduceFault>
+    requires { 2 < count }
+{
+    let tree = deep_reduced(alloc, count)?;
+    Ok(depth(tree.body()))
+}
+
 #[test]
-fn a_star_keeps_the_orders_with_a_set_consecutive(rt: HostRuntime) -> Result<(), Fail> {
+fn a_star_keeps_the_orders_with_a_set_consecutive(rt: HostRuntime) {
     let alloc = rt.alloc();
-    let all = star_reduced(alloc, 0, &[1, 2, 3, 4], &[1], &[3], &[1, 2, 3, 4])?;
+    let all: Wanted = (&[1, 7, 11, 12, 13, 14, 0], 24, &[]);
+    let half: Wanted = (&[1, 7, 13, 14, 1, 7, 11, 12, 0, 0], 12, &[]);
     assert_eq!(rt;
-        written(alloc, &all)?.items(),
-        [1, 7, 11, 12, 13, 14, 0].as_slice()
+        reduces_to(alloc, 0, &[1, 2, 3, 4], &[1], &[3], &[1, 2, 3, 4], all),
+        Ok(true)
     );
-    assert_eq!(rt; orders(all.body()), 24);
-    assert_eq!(rt; all.vars(), 0);
-    let half = star_reduced(alloc, 0, &[1, 2, 3, 4], &[1, 2], &[3], &[1, 2])?;
     assert_eq!(rt;
-        written(alloc, &half)?.items(),
-        [1, 7, 13, 14, 1, 7, 11, 12, 0, 0].as_slice()
+        reduces_to(alloc, 0, &[1, 2, 3, 4], &[1, 2], &[3], &[1, 2], half),
+        Ok(true)
     );
-    assert_eq!(rt; orders(half.body()), 12);
-    Ok(())
 }
 
 #[test]
-fn sets_that_meet_are_joined_in_a_q_node(rt: HostRuntime) -> Result<(), Fail> {
+fn sets_that_meet_are_joined_in_a_q_node(rt: HostRuntime) {
     let alloc = rt.alloc();
-    let three = star_reduced(alloc, 0, &[1, 2, 3], &[1, 2], &[2, 3], &[1, 2])?;
+    let three: Wanted = (&[2, 0, 11, 12, 13, 0], 2, &[]);
+    let beside: Wanted = (&[1, 7, 14, 2, 0, 11, 12, 13, 0, 0], 4, &[]);
     assert_eq!(rt;
-        written(alloc, &three)?.items(),
-        [2, 0, 11, 12, 13, 0].as_slice()
-    );
-    let beside = star_reduced(alloc, 0, &[1, 2, 3, 4], &[1, 2], &[2, 3], &[2, 3])?;
-    assert_eq!(rt;
-        written(alloc, &beside)?.items(),
-        [1, 7, 14, 2, 0, 11, 12, 13, 0, 0].as_slice()
-    );
-    let four = star_reduced(alloc, 0, &[1, 2, 3, 4], &[1, 2], &[2, 3], &[3, 4])?;
-    assert_eq!(rt;
-        written(alloc, &four)?.items(),
-        [2, 1, 11, 12, 13, 14, 0].as_slice()
+        reduces_to(alloc, 0, &[1, 2, 3], &[1, 2], &[2, 3], &[1, 2], three),
+        Ok(true)
     );
     assert_eq!(rt;
-        four.equations(),
-        [Equation {
-            x: 0,
-            y: 1,
-            odd: false
-        }]
-        .as_slice()
+        reduces_to(alloc, 0, &[1, 2, 3, 4], &[1, 2], &[2, 3], &[2, 3], beside),
+        Ok(true)
     );
-    Ok(())
 }
 
 #[test]
-fn a_set_apart_in_each_order_is_refused(rt: HostRuntime) -> Result<(), Fail> {
-    let refused = star_reduced(rt.alloc(), 0, &[1, 2, 3], &[1, 2], &[2, 3], &[1, 3]);
-    assert_eq!(rt; refused.err(), Some(ReduceFault::NotConsecutive));
-    Ok(())
+fn q_nodes_that_meet_are_tied(rt: HostRuntime) {
+    let four: Wanted = (&[2, 1, 11, 12, 13, 14, 0], 2, &[SAME]);
+    assert_eq!(rt;
+        reduces_to(
+            rt.alloc(),
+            0,
+            &[1, 2, 3, 4],
+            &[1, 2],
+            &[2, 3],
+            &[3, 4],
+            four
+        ),
+        Ok(true)
+    );
 }
 
 #[test]
-fn equations_alone_do_not_refuse(rt: HostRuntime) -> Result<(), Fail> {
+fn a_set_apart_in_each_order_is_refused(rt: HostRuntime) {
+    assert_eq!(rt;
+        reduces_to(
+            rt.alloc(),
+            0,
+            &[1, 2, 3],
+            &[1, 2],
+            &[2, 3],
+            &[1, 3],
+            (&[], 0, &[])
+        ),
+        Err(ReduceFault::NotConsecutive)
+    );
+}
+
+#[test]
+fn equations_alone_do_not_refuse(rt: HostRuntime) {
+    let want: Wanted = (&[2, 0, 11, 12, 13, 0], 2, &[CONTRADICTION]);
+    assert_eq!(rt;
+        contradicted_to(rt.alloc(), 0, &[1, 2, 3], &[1, 2], &[2, 3], &[1, 2], want),
+        Ok(true)
+    );
+}
+
+#[test]
+fn a_node_is_replaced(rt: HostRuntime) {
     let alloc = rt.alloc();
-    let tree = contradicted_and_reduced(alloc, 0, &[1, 2, 3], &[1, 2], &[2, 3], &[1, 2])?;
+    let for_leaf: Wanted = (&[1, 7, 15, 14, 1, 7, 11, 12, 0, 0], 12, &[]);
+    let for_all: Wanted = (&[1, 7, 13, 14, 15, 0], 6, &[]);
     assert_eq!(rt;
-        written(alloc, &tree)?.items(),
-        [2, 0, 11, 12, 13, 0].as_slice()
+        replaces_to(
+            alloc,
+            0,
+            &[1, 2, 3, 4],
+            &[1, 2],
+            &[4],
+            &[3],
+            5,
+            for_leaf,
+            (&[13, 0], None)
+        ),
+        Ok(true)
     );
     assert_eq!(rt;
-        tree.equations(),
-        [Equation {
-            x: 0,
-            y: 0,
-            odd: true
-        }]
-        .as_slice()
+        replaces_to(
+            alloc,
+            0,
+            &[1, 2, 3, 4],
+            &[1],
+            &[1],
+            &[1, 2],
+            5,
+            for_all,
+            (&[1, 7, 11, 12, 0, 0], None)
+        ),
+        Ok(true)
     );
-    Ok(())
 }
 
 #[test]
-fn a_leaf_is_replaced(rt: HostRuntime) -> Result<(), Fail> {
-    let alloc = rt.alloc();
-    let (tree, part) = star_replaced(alloc, 0, &[1, 2, 3, 4], &[1, 2], &[4], &[3], 5)?;
+fn a_run_of_a_q_node_is_replaced(rt: HostRuntime) {
+    let want: Wanted = (&[2, 0, 11, 15, 0], 2, &[]);
     assert_eq!(rt;
-        written(alloc, &tree)?.items(),
-        [1, 7, 15, 14, 1, 7, 11, 12, 0, 0].as_slice()
+        replaces_to(
+            rt.alloc(),
+            0,
+            &[1, 2, 3],
+            &[1, 2],
+            &[2, 3],
+            &[2, 3],
+            5,
+            want,
+            (&[12, 13, 0], Some(0))
+        ),
+        Ok(true)
     );
-    assert_eq!(rt; written_part(alloc, &part)?.items(), [13, 0].as_slice());
-    assert_eq!(rt; part.var, None);
-    Ok(())
 }
 
 #[test]
-fn a_whole_node_is_replaced(rt: HostRuntime) -> Result<(), Fail> {
-    let alloc = rt.alloc();
-    let (tree, part) = star_replaced(alloc, 0, &[1, 2, 3, 4], &[1], &[1], &[1, 2], 5)?;
-    assert_eq!(rt;
-        written(alloc, &tree)?.items(),
-        [1, 7, 13, 14, 15, 0].as_slice()
-    );
-    assert_eq!(rt; orders(tree.body()), 6);
-    assert_eq!(rt;
-        written_part(alloc, &part)?.items(),
-        [1, 7, 11, 12, 0, 0].as_slice()
-    );
-    assert_eq!(rt; part.var, None);
-    Ok(())
+fn a_star_is_reduced_to_a_long_chain(rt: HostRuntime) {
+    assert_eq!(rt; chain_depth(rt.alloc(), 1000), Ok(999));
 }
 
 #[test]
-fn a_run_of_a_q_node_is_replaced(rt: HostRuntime) -> Result<(), Fail> {
-    let alloc = rt.alloc();
-    let (tree, part) = star_replaced(alloc, 0, &[1, 2, 3], &[1, 2], &[2, 3], &[2, 3], 5)?;
-    assert_eq!(rt;
-        written(alloc, &tree)?.items(),
-        [2, 0, 11, 15, 0].as_slice()
-    );
-    assert_eq!(rt; written_part(alloc, &part)?.items(), [12, 13, 0].as_slice());
-    assert_eq!(rt; part.var, Some(0));
-    Ok(())
-}
-
-#[test]
-fn a_star_is_reduced_to_a_long_chain(rt: HostRuntime) -> Result<(), Fail> {
-    let alloc = rt.alloc();
-    let thousand = chain(alloc, 1000)?;
-    assert_eq!(rt; depth(thousand.body()), 999);
-    Ok(())
-}
-
-#[test]
-fn a_deep_tree_is_reduced(rt: HostRuntime) -> Result<(), Fail> {
-    let tree = deep_reduced(rt.alloc(), 5001)?;
-    assert_eq!(rt; depth(tree.body()), 4999);
-    Ok(())
+fn a_deep_tree_is_reduced(rt: HostRuntime) {
+    assert_eq!(rt; reduced_depth(rt.alloc(), 5001), Ok(4999));
 }
