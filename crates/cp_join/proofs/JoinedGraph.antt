@@ -23,7 +23,7 @@ use Rattle.cp_board.proofs.ListTests.{distinct, rises}
 use Rattle.cp_board.proofs.NamedLists.{by_name_keeps, by_name_same, distinct_from_rises, filter-by_name, rises-by_name, rises_from}
 use Rattle.cp_join.specs.declared.parted_ends.Parting.{Parting}
 use Rattle.cp_join.specs.Partings.{new_verts}
-use Rattle.cp_join.proofs.Permutations.{IsPermutation-Distinct, IsPermutation-Has}
+use Rattle.cp_lists.proofs.PermutedLists.{Distinct-IsPermutation, Has-IsPermutation}
 use Rattle.cp_join.proofs.RisingLists.{Distinct-rising}
 use Rattle.cp_join.proofs.FreshNames.{fresh_once, fresh_other}
 use Rattle.cp_join.proofs.NamedParts.{has_from, from_has}
@@ -90,7 +90,7 @@ module _ (i : Synchronized) (p : Pipe) (s t : Parting) (hats : List ℕ) (h : Ha
   once_firsts = subst Distinct (sym h.pairs.first) (once_at p.a)
 
   pub once_seconds : Distinct (seconds p.pairs)
-  once_seconds = IsPermutation-Distinct edges_b (seconds p.pairs) h.pairs.second (once_at p.b)
+  once_seconds = Distinct-IsPermutation edges_b (seconds p.pairs) h.pairs.second (once_at p.b)
 
   -- partners by the pairs
   pub partner_a : (x : ℕ) → partner p p.a x ≡ second p.pairs x
@@ -103,12 +103,12 @@ module _ (i : Synchronized) (p : Pipe) (s t : Parting) (hats : List ℕ) (h : Ha
   is_first x k = subst (Has x) (sym h.pairs.first) k
 
   is_second : (y : ℕ) → Has y edges_b → Has y (seconds p.pairs)
-  is_second y k = IsPermutation-Has edges_b (seconds p.pairs) y h.pairs.second k
+  is_second y k = Has-IsPermutation y edges_b (seconds p.pairs) h.pairs.second k
 
   pub partner_of_a : (x : ℕ) → Has x edges_a → Has (partner p p.a x) edges_b
   partner_of_a x k =
       subst (λ n. Has n edges_b) (sym (partner_a x))
-      (IsPermutation-Has (seconds p.pairs) edges_b (second p.pairs x) (IsPermutation-sym edges_b (seconds p.pairs) h.pairs.second)
+      (Has-IsPermutation (second p.pairs x) (seconds p.pairs) edges_b (IsPermutation-sym edges_b (seconds p.pairs) h.pairs.second)
       (second_has p.pairs once_firsts once_seconds x (is_first x k)))
 
   pub partner_of_b : (y : ℕ) → Has y edges_b → Has (partner p p.b y) edges_a

@@ -27,7 +27,7 @@ use Rattle.cp_board.proofs.ListTests.{IsStrictlyIncreasing-from_test, rises}
 use Rattle.cp_board.proofs.NamedLists.{by_name_keeps, under-by_name, rises-by_name}
 use Rattle.cp_join.specs.declared.parted_ends.Parting.{Parting}
 use Rattle.cp_join.specs.Partings.{new_verts}
-use Rattle.cp_join.proofs.Permutations.{IsPermutation-Distinct, IsPermutation-Has}
+use Rattle.cp_lists.proofs.PermutedLists.{Distinct-IsPermutation, Has-IsPermutation}
 use Rattle.cp_join.proofs.RisingLists.{Distinct-rising}
 use Rattle.cp_join.proofs.FreshNames.{fresh_once, fresh_other, fresh_small}
 use Rattle.cp_join.proofs.NamedParts.{has_not}
@@ -104,7 +104,7 @@ module _ (i : Synchronized) (p : Pipe) (s t : Parting) (hats : List ℕ) (h : Ha
   pub vert_has : (n : ℕ) → Has n (filter keeps (vert_names i) ++ fresh) → Contains (vert_names after) n
   vert_has n k =
       (Has-Contains n (vert_names after)).0
-      (IsPermutation-Has (map (λ v. v.name) verts) (vert_names after) n
+      (Has-IsPermutation n (map (λ v. v.name) verts) (vert_names after)
       (IsPermutation-map (λ (v : Vert). v.name) verts after.verts (by_name_keeps (λ v. v.name) verts))
       (subst (Has n) (sym names_of_verts) k))
 
@@ -379,7 +379,7 @@ module _ (i : Synchronized) (p : Pipe) (s t : Parting) (hats : List ℕ) (h : Ha
 
   ends_apart : Distinct (ends_of_all after.pipes)
   ends_apart =
-      IsPermutation-Distinct (ends_of_all stay ++ fresh) (ends_of_all after.pipes) ends_in_order
+      Distinct-IsPermutation (ends_of_all stay ++ fresh) (ends_of_all after.pipes) ends_in_order
       (Distinct-append (ends_of_all stay) fresh fewer.ends_apart (new_once i p s t hats h)
       (λ d k. Lacks-from d fresh (λ l. old_other i p s t hats h d d (stay_ends_live d k) l refl)))
 

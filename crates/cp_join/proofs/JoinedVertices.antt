@@ -17,7 +17,7 @@ use Rattle.cp_board.specs.Steps.{partner}
 use Rattle.cp_board.proofs.EdgesOfVertices.{touch, moved_row}
 use Rattle.cp_join.specs.declared.parted_ends.Parting.{Parting}
 use Rattle.cp_join.specs.Partings.{new_verts}
-use Rattle.cp_join.proofs.Permutations.{IsPermutation-from}
+use Rattle.cp_lists.proofs.PermutedLists.{IsPermutation-from}
 use Rattle.cp_join.proofs.NamedParts.{has_from, from_has, has_not}
 use Rattle.cp_join.proofs.RisingLists.{Distinct-rising, Has-flat_map}
 use Rattle.cp_join.proofs.PartLists.{all_of, all_once, all_has, all_from, part_has, part_is, vertex_has}

@@ -1,4 +1,3 @@
-mod Permutations
 mod RisingLists
 mod LiveRows
 mod NamedParts

@@ -18,7 +18,7 @@ use Rattle.cp_sync.specs.Numbering.{numbered_ends}
 use Rattle.cp_board.specs.Names.{has}
 use Rattle.cp_board.specs.Joins.{ArePartsAt, part_of}
 use Rattle.cp_board.proofs.ListTests.{Contains-from_has}
-use Rattle.cp_join.proofs.Permutations.{IsPermutation-from}
+use Rattle.cp_lists.proofs.PermutedLists.{IsPermutation-from}
 use Rattle.cp_join.proofs.RisingLists.{Distinct-rising, Distinct-flat_map, Has-flat_map, Has-some_part, rising_order}
 
 -- an item passes the test for it

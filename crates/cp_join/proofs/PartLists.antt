@@ -11,7 +11,7 @@ use Rattle.cp_lists.proofs.DistinctLists.{Distinct-apart, Distinct-append_right,
 use Rattle.cp_conn.specs.NamedGraphs.{NamedGraph, edges_at, ends_at}
 use Rattle.cp_board.specs.Names.{has}
 use Rattle.cp_board.specs.Joins.{ArePartsAt, part_of, vertex_for}
-use Rattle.cp_join.proofs.Permutations.{IsPermutation-Distinct, IsPermutation-Has}
+use Rattle.cp_lists.proofs.PermutedLists.{Distinct-IsPermutation, Has-IsPermutation}
 use Rattle.cp_join.proofs.RisingLists.{Distinct-rising, Has-flat_map, Has-some_part}
 use Rattle.cp_join.proofs.NamedParts.{from_has, has_from, part_of_is}
 
@@ -73,12 +73,12 @@ module _ (g : NamedGraph) (u : ℕ) (parts : List (List ℕ)) (rise : IsStrictly
     (are : ArePartsAt g u parts) where
   -- the parts together hold the edges of the vertex, each once
   pub all_once : Distinct (all_of parts)
-  all_once = IsPermutation-Distinct (edges_at g u) (all_of parts) are.whole
+  all_once = Distinct-IsPermutation (edges_at g u) (all_of parts) are.whole
       (Distinct-rising (edges_at g u) (IsStrictlyIncreasing-filter (ends_at g u) g.edges rise))
 
   pub all_has : (e : ℕ) → Contains (edges_at g u) e → Has e (all_of parts)
-  all_has e c = IsPermutation-Has (edges_at g u) (all_of parts) e are.whole ((Has-Contains e (edges_at g u)).1 c)
+  all_has e c = Has-IsPermutation e (edges_at g u) (all_of parts) are.whole ((Has-Contains e (edges_at g u)).1 c)
 
   pub all_from : (e : ℕ) → Has e (all_of parts) → Contains (edges_at g u) e
   all_from e h = (Has-Contains e (edges_at g u)).0
-      (IsPermutation-Has (all_of parts) (edges_at g u) e (IsPermutation-sym (edges_at g u) (all_of parts) are.whole) h)
+      (Has-IsPermutation e (all_of parts) (edges_at g u) (IsPermutation-sym (edges_at g u) (all_of parts) are.whole) h)
