@@ -16,3 +16,6 @@ pub use block::{PsiList, QBlock};
 pub use embedding::{Embedded, embed};
 pub use fault::EmbedFault;
 pub use taking_back::unwind;
+
+#[cfg(test)]
+mod tests;
