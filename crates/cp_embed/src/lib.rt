@@ -18,3 +18,6 @@ pub use board_blocks::{EdgeBlock, block_of, cut_out, rank_among};
 pub use embedding::{Embedded, embed};
 pub use fault::EmbedFault;
 pub use taking_back::unwind;
+
+#[cfg(test)]
+mod tests;
