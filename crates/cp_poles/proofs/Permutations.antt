@@ -1,11 +1,12 @@
--- Permutations of distinct numbers.
-use Rattle.std.proofs.Common.{◌≡◌, ℕ, false, eqb, List, [], ◌∷◌, sym, ◌∙◌, ⊎_elim, IsPermutation}
+-- Permutations of distinct numbers: lists of the same items.
+use Rattle.std.proofs.Common.{◌≡◌, ℕ, false, eqb, List, [], ◌∷◌, ◌++◌, sym, refl, ◌∙◌, subst, inl, inr, ⊎_elim, IsPermutation}
 use Rattle.std.specs.List.{AllByRecursion, IsDistinct}
 use Rattle.std.proofs.lemmas.Bool.{cases_eq, eq-eqb, false≢true, ne_eqb}
-use Rattle.std.proofs.lemmas.List.Sorted.{Contains-permutation}
+use Rattle.std.proofs.lemmas.List.Sorted.{Contains-permutation, IsPermutation-cons, IsPermutation-middle, IsPermutation-refl, IsPermutation-sym, IsPermutation-trans}
 use Rattle.std.proofs.lemmas.Map.Keys.{IsDistinct-IsPermutation, IsDistinct-cons, IsDistinct-head, IsDistinct-tail}
 use Rattle.cp_lists.specs.CyclicLists.{Distinct, Has, Lacks}
-use Rattle.cp_lists.proofs.DistinctLists.{Has-Contains}
+use Rattle.cp_lists.proofs.DistinctLists.{Distinct-less, Has-append_cases, Has-append_left, Has-append_right, Has-Contains, Has-split, has_lacks, has_other}
+use Rattle.cp_lists.proofs.DistinctLists.{Distinct-middle}
 
 -- the test of equality is the same both ways
 eqb_flips : (x y : ℕ) → eqb x y ≡ eqb y x
@@ -42,3 +43,36 @@ IsPermutation-Distinct xs ys p once = keys_distinct ys
 -- it has the same items
 pub IsPermutation-Has : (xs ys : List ℕ) (d : ℕ) → IsPermutation xs ys → Has d xs → Has d ys
 IsPermutation-Has xs ys d p h = (Has-Contains d ys).1 (Contains-permutation xs ys d p ((Has-Contains d xs).0 h))
+
+-- distinct lists of the same items are permutations of each other
+pub IsPermutation-from : (xs ys : List ℕ) → Distinct xs → Distinct ys → ((d : ℕ) → Has d xs → Has d ys)
+    → ((d : ℕ) → Has d ys → Has d xs) → IsPermutation xs ys
+IsPermutation-from [] [] once once' to from = IsPermutation-refl []
+IsPermutation-from [] (y ∷ ys) once once' to from = absurd (from y (inl refl))
+IsPermutation-from (x ∷ xs) ys once once' to from =
+    let s = Has-split x ys (to x (inl refl)) in
+    let us : List ℕ = s.0 in
+    let vs : List ℕ = s.1 in
+    let split : Distinct (us ++ x ∷ vs) = subst Distinct s.2 once' in
+    let apart = Distinct-middle x us vs split in
+    let there : (d : ℕ) → Has d xs → Has d (us ++ vs) =
+    λ d h. ⊎_elim
+    (λ k. Has-append_left d us vs k)
+    (λ k. ⊎_elim (λ e. absurd (has_other d x xs h once.0 (sym e))) (λ m. Has-append_right d us vs m) k)
+    (Has-append_cases d us (x ∷ vs) (subst (Has d) s.2 (to d (inr h)))) in
+    let back : (d : ℕ) → Has d (us ++ vs) → Has d xs =
+    λ d h. ⊎_elim
+    (λ k. ⊎_elim
+    (λ e. absurd (has_lacks x us (subst (λ z. Has z us) (sym e) k) apart.0))
+    (λ m. m)
+    (from d (subst (Has d) (sym s.2) (Has-append_left d us (x ∷ vs) k))))
+    (λ k. ⊎_elim
+    (λ e. absurd (has_lacks x vs (subst (λ z. Has z vs) (sym e) k) apart.1))
+    (λ m. m)
+    (from d (subst (Has d) (sym s.2) (Has-append_right d us (x ∷ vs) (inr k)))))
+    (Has-append_cases d us vs h) in
+    subst (IsPermutation (x ∷ xs)) (sym s.2)
+    (IsPermutation-trans (x ∷ xs) (x ∷ (us ++ vs)) (us ++ x ∷ vs)
+    (IsPermutation-cons x xs (us ++ vs)
+    (IsPermutation-from xs (us ++ vs) once.1 (Distinct-less us x vs split) there back))
+    (IsPermutation-sym (us ++ x ∷ vs) (x ∷ (us ++ vs)) (IsPermutation-middle us x vs)))
