@@ -24,7 +24,7 @@ use Rattle.cp_board.proofs.ListTests.{rises}
 use Rattle.cp_board.proofs.NamedLists.{rises_from, place_order}
 use Rattle.cp_poles.proofs.ApartEnds.{others_apart}
 use Rattle.cp_poles.proofs.FixedEnds.{fixed, fixed_vert, fixed_a, fixed_b, fixed_cases, graph_fixed, names_fixed}
-use Rattle.cp_poles.proofs.Permutations.{IsPermutation-Has}
+use Rattle.cp_lists.proofs.PermutedLists.{Has-IsPermutation}
 use Rattle.cp_poles.proofs.SmallPipes.{right_ends, right_pairs, own_name}
 
 -- what holds of all values holds of those of each item
@@ -71,15 +71,15 @@ first_least e es y up has =
 -- it begins with the first of the items where they rise
 turned_first : (es xs : List ℕ) → rises es ≡ true → IsPermutation es xs → take 1 (turned_to_least xs) ≡ take 1 es
 turned_first [] xs up p = ap (λ zs. take 1 (turned_to_least zs))
-    (nothing xs (λ d h. IsPermutation-Has xs [] d (IsPermutation-sym [] xs p) h))
+    (nothing xs (λ d h. Has-IsPermutation d xs [] (IsPermutation-sym [] xs p) h))
   where
     nothing : (ys : List ℕ) → ((d : ℕ) → Has d ys → ⊥) → ys ≡ []
     nothing [] none = refl
     nothing (y ∷ ys) none = absurd (none y (inl refl))
 turned_first (e ∷ es) xs up p =
-    let here = IsPermutation-Has (e ∷ es) xs e p (inl refl) in
+    let here = Has-IsPermutation e (e ∷ es) xs p (inl refl) in
     let w = turned_to_least-head e xs here in
-    let back : Has w.0 (e ∷ es) = IsPermutation-Has (turned_to_least xs) (e ∷ es) w.0
+    let back : Has w.0 (e ∷ es) = Has-IsPermutation w.0 (turned_to_least xs) (e ∷ es)
     (IsPermutation-sym (e ∷ es) (turned_to_least xs) (turned_arranges (e ∷ es) xs p))
     (subst (Has w.0) (sym w.2) (inl refl)) in
     let below : w.0 ≤ e = w.3 e here in

@@ -27,7 +27,7 @@ use Rattle.cp_board.specs.Rotations.{ArrangesEdges, IsRotationOf, dart, system}
 use Rattle.cp_board.specs.Solutions.{IsMirror}
 use Rattle.cp_sync.specs.Numbering.{numbered_ends}
 use Rattle.cp_poles.proofs.InstanceDarts.{dart_low, dart_of_edge, dart_stands, edges_once, far_differs, instance_darts, length-two_each, live_at, verts_once}
-use Rattle.cp_poles.proofs.Permutations.{IsPermutation-Distinct, IsPermutation-Has}
+use Rattle.cp_lists.proofs.PermutedLists.{Distinct-IsPermutation, Has-IsPermutation}
 
 -- an instance and lists of its vertices
 module _ (i : Synchronized) (is : IsSynchronized i) (s : ℕ → List ℕ)
@@ -52,14 +52,14 @@ module _ (i : Synchronized) (is : IsSynchronized i) (s : ℕ → List ℕ)
   pub listed_edge : (w e : ℕ) → Contains g.verts w → Has e (s w) ↔ Contains (edges_at g w) e
   listed_edge w e c = (
     λ h. (Has-Contains e (edges_at g w)).0
-        (IsPermutation-Has (s w) (edges_at g w) e (IsPermutation-sym (edges_at g w) (s w) (arranged_at w c)) h),
-    λ k. IsPermutation-Has (edges_at g w) (s w) e (arranged_at w c) ((Has-Contains e (edges_at g w)).1 k),
+        (Has-IsPermutation e (s w) (edges_at g w) (IsPermutation-sym (edges_at g w) (s w) (arranged_at w c)) h),
+    λ k. Has-IsPermutation e (edges_at g w) (s w) (arranged_at w c) ((Has-Contains e (edges_at g w)).1 k),
   )
 
   -- each once
   pub listed_once : (w : ℕ) → Contains g.verts w → Distinct (s w)
   listed_once w c =
-      IsPermutation-Distinct (edges_at g w) (s w) (arranged_at w c)
+      Distinct-IsPermutation (edges_at g w) (s w) (arranged_at w c)
       (filter-Distinct (ends_at g w) g.edges (edges_once i is))
 
   -- so the graph is arranged

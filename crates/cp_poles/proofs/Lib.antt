@@ -1,4 +1,3 @@
-mod Permutations
 mod Mirrors
 mod FoundItems
 mod FixedEnds

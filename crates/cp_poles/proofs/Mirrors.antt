@@ -20,7 +20,7 @@ use Rattle.cp_board.specs.Solutions.{directed, IsMirror, second_of}
 use Rattle.cp_board.proofs.ListTests.{rises}
 use Rattle.cp_board.proofs.NamedLists.{found_at, rises_from}
 use Rattle.cp_board.proofs.NumberOfNewNames.{Distinct-from_rises}
-use Rattle.cp_poles.proofs.Permutations.{IsPermutation-Distinct, IsPermutation-Has}
+use Rattle.cp_lists.proofs.PermutedLists.{Distinct-IsPermutation, Has-IsPermutation}
 
 -- where each first is taken to its second, the firsts are taken to the seconds
 map_pairs : (f : ℕ → ℕ) (xs : List (ℕ × ℕ)) → All (λ x. f x.0 ≡ x.1) xs
@@ -85,18 +85,18 @@ module _
   firsts_arranged = subst (λ z. IsPermutation z (s p.a)) (sym right.first) at_a
 
   distinct_a : Distinct (s p.a)
-  distinct_a = IsPermutation-Distinct firsts (s p.a) firsts_arranged (Distinct-from_rises firsts firsts_rise)
+  distinct_a = Distinct-IsPermutation firsts (s p.a) firsts_arranged (Distinct-from_rises firsts firsts_rise)
 
   distinct_b : Distinct (s p.b)
-  distinct_b = IsPermutation-Distinct (edges_of i p.b) (s p.b) at_b
+  distinct_b = Distinct-IsPermutation (edges_of i p.b) (s p.b) at_b
       (Distinct-from_rises (edges_of i p.b) (edges_rise p.b))
 
   distinct_seconds : Distinct seconds
-  distinct_seconds = IsPermutation-Distinct (edges_of i p.b) seconds right.second
+  distinct_seconds = Distinct-IsPermutation (edges_of i p.b) seconds right.second
       (Distinct-from_rises (edges_of i p.b) (edges_rise p.b))
 
   to_firsts : (d : ℕ) → Has d (s p.a) → Has d firsts
-  to_firsts d h = IsPermutation-Has (s p.a) firsts d (IsPermutation-sym firsts (s p.a) firsts_arranged) h
+  to_firsts d h = Has-IsPermutation d (s p.a) firsts (IsPermutation-sym firsts (s p.a) firsts_arranged) h
 
   -- the mirrored list has the items of the list of b, each once
   mirrored_once : Distinct mirrored
@@ -109,17 +109,17 @@ module _
   mirrored_to d h =
       let w = map_on-Has (second_of p) d (s p.a) (reverse-Has d (map (second_of p) (s p.a)) h) in
       let there = subst (Has (second_of p w.0)) partners (Has-map_on (second_of p) w.0 firsts (to_firsts w.0 w.1)) in
-      IsPermutation-Has (edges_of i p.b) (s p.b) d at_b
-      (IsPermutation-Has seconds (edges_of i p.b) d (IsPermutation-sym (edges_of i p.b) seconds right.second) (subst (λ x. Has x seconds) w.2 there))
+      Has-IsPermutation d (edges_of i p.b) (s p.b) at_b
+      (Has-IsPermutation d seconds (edges_of i p.b) (IsPermutation-sym (edges_of i p.b) seconds right.second) (subst (λ x. Has x seconds) w.2 there))
 
   mirrored_from : (d : ℕ) → Has d (s p.b) → Has d mirrored
   mirrored_from d h =
-      let there = IsPermutation-Has (edges_of i p.b) seconds d right.second
-      (IsPermutation-Has (s p.b) (edges_of i p.b) d (IsPermutation-sym (edges_of i p.b) (s p.b) at_b) h) in
+      let there = Has-IsPermutation d (edges_of i p.b) seconds right.second
+      (Has-IsPermutation d (s p.b) (edges_of i p.b) (IsPermutation-sym (edges_of i p.b) (s p.b) at_b) h) in
       let w = map_on-Has (second_of p) d firsts (subst (Has d) (sym partners) there) in
       Has-reverse d (map (second_of p) (s p.a))
       (subst (λ x. Has x (map (second_of p) (s p.a))) w.2
-      (Has-map_on (second_of p) w.0 (s p.a) (IsPermutation-Has firsts (s p.a) w.0 firsts_arranged w.1)))
+      (Has-map_on (second_of p) w.0 (s p.a) (Has-IsPermutation w.0 firsts (s p.a) firsts_arranged w.1)))
 
   -- of at most two edges every order mirrors every other
   pub mirror_of_two : length p.pairs ≤ 2 → IsMirror (second_of p) (s p.a) (s p.b)
@@ -133,7 +133,7 @@ module _
   pub direction_of_three : length p.pairs ≡ 3 → (back : Bool) × IsTurn (directed back firsts) (s p.a)
   direction_of_three three = three_directions firsts (s p.a) (length-map p.pairs (λ x. x.0) ∙ three)
       (Distinct-from_rises firsts firsts_rise) distinct_a
-      (λ d. (to_firsts d, IsPermutation-Has firsts (s p.a) d firsts_arranged))
+      (λ d. (to_firsts d, Has-IsPermutation d firsts (s p.a) firsts_arranged))
 
   -- the mirrored list in the direction of a, by what the second end is given
   mirror_turn : (back : Bool) → IsTurn (directed back firsts) (s p.a)

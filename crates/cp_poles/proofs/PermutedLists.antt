@@ -24,7 +24,7 @@ use Rattle.cp_poles.proofs.InstanceSystems.{listed_edge, system_darts, system_li
 use Rattle.cp_poles.proofs.NumberedBonds.{IsBond-numbered}
 use Rattle.cp_poles.proofs.NumberedParts.{rank_one}
 use Rattle.cp_poles.proofs.PermutedExists.{HasPermuted-some}
-use Rattle.cp_poles.proofs.Permutations.{IsPermutation-Distinct, IsPermutation-Has, IsPermutation-from}
+use Rattle.cp_lists.proofs.PermutedLists.{Distinct-IsPermutation, Has-IsPermutation, IsPermutation-from}
 use Rattle.cp_poles.specs.Permuted.{IsReordered, edge_of_dart, listed_edges}
 
 -- an instance, a rotation of it, and an order of the edges of a vertex
@@ -51,13 +51,13 @@ module _ (i : Synchronized) (is : IsSynchronized i) (s : ℕ → List ℕ) (rota
     order_edge : (e : ℕ) → Has e order → Contains (edges_at g u) e
     order_edge e h =
         (Has-Contains e (edges_at g u)).0
-        (IsPermutation-Has order (edges_at g u) e (IsPermutation-sym (edges_at g u) order arr) h)
+        (Has-IsPermutation e order (edges_at g u) (IsPermutation-sym (edges_at g u) order arr) h)
 
     edge_order : (e : ℕ) → Contains (edges_at g u) e → Has e order
-    edge_order e c = IsPermutation-Has (edges_at g u) order e arr ((Has-Contains e (edges_at g u)).1 c)
+    edge_order e c = Has-IsPermutation e (edges_at g u) order arr ((Has-Contains e (edges_at g u)).1 c)
 
     order_once : Distinct order
-    order_once = IsPermutation-Distinct (edges_at g u) order arr
+    order_once = Distinct-IsPermutation (edges_at g u) order arr
         (filter-Distinct (ends_at g u) g.edges (edges_once i is))
 
     -- the darts

@@ -22,7 +22,7 @@ use Rattle.cp_board.specs.Rotations.{ArrangesEdges}
 use Rattle.cp_board.specs.Solutions.{IsMirror, first_of, second_of}
 use Rattle.cp_board.specs.Steps.{IsEnd, opposite, partner}
 use Rattle.cp_poles.proofs.InstanceDarts.{edges_once}
-use Rattle.cp_poles.proofs.Permutations.{IsPermutation-Distinct}
+use Rattle.cp_lists.proofs.PermutedLists.{Distinct-IsPermutation}
 
 -- in a list with names of its own each item is found under its name
 found_own : {A : Type 0} (name : A → ℕ) (xs : List A) → Distinct (map name xs)
@@ -79,7 +79,7 @@ module _ (i : Synchronized) (is : IsSynchronized i) (p : Pipe) (differ : p.a ≢
   firsts_found k d lt =
       ap (λ o. option_map_or (λ z. z.0) o 0)
       (found_own (λ x. x.1) p.pairs
-      (IsPermutation-Distinct (edges_at g p.b) seconds right.second (edges_at-Distinct p.b)) k d lt)
+      (Distinct-IsPermutation (edges_at g p.b) seconds right.second (edges_at-Distinct p.b)) k d lt)
 
   -- the partners of an end
   seconds_are : map (second_of p) firsts ≡ seconds

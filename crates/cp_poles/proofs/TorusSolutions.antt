@@ -22,7 +22,7 @@ use Rattle.cp_poles.proofs.CycleRows.{rows-Distinct, rows-all, rows-items, rows-
 use Rattle.cp_poles.proofs.FreePoles.{left, left-IsSynchronized, left_is, others_off, rotation_before}
 use Rattle.cp_poles.proofs.InstanceDarts.{edges_once}
 use Rattle.cp_poles.proofs.PermutedLists.{IsReordered-some}
-use Rattle.cp_poles.proofs.Permutations.{IsPermutation-from}
+use Rattle.cp_lists.proofs.PermutedLists.{IsPermutation-from}
 use Rattle.cp_poles.proofs.ReorderedSolutions.{Solves-reordered}
 use Rattle.cp_poles.proofs.SmallPipes.{Solves-with_pipe, live_a, live_b, own_name, right_ends}
 use Rattle.cp_poles.proofs.TorusTurns.{mirror_from_turn}
