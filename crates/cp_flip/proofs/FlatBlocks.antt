@@ -7,11 +7,11 @@ use Rattle.std.proofs.lemmas.List.Sorted.{Contains-permutation, IsPermutation-sy
 use Rattle.cp_lists.specs.CyclicLists.{Has}
 use Rattle.cp_lists.proofs.Counting.{IsCount-le}
 use Rattle.cp_lists.proofs.DistinctLists.{Has-Contains}
+use Rattle.cp_orbits.proofs.Twins.{half_twin}
 use Rattle.cp_faces.specs.Twins.{twin}
 use Rattle.cp_conn.specs.Blocks.{AreInOneBlock}
 use Rattle.cp_conn.specs.NamedGraphs.{NamedGraph, edges_at, far, rank}
 use Rattle.cp_conn.specs.Numbering.{AreNumbered}
-use Rattle.cp_conn.proofs.BlockSteps.{twin-edge}
 use Rattle.cp_conn.proofs.NamedGraphs.{edges_at-Contains, rank_at}
 use Rattle.cp_maps.specs.Blocks.{NoneCross}
 use Rattle.cp_maps.specs.Genus.{CanBeFlat, IsFlat}
@@ -176,5 +176,5 @@ module _ (i : Synchronized) (is : IsSynchronized i) (s : ℕ → List ℕ)
         named_blocks-IsFlat (length g.edges) g (dart g) s f (dart-AreDartsOf g differ) instance-IsArrangedBy map_is
         (pairs-HaveNoLoop i is) (number_of i is (length g.edges) numbers refl are) class_of
         (one_number i is (length g.edges) numbers refl are)
-        class_bound (λ d lt. ap (slice_index numbers) (twin-edge d))
+        class_bound (λ d lt. ap (slice_index numbers) (half_twin d))
         (λ w e c. ap (slice_index numbers) (dart_half g differ w e))
