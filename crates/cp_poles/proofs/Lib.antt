@@ -23,3 +23,5 @@ mod FreePoles
 mod CycleRows
 mod TorusTurns
 mod TorusSolutions
+mod CycleWalks
+mod TurnedPlaces

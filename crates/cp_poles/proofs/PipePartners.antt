@@ -66,7 +66,7 @@ module _ (i : Synchronized) (is : IsSynchronized i) (p : Pipe) (differ : p.a ≢
   seconds = map (λ x. x.1) p.pairs
 
   -- no edge stands twice
-  edges_at-Distinct : (v : ℕ) → Distinct (edges_at g v)
+  pub edges_at-Distinct : (v : ℕ) → Distinct (edges_at g v)
   edges_at-Distinct v = filter-Distinct (ends_at g v) g.edges (edges_once i is)
 
   -- each first edge has its second, and the other way round
@@ -82,7 +82,7 @@ module _ (i : Synchronized) (is : IsSynchronized i) (p : Pipe) (differ : p.a ≢
       (Distinct-IsPermutation (edges_at g p.b) seconds right.second (edges_at-Distinct p.b)) k d lt)
 
   -- the partners of an end
-  seconds_are : map (second_of p) firsts ≡ seconds
+  pub seconds_are : map (second_of p) firsts ≡ seconds
   seconds_are = map_each (second_of p) (λ x. x.0) (λ x. x.1) p.pairs seconds_found
 
   firsts_are : map (first_of p) seconds ≡ firsts
@@ -97,7 +97,7 @@ module _ (i : Synchronized) (is : IsSynchronized i) (p : Pipe) (differ : p.a ≢
       map_from (λ y. y.1) p.pairs x (Contains-permutation (edges_at g p.b) seconds x right.second c)
 
   -- partners are partners of each other
-  first_second : (x : ℕ) → Contains (edges_at g p.a) x → first_of p (second_of p x) ≡ x
+  pub first_second : (x : ℕ) → Contains (edges_at g p.a) x → first_of p (second_of p x) ≡ x
   first_second x c =
       let y = pair_of_first x c in
       let there = All-contains (λ z. second_of p z.0 ≡ z.1) p.pairs y.0 seconds_found y.1 in

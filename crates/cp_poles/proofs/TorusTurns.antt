@@ -63,7 +63,7 @@ module _ (i : Synchronized) (pipe : ℕ) (p : Pipe) (is : IsSynchronized i) (liv
   -- the map of the pipe and the bond
   module _ (m : ℕ → ℕ) (turning : IsTurning i p m) where
     -- what it makes of an edge goes on as the partner
-    along_turned : (x : ℕ) → Contains (edges_at g p.a) x → along (m x) ≡ second_of p x
+    pub along_turned : (x : ℕ) → Contains (edges_at g p.a) x → along (m x) ≡ second_of p x
     along_turned x c =
         let t = turning x c in
         along_only g p.a p.b bond (edges_once i is) equal_ends along is_along (m x) (second_of p x) t.0 t.1

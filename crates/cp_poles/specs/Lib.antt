@@ -3,3 +3,6 @@ pub mod Between
 pub mod Permuted
 pub mod Wanted
 pub mod Layers
+pub mod Cycles
+pub mod Turned
+pub mod TorusFaults

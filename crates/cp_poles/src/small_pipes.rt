@@ -31,7 +31,7 @@ fn first_list(alloc: Global, pairs: &[(usize, usize)]) -> Result<CycList, Memory
 }
 
 // The second edges of the pairs. Linear.
-fn seconds_of(alloc: Global, pairs: &[(usize, usize)]) -> Result<CycList, Memory>
+pub(crate) fn seconds_of(alloc: Global, pairs: &[(usize, usize)]) -> Result<CycList, Memory>
     ensures { IfOk result (λ list. list ≡ map (λ x. x.1) pairs.now) }
 {
     let mut names = Vec::new(alloc);
