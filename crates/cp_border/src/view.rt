@@ -106,4 +106,8 @@ impl<'a> RotationSystem for View<'a> {
             self.border_item(v, i)
         }
     }
+
+    fn is_rotation(&self) {
+        let _ = (self.vertices(), self.darts());
+    }
 }

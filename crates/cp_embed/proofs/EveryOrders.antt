@@ -23,7 +23,8 @@ use Rattle.cp_pq.proofs.ReadingLaws.{Reads_P, Reads_Q, read_leaves, read_all_lea
 use Rattle.cp_force.specs.Owners.{IsSoleP}
 use Rattle.cp_embed.specs.Embeddings.{HasSomePair}
 use Rattle.cp_embed.specs.EveryOrder.{HasEveryOrder}
-use Rattle.cp_embed.proofs.RowNodes.{IsPermutation-from, leaves_read, leaves_read_only, leaves-reverse, list_all-map, length-images, branching_Q}
+use Rattle.cp_lists.proofs.PermutedLists.{IsPermutation-from}
+use Rattle.cp_embed.proofs.RowNodes.{leaves_read, leaves_read_only, leaves-reverse, list_all-map, length-images, branching_Q}
 use Rattle.cp_embed.proofs.Sides.{no_kid, kid_or, kid_leaf, kid_leaves, leaf_kid, row-leaves_are}
 
 -- one P-node of leaves, in a tree with a pair, has every order

@@ -6,9 +6,9 @@ use Rattle.std.specs.List.{list_all}
 use Rattle.std.specs.List.Sorted.{IsPermutation}
 use Rattle.std.proofs.lemmas.Bool.{lt-ltb, and_parts, and_from}
 use Rattle.std.proofs.lemmas.List.{reverse-append}
-use Rattle.std.proofs.lemmas.List.Sorted.{IsPermutation-cons, IsPermutation-middle, IsPermutation-refl, IsPermutation-sym, IsPermutation-trans}
+use Rattle.std.proofs.lemmas.List.Sorted.{IsPermutation-sym}
 use Rattle.cp_lists.specs.CyclicLists.{Has, Distinct}
-use Rattle.cp_lists.proofs.DistinctLists.{Distinct-less, Distinct-middle, Has-append_cases, Has-append_left, Has-append_right, Has-split, has_lacks, has_other}
+use Rattle.cp_lists.proofs.PermutedLists.{IsPermutation-from}
 use Rattle.cp_pq.specs.declared.node.Node.{Node}
 use Rattle.cp_pq.specs.declared.node.Node.TheOpen.{Node-F}
 use Rattle.cp_pq.specs.declared.node.Node.TheViews.{out-Node}
@@ -201,39 +201,6 @@ row-ReadsRow var vars (x ∷ []) lt = record {
     one_way false = refl
     one_way true = refl
 row-ReadsRow var vars (x ∷ y ∷ xs) lt = row_Q-ReadsRow var vars (x ∷ y ∷ xs) lt
-
--- distinct lists of the same items are permutations of each other
-pub IsPermutation-from : (xs ys : List ℕ) → Distinct xs → Distinct ys → ((d : ℕ) → Has d xs → Has d ys)
-    → ((d : ℕ) → Has d ys → Has d xs) → IsPermutation xs ys
-IsPermutation-from [] [] once once' to from = IsPermutation-refl []
-IsPermutation-from [] (y ∷ ys) once once' to from = absurd (from y (inl refl))
-IsPermutation-from (x ∷ xs) ys once once' to from =
-    let s = Has-split x ys (to x (inl refl)) in
-    let us : List ℕ = s.0 in
-    let vs : List ℕ = s.1 in
-    let split : Distinct (us ++ x ∷ vs) = subst Distinct s.2 once' in
-    let apart = Distinct-middle x us vs split in
-    let there : (d : ℕ) → Has d xs → Has d (us ++ vs) =
-    λ d h. ⊎_elim
-    (λ k. Has-append_left d us vs k)
-    (λ k. ⊎_elim (λ e. absurd (has_other d x xs h once.0 (sym e))) (λ m. Has-append_right d us vs m) k)
-    (Has-append_cases d us (x ∷ vs) (subst (Has d) s.2 (to d (inr h)))) in
-    let back : (d : ℕ) → Has d (us ++ vs) → Has d xs =
-    λ d h. ⊎_elim
-    (λ k. ⊎_elim
-    (λ e. absurd (has_lacks x us (subst (λ z. Has z us) (sym e) k) apart.0))
-    (λ m. m)
-    (from d (subst (Has d) (sym s.2) (Has-append_left d us (x ∷ vs) k))))
-    (λ k. ⊎_elim
-    (λ e. absurd (has_lacks x vs (subst (λ z. Has z vs) (sym e) k) apart.1))
-    (λ m. m)
-    (from d (subst (Has d) (sym s.2) (Has-append_right d us (x ∷ vs) (inr k)))))
-    (Has-append_cases d us vs h) in
-    subst (IsPermutation (x ∷ xs)) (sym s.2)
-    (IsPermutation-trans (x ∷ xs) (x ∷ (us ++ vs)) (us ++ x ∷ vs)
-    (IsPermutation-cons x xs (us ++ vs)
-    (IsPermutation-from xs (us ++ vs) once.1 (Distinct-less us x vs split) there back))
-    (IsPermutation-sym (us ++ x ∷ vs) (x ∷ (us ++ vs)) (IsPermutation-middle us x vs)))
 
 -- a permutation of a distinct list is an arrangement of it
 pub IsPermutation-arranges : (xs word : List ℕ) → Distinct xs → IsPermutation xs word ↔ IsArrangementOf word xs

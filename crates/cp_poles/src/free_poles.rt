@@ -49,7 +49,7 @@ pub fn free_pole<B: Board>(
     requires { Allowed (B.instance board.now) (FreePole pipe end pole) }
     ensures { IfOk result (λ w. Performs (B.instance board.now) (FreePole pipe end pole) w) }
 {
-    let _ = board.pipe_ends(pipe);
+    board.follows_rules();
     let rewrite = drop_pipe(alloc, pipe)?;
     Ok(rewrite)
 }
@@ -70,7 +70,7 @@ pub fn free_pole_back<B: Board>(
     requires solved { (j : Synchronized) × After (B.instance before.now) (FreePole pipe end pole) j × IsSolution j after }
     ensures { IfOk result (IsSolution (B.instance before.now)) }
 {
-    let _ = before.pipe_ends(pipe);
+    before.follows_rules();
     let order = wanted_order(alloc, before, pipe, end, &after)?;
     let solution = reordered(alloc, before, end, pole, order, after)?;
     Ok(solution)

@@ -86,7 +86,7 @@ pub(crate) fn reordered<B: Board>(
     let second = place_of(verts.as_slice(), v);
     let darts = darts_of_edges(alloc, board, edges.as_slice(), u, order.items())?;
     let permuted = permute_components(alloc, &rot, first, second, &darts)?;
-    let _ = permuted.darts();
+    permuted.is_rotation();
     let row = edges_of_darts(alloc, edges.as_slice(), permuted.list(second).items())?;
     Ok(with_lists(s, (u, order), (v, row)))
 }

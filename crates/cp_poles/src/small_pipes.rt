@@ -132,6 +132,6 @@ pub fn small_back<B: Board>(before: &B, pipe: usize, after: Solution) -> Solutio
     requires solved { (j : Synchronized) × After (B.instance before.now) (Small pipe) j × IsSolution j after }
     ensures { IsSolution (B.instance before.now) result }
 {
-    let _ = before.pipe_ends(pipe);
+    before.follows_rules();
     after
 }

@@ -17,7 +17,7 @@ fn neighbour<T: RotationSystem>(t: &T, v: usize, i: usize) -> usize
     ensures within { result < (T.system t.now).vertices }
     ensures value { result ≡ neighbour_at (T.system t.now) v i }
 {
-    let _darts = t.darts();
+    t.is_rotation();
     t.at(other_dart(t.item(v, i)))
 }
 

@@ -24,7 +24,7 @@ fn dart_after<T: RotationSystem>(t: &T, d: usize) -> usize
     ensures within { result < darts (T.system t.now) }
     ensures value { result ≡ face_step (T.system t.now) d }
 {
-    let _darts = t.darts();
+    t.is_rotation();
     t.next(other_dart(d))
 }
 

@@ -138,6 +138,16 @@ impl Rot {
         self.at.as_slice().len()
     }
 
+    /// The law of each value: it is a rotation system, and its numbers fit. Constant time.
+    pub fn is_rotation(&self)
+        ensures rotation { IsRotation self.now }
+        ensures vertices { self.now.vertices < 2 ^ 60 }
+        ensures darts { darts self.now < 2 ^ 60 }
+    {
+        let _ = &self.table;
+        let _ = (self.lists.as_slice().len(), self.at.as_slice().len());
+    }
+
     /// The number of the vertex at which dart `d` stands.
     pub fn at(&self, d: usize) -> usize
         requires { d < darts self.now }
@@ -320,5 +330,9 @@ impl RotationSystem for Rot {
 
     fn item(&self, v: usize, i: usize) -> usize {
         self.list(v).items()[i]
+    }
+
+    fn is_rotation(&self) {
+        self.is_rotation();
     }
 }

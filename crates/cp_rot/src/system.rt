@@ -44,6 +44,12 @@ pub trait RotationSystem {
         requires vertex { v < (system self.now).vertices }
         requires place { i < length (list_of (system self.now) v) }
         ensures { result ≡ slice_index (list_of (system self.now) v) i };
+
+    /// The law of each value: it tells a rotation system, and its numbers fit. Constant time.
+    fn is_rotation(&self)
+        ensures rotation { IsRotation (system self.now) }
+        ensures vertices { (system self.now).vertices < 2 ^ 60 }
+        ensures darts { darts (system self.now) < 2 ^ 60 };
 }
 
 // The other dart of the same edge.

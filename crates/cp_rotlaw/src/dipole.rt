@@ -34,6 +34,6 @@ pub fn dipole_reversed(alloc: Global, a: &Rot) -> Result<bool, Memory>
     ensures reverse { IfOk result (λ is. IsTrue is ↔ AreReverse a.now) }
     ensures genus { IfOk result (λ is. IsTrue is ↔ HasGenusZero a.now) }
 {
-    let _ = a.vertices();
+    a.is_rotation();
     lists_are_reverse(alloc, a)
 }

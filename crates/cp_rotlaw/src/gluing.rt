@@ -57,7 +57,7 @@ fn vertices_glued(
     ensures second { IfOk result (λ at. (d : ℕ) → d < darts b.now → vertex_of b.now d ≢ w
         → slice_index at.items (slice_index numbers.now d) ≡ second_vertex a.now w (vertex_of b.now d)) }
 {
-    let _ = b.darts();
+    b.is_rotation();
     let (vertices, darts) = (a.vertices(), a.darts());
     let mut at = vec![in alloc; 0; darts + 2 * kept]?;
     write_first(at.as_mut_slice(), a, u);
@@ -80,7 +80,8 @@ fn glued_parts(
     ensures result { IfOk result (λ parts. IsGlued a.now u b.now w pairs.now (system_of parts.0.items parts.1.items)) }
     ensures even { IfOk result (λ parts. length parts.0.items ≡ 2 * (length parts.0.items / 2)) }
 {
-    let _ = (a.vertices(), b.vertices());
+    a.is_rotation();
+    b.is_rotation();
     let (numbers, kept) = dart_numbers(alloc, a, b, w, pairs)?;
     let numbers = numbers.as_slice();
     let at = vertices_glued(alloc, a, u, b, w, numbers, kept)?;
@@ -113,7 +114,8 @@ pub fn glue(
     ensures result { IfOk result (λ rot. IsGlued a.now u b.now w pairs.now rot) }
     ensures genus { IfOk result HasGenusZero }
 {
-    let _ = (a.vertices(), b.vertices());
+    a.is_rotation();
+    b.is_rotation();
     let (at, lists) = glued_parts(alloc, a, u, b, w, pairs)?;
     Rot::from_rotation(alloc, at.as_slice(), lists.as_slice())
 }

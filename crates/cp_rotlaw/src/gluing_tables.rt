@@ -34,7 +34,7 @@ fn avoids(b: &Rot, w: usize, e: usize) -> bool
     requires { e < edges b.now }
     ensures { result ≡ edge_avoids b.now w e }
 {
-    let _ = b.darts();
+    b.is_rotation();
     let (source, target) = (b.at(2 * e), b.at(2 * e + 1));
     source != w && target != w
 }
@@ -112,7 +112,7 @@ pub(crate) fn write_second(at: &mut [usize], b: &Rot, w: usize, numbers: &[usize
     ensures written { (d : ℕ) → d < darts b.now → vertex_of b.now d ≢ w → slice_index at.new (slice_index numbers.now d) ≡ start + count (vertex_of b.now d) (is_other w) }
     ensures others { (x : ℕ) → ((d : ℕ) → d < darts b.now → vertex_of b.now d ≢ w → slice_index numbers.now d ≢ x) → slice_index at.new x ≡ slice_index at.old x }
 {
-    let _ = b.vertices();
+    b.is_rotation();
     for d in 0..b.darts() {
         let v = b.at(d);
         if v != w {
@@ -150,7 +150,7 @@ fn list_glued(
     ensures { IfOk result (λ list. list ≡ glued_list a.now u b.now w (slice_index numbers.now) x) }
 {
     let first = a.vertices() - 1;
-    let _ = b.vertices();
+    b.is_rotation();
     if x < first {
         CycList::from_slice(alloc, a.list(vertex_numbered(u, x)).items())
     } else {

@@ -74,7 +74,7 @@ pub(crate) fn pole_parts(alloc: Global, a: &Rot, u: usize, v: usize) -> Result<V
         → slice_index parts.items d < a.now.vertices + edges a.now) }
     ensures parts { IfOk result (λ parts. (number : ℕ → ℕ) × ArePoleParts a.now u v number (slice_index parts.items)) }
 {
-    let _ = a.darts();
+    a.is_rotation();
     let numbers = numbers_between(alloc, a, u, v)?;
     parts_by_number(alloc, a, u, v, numbers.as_slice())
 }

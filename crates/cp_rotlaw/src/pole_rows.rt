@@ -149,7 +149,7 @@ pub(crate) fn permuted_row(
     requires many { 1 < length order.now }
     ensures { IfOk result (λ row. IsPermutedRow a.now u v order.now row.items) }
 {
-    let _ = a.darts();
+    a.is_rotation();
     let parts = pole_parts(alloc, a, u, v)?;
     let marks = entered_marks(alloc, a, u, parts.as_slice())?;
     let (parts, marks) = (parts.as_slice(), marks.as_slice());

@@ -33,7 +33,7 @@ fn permuted(alloc: Global, a: &Rot, u: usize, v: usize, order: &[usize]) -> Resu
     ensures result { IfOk result (λ rot. IsPermutedAt a.now u v order.now rot) }
     ensures genus { IfOk result HasGenusZero }
 {
-    let _ = a.darts();
+    a.is_rotation();
     let at = vertices_of_darts(alloc, a)?;
     let row = permuted_row(alloc, a, u, v, order)?;
     let lists = permuted_lists(alloc, a, u, v, order, row.as_slice())?;
@@ -61,7 +61,7 @@ pub fn permute_components(
     ensures result { IfOk result (λ rot. IsPermutedAt a.now u v order.now rot) }
     ensures genus { IfOk result HasGenusZero }
 {
-    let _ = a.darts();
+    a.is_rotation();
     if order.items().len() < 2 {
         return Rot::stored(alloc, a);
     }

@@ -55,7 +55,7 @@ fn is_corner(a: &Rot, side: &[bool], merged: &[bool], x: usize) -> bool
     ensures yes { result ≡ true → IsCorner a.now side.now merged.now x }
     ensures no { result ≡ false → IsCorner a.now side.now merged.now x → ⊥ }
 {
-    let _ = (a.vertices(), a.darts());
+    a.is_rotation();
     let behind = a.next(x);
     !side[a.at(x)] && merged[far_end(a, x)] && !merged[far_end(a, behind)]
 }
@@ -107,7 +107,7 @@ fn merged_at_corner(
     ensures { IfOk result (λ more.
         IsMerging a.now side.now (set merged.now (vertex_of a.now (twin (next a.now x))) true) more.items) }
 {
-    let _ = (a.darts(), side.len(), merged.len());
+    a.is_rotation();
     let twin = other_dart(a.next(x));
     let list = a.list(a.at(twin)).items();
     turned_pair(
@@ -134,7 +134,7 @@ fn next_merge(
         (λ more. Has more.0 (vertices_left a.now side.now merged.now)
         × IsMerging a.now side.now (set merged.now more.0 true) more.1.items)) }
 {
-    let _ = a.darts();
+    a.is_rotation();
     if let Some(x) = corner(a, side, merged) {
         let w = far_end(a, a.next(x));
         let more = merged_at_corner(alloc, a, side, merged, row, x)?;
@@ -178,7 +178,7 @@ pub fn merge_side(alloc: Global, a: &Rot, side: &[bool]) -> Result<CycList, Memo
     requires sides { IsSideOf a.now side.now }
     ensures { IfOk result (λ order. IsSideOrder a.now side.now order) }
 {
-    let _ = (a.darts(), side.len());
+    a.is_rotation();
     let row = merged_row(alloc, a, side)?;
     edges_of(alloc, row.as_slice())
 }

@@ -94,7 +94,8 @@ fn fit(
     ensures partners { IfOk result (λ fit. IsTrue fit → ArePartners a.now u b.now w pairs.now) }
     ensures reversed { IfOk result (λ fit. IsTrue fit → AreReversed a.now u b.now w pairs.now) }
 {
-    let _ = (a.vertices(), b.vertices());
+    a.is_rotation();
+    b.is_rotation();
     let first = firsts(alloc, pairs)?;
     let second = seconds_reversed(alloc, pairs)?;
     Ok(are_lists(a, u, b, w, first.as_slice(), &second))

@@ -27,7 +27,7 @@ fn lead_to(a: &Rot, u: usize, v: usize) -> bool
 fn are_poles(a: &Rot, u: usize, v: usize) -> bool
     ensures { IsTrue result → IsBond (graph_of a.now) u v }
 {
-    let _ = a.darts();
+    a.is_rotation();
     u != v && lead_to(a, u, v)
 }
 

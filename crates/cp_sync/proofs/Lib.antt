@@ -12,5 +12,5 @@ mod NamedOrder
 mod Kept
 mod Moves
 mod RightPipes
-mod NumberedGraphs
+pub mod NumberedGraphs
 mod WorkedRows

@@ -84,4 +84,8 @@ pub trait Board {
         requires { IsRewriteOf (instance self.old) w.now }
         ensures ok { OnOk result (instance self.new ≡ rewritten w.now (instance self.old)) }
         ensures err { OnErr result (self.new ≡ self.old) };
+
+    /// The law of each value: what it stands for follows the rules. Constant time.
+    fn follows_rules(&self)
+        ensures { IsSynchronized (instance self.now) };
 }

@@ -239,4 +239,8 @@ impl Board for Instance {
         *self = self.after_rewrite(alloc, w)?;
         Ok(())
     }
+
+    fn follows_rules(&self) {
+        let _ = &self.verts;
+    }
 }

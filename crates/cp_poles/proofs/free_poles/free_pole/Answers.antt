@@ -6,12 +6,8 @@ use Rattle.cp_poles.proofs.FreePoles.{Performs-free}
 use Rattle.cp_poles.proofs.SmallRewrites.{live_pipe}
 use Rattle.cp_poles.proofs.free_poles.free_pole.Goals as goal
 
-pub pipe_ends-requires : goal.pipe_ends-requires
-pipe_ends-requires g c =
-    live_pipe (g.B.Board.instance c.args.board.now) c.args.pipe c.requires.0 c.requires.1
-
 pub returns : goal.returns
 returns g c =
     let i = g.B.Board.instance c.args.board.now in
     subst (Performs i (FreePole c.args.pipe c.args.end c.args.pole)) (sym c.in_ok-rewrite.ensures)
-    (Performs-free i c.args.pipe c.args.end c.args.pole c.pipe_ends.ensures.rules c.requires)
+    (Performs-free i c.args.pipe c.args.end c.args.pole c.follows_rules.ensures c.requires)

@@ -8,10 +8,6 @@ use Rattle.cp_poles.proofs.FreePoles.{IsSolution-before_free, free-IsTurnable, l
 use Rattle.cp_poles.proofs.SmallRewrites.{live_pipe}
 use Rattle.cp_poles.proofs.free_poles.free_pole_back.Goals as goal
 
-pub pipe_ends-requires : goal.pipe_ends-requires
-pipe_ends-requires g c =
-    live_pipe (g.B.Board.instance c.args.before.now) c.args.pipe c.requires.allowed.0 c.requires.allowed.1
-
 pub wanted_order-requires-clause-live : goal.wanted_order-requires-clause-live
 wanted_order-requires-clause-live g c =
     live_pipe (g.B.Board.instance c.args.before.now) c.args.pipe c.requires.allowed.0 c.requires.allowed.1
@@ -21,19 +17,19 @@ wanted_order-requires-clause-listed g c =
     let i = g.B.Board.instance c.args.before.now in
     let p = c.requires.allowed.0 in
     let t = free-IsTurnable i c.requires.solved.0 c.args.pipe c.args.end c.args.pole c.args.after
-    c.pipe_ends.ensures.rules c.requires.allowed c.requires.solved.1 c.requires.solved.2 in
+    c.follows_rules.ensures c.requires.allowed c.requires.solved.1 c.requires.solved.2 in
     other_named i c.args.pipe p c.requires.allowed.1 c.args.end c.args.after t.names
-    (live_other i c.args.pipe p c.pipe_ends.ensures.rules c.requires.allowed.1 c.args.end c.requires.allowed.2.end)
+    (live_other i c.args.pipe p c.follows_rules.ensures c.requires.allowed.1 c.args.end c.requires.allowed.2.end)
 
 pub reordered-requires-clause-live_u : goal.reordered-requires-clause-live_u
 reordered-requires-clause-live_u g c =
     (free-IsTurnable (g.B.Board.instance c.args.before.now) c.requires.solved.0 c.args.pipe c.args.end c.args.pole
-    c.args.after c.pipe_ends.ensures.rules c.requires.allowed c.requires.solved.1 c.requires.solved.2).live_end
+    c.args.after c.follows_rules.ensures c.requires.allowed c.requires.solved.1 c.requires.solved.2).live_end
 
 pub reordered-requires-clause-live_v : goal.reordered-requires-clause-live_v
 reordered-requires-clause-live_v g c =
     (free-IsTurnable (g.B.Board.instance c.args.before.now) c.requires.solved.0 c.args.pipe c.args.end c.args.pole
-    c.args.after c.pipe_ends.ensures.rules c.requires.allowed c.requires.solved.1 c.requires.solved.2).live_pole
+    c.args.after c.follows_rules.ensures c.requires.allowed c.requires.solved.1 c.requires.solved.2).live_pole
 
 pub reordered-requires-clause-bond : goal.reordered-requires-clause-bond
 reordered-requires-clause-bond g c = c.requires.allowed.2.bond
@@ -41,18 +37,18 @@ reordered-requires-clause-bond g c = c.requires.allowed.2.bond
 pub reordered-requires-clause-names : goal.reordered-requires-clause-names
 reordered-requires-clause-names g c =
     (free-IsTurnable (g.B.Board.instance c.args.before.now) c.requires.solved.0 c.args.pipe c.args.end c.args.pole
-    c.args.after c.pipe_ends.ensures.rules c.requires.allowed c.requires.solved.1 c.requires.solved.2).names
+    c.args.after c.follows_rules.ensures c.requires.allowed c.requires.solved.1 c.requires.solved.2).names
 
 pub reordered-requires-clause-rotation : goal.reordered-requires-clause-rotation
 reordered-requires-clause-rotation g c =
     (free-IsTurnable (g.B.Board.instance c.args.before.now) c.requires.solved.0 c.args.pipe c.args.end c.args.pole
-    c.args.after c.pipe_ends.ensures.rules c.requires.allowed c.requires.solved.1 c.requires.solved.2).rotation
+    c.args.after c.follows_rules.ensures c.requires.allowed c.requires.solved.1 c.requires.solved.2).rotation
 
 pub reordered-requires-clause-arranged : goal.reordered-requires-clause-arranged
 reordered-requires-clause-arranged g c =
     let i = g.B.Board.instance c.args.before.now in
     let t = free-IsTurnable i c.requires.solved.0 c.args.pipe c.args.end c.args.pole c.args.after
-    c.pipe_ends.ensures.rules c.requires.allowed c.requires.solved.1 c.requires.solved.2 in
+    c.follows_rules.ensures c.requires.allowed c.requires.solved.1 c.requires.solved.2 in
     subst (ArrangesEdges (graph i) c.args.end)
     (sym (c.in_ok-order.ensures
     ∙ wanted-told i c.args.pipe c.requires.allowed.0 c.requires.allowed.1 c.args.end (list_in c.args.after)))
@@ -63,7 +59,7 @@ returns g c =
     let i = g.B.Board.instance c.args.before.now in
     let s = list_in c.args.after in
     IsSolution-before_free i c.requires.solved.0 c.args.pipe c.args.end c.args.pole c.args.after
-    c.in_ok-solution.solution c.pipe_ends.ensures.rules c.requires.allowed c.requires.solved.1 c.requires.solved.2
+    c.in_ok-solution.solution c.follows_rules.ensures c.requires.allowed c.requires.solved.1 c.requires.solved.2
     c.in_ok-solution.ensures.names
     (subst (λ (o : List ℕ). IsReordered (graph i) s c.args.end c.args.pole o (list_in c.in_ok-solution.solution))
     (c.in_ok-order.ensures

@@ -3,11 +3,7 @@ use Rattle.cp_poles.proofs.SmallPipes.{IsSolution-before_small}
 use Rattle.cp_poles.proofs.SmallRewrites.{live_pipe}
 use Rattle.cp_poles.proofs.small_pipes.small_back.Goals as goal
 
-pub pipe_ends-requires : goal.pipe_ends-requires
-pipe_ends-requires g c =
-    live_pipe (g.B.Board.instance c.args.before.now) c.args.pipe c.requires.allowed.0 c.requires.allowed.1
-
 pub returns : goal.returns
 returns g c =
     IsSolution-before_small (g.B.Board.instance c.args.before.now) c.requires.solved.0 c.args.pipe c.args.after
-    c.pipe_ends.ensures.rules c.requires.allowed c.requires.solved.1 c.requires.solved.2
+    c.follows_rules.ensures c.requires.allowed c.requires.solved.1 c.requires.solved.2

@@ -21,7 +21,7 @@ returns-clause-within c =
     let are = subst (AreNumbered (Connected (pairs_between r c.args.u c.args.v)) r.vertices)
     (sym c.as_slice.ensures.value) c.in_ok-numbers.ensures in
     IfOk-weaker c.parts_by_number.result _ _
-    (λ parts e. table_low r c.darts.ensures.rotation c.args.u c.args.v c.as_slice.result.now parts.items are
+    (λ parts e. table_low r c.is_rotation.ensures.rotation c.args.u c.args.v c.as_slice.result.now parts.items are
     c.requires.first c.requires.second e)
     c.parts_by_number.ensures
 
@@ -31,6 +31,6 @@ returns-clause-parts c =
     let are = subst (AreNumbered (Connected (pairs_between r c.args.u c.args.v)) r.vertices)
     (sym c.as_slice.ensures.value) c.in_ok-numbers.ensures in
     IfOk-weaker c.parts_by_number.result _ _
-    (λ parts e. table-ArePoleParts r c.darts.ensures.rotation c.args.u c.args.v c.as_slice.result.now parts.items are
+    (λ parts e. table-ArePoleParts r c.is_rotation.ensures.rotation c.args.u c.args.v c.as_slice.result.now parts.items are
     c.requires.first c.requires.second c.requires.bond e)
     c.parts_by_number.ensures

@@ -18,7 +18,7 @@ turned_to_other_part-requires c =
     (c.items-items.ensures ∙ c.list.ensures) in
     All-from (λ d. d < length ps) c.as_slice-2.result.now
     (λ d h. subst (λ n. d < n) (sym size)
-    (kept_dart r c.darts.ensures.rotation c.args.v c.requires.second
+    (kept_dart r c.is_rotation.ensures.rotation c.args.v c.requires.second
     (λ d. slice_index_or c.as_slice-marks.result.now (slice_index ps d) false) c.as_slice-2.result.now held d h))
 
 pub joined_by_part-requires-clause-items : goal.joined_by_part-requires-clause-items
@@ -31,7 +31,7 @@ joined_by_part-requires-clause-items c =
     (c.items-items.ensures ∙ c.list.ensures) in
     All-from (λ d. d < length ps) c.as_slice-4.result.now
     (λ d h. subst (λ n. d < n) (sym size)
-    (turned_dart r c.darts.ensures.rotation c.args.v c.requires.second
+    (turned_dart r c.is_rotation.ensures.rotation c.args.v c.requires.second
     (λ d. slice_index_or c.as_slice-marks.result.now (slice_index ps d) false) c.as_slice-2.result.now
     c.as_slice-4.result.now held
     (subst (IsTurn c.as_slice-2.result.now) (sym c.as_slice-4.ensures.value) c.in_ok-turned.ensures.turn) d h))
@@ -54,7 +54,7 @@ returns c =
     (subst (λ xs. IsEnteredTest r u (slice_index xs) (λ k. slice_index_or c.in_ok-marks.marks.items k false))
     (c.as_slice.ensures.value ∙ sym c.as_slice-parts.ensures.value) c.in_ok-marks.ensures.entered) in
     IfOk-weaker c.joined_by_part.result _ _
-    (λ row e. IsPermutedRow-made r c.darts.ensures.rotation u c.args.v c.requires.second c.args.order.now
+    (λ row e. IsPermutedRow-made r c.is_rotation.ensures.rotation u c.args.v c.requires.second c.args.order.now
     c.requires.arranged c.requires.many ps ms parts test held free
     (subst (IsTurn c.as_slice-2.result.now) (sym c.as_slice-4.ensures.value) c.in_ok-turned.ensures.turn)
     (subst (λ ws. (d f : ℕ) → Has d c.as_slice-2.result.now → Has f c.as_slice-2.result.now

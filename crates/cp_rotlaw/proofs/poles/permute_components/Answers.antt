@@ -12,5 +12,5 @@ returns-then-items-lt2-clause-result c =
     let few = subst (λ xs. length xs < 2) c.items.ensures c.if-items-lt2.true in
     IfOk-weaker c.stored.result P (IsPermutedAt r c.args.u c.args.v c.args.order.now)
     (λ rot e. subst (IsPermutedAt r c.args.u c.args.v c.args.order.now) (sym e)
-    (unchanged-IsPermutedAt r c.darts.ensures.rotation c.args.u c.args.v c.requires.first c.args.order.now
+    (unchanged-IsPermutedAt r c.is_rotation.ensures.rotation c.args.u c.args.v c.requires.first c.args.order.now
     c.requires.arranged few)) c.stored.ensures

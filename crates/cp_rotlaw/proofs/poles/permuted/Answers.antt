@@ -13,7 +13,7 @@ from_rotation-requires c =
     let r = c.args.a.now in
     let row = subst (IsPermutedRow r c.args.u c.args.v c.args.order.now) (sym c.as_slice.ensures.value)
     c.in_ok-row.ensures in
-    let h = HasPermuted-made r c.darts.ensures.rotation c.args.u c.args.v c.requires.first c.requires.second
+    let h = HasPermuted-made r c.is_rotation.ensures.rotation c.args.u c.args.v c.requires.first c.requires.second
     c.requires.bond.differ c.requires.plane c.args.order.now c.as_slice.result.now c.as_slice-2.result.now
     c.as_slice-3.result.now c.requires.arranged row (c.as_slice-2.ensures.value ∙ c.in_ok-at.ensures)
     (c.as_slice-3.ensures.value ∙ c.in_ok-lists.ensures) in
@@ -24,7 +24,7 @@ returns-clause-result c =
     let r = c.args.a.now in
     let row = subst (IsPermutedRow r c.args.u c.args.v c.args.order.now) (sym c.as_slice.ensures.value)
     c.in_ok-row.ensures in
-    let h = HasPermuted-made r c.darts.ensures.rotation c.args.u c.args.v c.requires.first c.requires.second
+    let h = HasPermuted-made r c.is_rotation.ensures.rotation c.args.u c.args.v c.requires.first c.requires.second
     c.requires.bond.differ c.requires.plane c.args.order.now c.as_slice.result.now c.as_slice-2.result.now
     c.as_slice-3.result.now c.requires.arranged row (c.as_slice-2.ensures.value ∙ c.in_ok-at.ensures)
     (c.as_slice-3.ensures.value ∙ c.in_ok-lists.ensures) in
@@ -37,7 +37,7 @@ returns-clause-genus c =
     let r = c.args.a.now in
     let row = subst (IsPermutedRow r c.args.u c.args.v c.args.order.now) (sym c.as_slice.ensures.value)
     c.in_ok-row.ensures in
-    let h = HasPermuted-made r c.darts.ensures.rotation c.args.u c.args.v c.requires.first c.requires.second
+    let h = HasPermuted-made r c.is_rotation.ensures.rotation c.args.u c.args.v c.requires.first c.requires.second
     c.requires.bond.differ c.requires.plane c.args.order.now c.as_slice.result.now c.as_slice-2.result.now
     c.as_slice-3.result.now c.requires.arranged row (c.as_slice-2.ensures.value ∙ c.in_ok-at.ensures)
     (c.as_slice-3.ensures.value ∙ c.in_ok-lists.ensures) in

@@ -8,7 +8,7 @@ pub returns : goal.returns
 returns c =
     let r = c.args.a.now in
     let m = c.in_ok-row.ensures in
-    let order = IsSideOrder-merged r c.darts.ensures.rotation c.args.side.now c.requires.sides m.merged
+    let order = IsSideOrder-merged r c.is_rotation.ensures.rotation c.args.side.now c.requires.sides m.merged
     c.in_ok-row.row.items m.state m.none c.requires.plane in
     let P : List ℕ → Type 0 = λ list. list ≡ map (λ d. d / 2) c.as_slice.result.now in
     IfOk-weaker c.edges_of.result P (IsSideOrder r c.args.side.now)

@@ -13,7 +13,7 @@ use Rattle.cp_rotlaw.proofs.sides.merged_at_corner.Goals as goal
 pub at-requires : goal.at-requires
 at-requires c =
     let r = c.args.a.now in
-    let is = c.darts.ensures.rotation in
+    let is = c.is_rotation.ensures.rotation in
     let e : c.other_dart-twin.result ≡ twin (next r c.args.x) = c.other_dart-twin.ensures ∙ ap twin c.next.ensures in
     subst (λ d. d < darts r) (sym e)
     (far_within r is (next r c.args.x) (next_stands r is c.args.x c.requires.corner.within).0).0
@@ -21,7 +21,7 @@ at-requires c =
 pub place-requires-2 : goal.place-requires-2
 place-requires-2 c =
     let r = c.args.a.now in
-    let is = c.darts.ensures.rotation in
+    let is = c.is_rotation.ensures.rotation in
     let t = c.other_dart-twin.result in
     let e : t ≡ twin (next r c.args.x) = c.other_dart-twin.ensures ∙ ap twin c.next.ensures in
     let below : t < darts r = subst (λ d. d < darts r) (sym e)
@@ -33,7 +33,7 @@ place-requires-2 c =
 pub returns : goal.returns
 returns c =
     let r = c.args.a.now in
-    let is = c.darts.ensures.rotation in
+    let is = c.is_rotation.ensures.rotation in
     let k = c.requires.corner in
     let e : c.other_dart-twin.result ≡ twin (next r c.args.x) = c.other_dart-twin.ensures ∙ ap twin c.next.ensures in
     let w : ℕ = vertex_of r (twin (next r c.args.x)) in

@@ -14,7 +14,7 @@ use Rattle.cp_rotlaw.proofs.sides.next_merge.Goals as goal
 pub returns-in-Some : goal.returns-in-Some
 returns-in-Some c =
     let r = c.args.a.now in
-    let is = c.darts.ensures.rotation in
+    let is = c.is_rotation.ensures.rotation in
     let side = c.args.side.now in
     let merged = c.args.merged.now in
     let sides = c.requires.sides in
@@ -31,7 +31,7 @@ returns-in-Some c =
 
 pub list-requires : goal.list-requires
 list-requires c =
-    (left_are c.args.a.now c.darts.ensures.rotation c.args.side.now c.requires.sides c.args.merged.now
+    (left_are c.args.a.now c.is_rotation.ensures.rotation c.args.side.now c.requires.sides c.args.merged.now
     c.in-Some-first_left.w c.in-Some-first_left.ensures).0
 
 pub returns-in_ok-more-in-Some-first_left : goal.returns-in_ok-more-in-Some-first_left
@@ -48,6 +48,6 @@ returns-in_ok-more-in-Some-first_left c =
     ∙ ap₂ (λ (xs ys : List ℕ). xs ++ ys) (append-nil row) (append-nil c.items.result.now ∙ list) in (
       left,
       subst (IsMerging r side (set merged w true)) (sym made)
-          (apart-IsMerging r c.darts.ensures.rotation side c.requires.sides merged row c.requires.state
+          (apart-IsMerging r c.is_rotation.ensures.rotation side c.requires.sides merged row c.requires.state
           (closed_without_corner r side merged c.in_default.ensures) w left),
     )
