@@ -68,7 +68,7 @@ edges_of_darts-requires g c =
     (subst (All (λ d. d / 2 < length (edge_names i)))
     (sym (c.items-2.ensures ∙ c.list.ensures ∙ ap (list_of t) second))
     (listed_low i c.verts.ensures.rules s c.requires.rotation u c.args.order c.requires.live_u c.requires.arranged v
-    c.requires.live_v t c.darts-2.ensures.rotation made c.in_ok-permuted.ensures.genus v c.requires.live_v))
+    c.requires.live_v t c.is_rotation.ensures.rotation made c.in_ok-permuted.ensures.genus v c.requires.live_v))
 
 pub returns-clause-names : goal.returns-clause-names
 returns-clause-names g c =
@@ -97,5 +97,5 @@ returns-clause-lists g c =
     ∙ ap (map (edge_of_dart h)) (c.items-2.ensures ∙ c.list.ensures ∙ ap (list_of t) second) in
     subst (λ (rows : List (ℕ × List ℕ)). IsReordered h s u v c.args.order (list_in rows)) (sym c.with_lists.ensures)
     (IsReordered-made i c.verts.ensures.rules c.args.s c.requires.names c.requires.rotation u v c.requires.live_u
-    c.requires.live_v c.requires.bond.differ c.args.order c.requires.arranged t c.darts-2.ensures.rotation made
+    c.requires.live_v c.requires.bond.differ c.args.order c.requires.arranged t c.is_rotation.ensures.rotation made
     c.in_ok-permuted.ensures.genus c.in_ok-row.row row)
