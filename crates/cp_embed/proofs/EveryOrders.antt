@@ -52,7 +52,7 @@ kid_at (z ∷ zs) (suc i) d lt =
     let h = kid_at zs i d (omega (arith, lt)) in (z ∷ h.0, h.1, ap (λ us. z ∷ us) h.2)
 
 -- a kid of a row is one of each permutation
-kid-permuted : (k : Node) (xs ys : List Node) → IsPermutation xs ys → IsKid k xs → IsKid k ys
+pub kid-permuted : (k : Node) (xs ys : List Node) → IsPermutation xs ys → IsKid k xs → IsKid k ys
 kid-permuted k xs ys p h =
     let all : All (λ n. IsKid n ys) xs =
     All-permutation (λ n. IsKid n ys) ys xs (IsPermutation-sym xs ys p) (own ys)
@@ -137,7 +137,7 @@ no_big_kid n kids inner once every k h two a b ha ha_n hb nb =
     (omega (arith, two, length_permutation (leaves k) s.1 same))))
 
 -- a P-node that branches has two kids at least, and they branch
-branching-P : (o : ℕ) (ks : List Node) → is_branching (P o ks) ≡ true
+pub branching-P : (o : ℕ) (ks : List Node) → is_branching (P o ks) ≡ true
     → (1 < length ks) × (list_all is_branching ks ≡ true)
 unfolding is_branching
 branching-P o ks h =
@@ -149,14 +149,14 @@ branching-P o ks h =
     (ltb-true 1 (length ks) w.0, w.1)
 
 -- and so has a Q-node
-branching-Q : (v : ℕ) (ks : List Node) → is_branching (Q v ks) ≡ true
+pub branching-Q : (v : ℕ) (ks : List Node) → is_branching (Q v ks) ≡ true
     → (1 < length ks) × (list_all is_branching ks ≡ true)
 branching-Q v ks h =
     let w = and_parts (nat_lt 1 (length ks)) (list_all is_branching ks) (sym (branching_Q v ks) ∙ h) in
     (ltb-true 1 (length ks) w.0, w.1)
 
 -- each kid of a row that branches does
-each_branches : (ks : List Node) → list_all is_branching ks ≡ true → (k : Node) → IsKid k ks → is_branching k ≡ true
+pub each_branches : (ks : List Node) → list_all is_branching ks ≡ true → (k : Node) → IsKid k ks → is_branching k ≡ true
 each_branches [] h k kid = absurd (no_kid k kid)
 each_branches (m ∷ ks) h k kid =
     let parts = and_parts (is_branching m) (list_all is_branching ks) h in
@@ -167,7 +167,7 @@ each_branches (m ∷ ks) h k kid =
 
 mutual
   -- a reading of a node that branches is not empty
-  long : (may : ℕ → Bool → Bool) (n : Node) (w : List ℕ) → Reads may n w → is_branching n ≡ true → 1 ≤ length w
+  pub long : (may : ℕ → Bool → Bool) (n : Node) (w : List ℕ) → Reads may n w → is_branching n ≡ true → 1 ≤ length w
   long may _ _ (leaf x) b = omega arith
   long may _ _ (any_order o ks turn xs p all) b =
       let w = branching-P o ks b in
@@ -236,7 +236,7 @@ row_or may _ _ (more k ks xs ys r all) b = ⊎_elim
     (leaf_or may k xs r (b k ([], ks, refl)))
 
 -- a kid of a row that is read has a leaf
-some_leaf : (may : ℕ → Bool → Bool) (ks : List Node) (w : List ℕ) → ReadsAll may ks w
+pub some_leaf : (may : ℕ → Bool → Bool) (ks : List Node) (w : List ℕ) → ReadsAll may ks w
     → ((k : Node) → IsKid k ks → is_branching k ≡ true) → (k : Node) → IsKid k ks → (a : ℕ) × Has a (leaves k)
 some_leaf may ks w all b k h =
     let s = row_split may ks w all k h in

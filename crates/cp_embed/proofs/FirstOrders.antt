@@ -1,12 +1,17 @@
 -- The tree of the first vertex of the order in which the vertices are taken.
-use Rattle.std.proofs.Common.{◌≡◌, ◌≢◌, ℕ, ◌<◌, Some, None, List, [], ◌∷◌, length, slice_index, reverse, sym, ◌∙◌, subst, arith}
-use Rattle.cp_lists.specs.CyclicLists.{Has, Distinct, but}
+use Rattle.std.proofs.Common.{◌≡◌, ◌≢◌, ℕ, ◌<◌, Bool, true, false, Some, None, List, [], ◌∷◌, ◌++◌, length, replicate, slice_index, reverse, refl, sym, ap, ◌∙◌, subst, append-nil, arith}
+use Rattle.std.proofs.lemmas.List.{length-replicate}
+use Rattle.std.proofs.lemmas.List.Sorted.{length_permutation}
+use Rattle.cp_lists.specs.CyclicLists.{Has, Lacks, Distinct, but}
 use Rattle.cp_lists.specs.Turns.{IsTurn}
-use Rattle.cp_lists.proofs.DistinctLists.{Has_at}
+use Rattle.cp_lists.proofs.DistinctLists.{Has_at, Lacks-from, has_lacks, but-Lacks}
 use Rattle.cp_lists.proofs.ReversedLists.{Has-reverse, reverse-Has, Distinct-reverse}
-use Rattle.cp_pq.specs.Nodes.{leaves}
-use Rattle.cp_pq.specs.Promises.{IsStar, IsForced, IsNeverInRow}
-use Rattle.cp_pq.specs.Trees.{PQTree, IsWellFormed}
+use Rattle.cp_pq.specs.declared.node.Node.{Node}
+use Rattle.cp_pq.specs.declared.node.Node.TheVariants.{P}
+use Rattle.cp_pq.specs.Bits.{bit_of}
+use Rattle.cp_pq.specs.Nodes.{leaves, IsIn}
+use Rattle.cp_pq.specs.Promises.{IsStar, IsForced, IsNeverInRow, in_direction}
+use Rattle.cp_pq.specs.Trees.{PQTree, IsPair, IsWellFormed}
 use Rattle.cp_embed.specs.Arrangements.{IsArrangementOf}
 use Rattle.cp_embed.specs.Embeddings.{HasTwoEdges, IsNeverEmbedded}
 use Rattle.cp_embed.specs.ListedBlocks.{ListedGraph, IsListedBlock, list_given, edges_at}
@@ -14,9 +19,12 @@ use Rattle.cp_conn.specs.Darts.{start}
 use Rattle.cp_embed.specs.Sweeps.{IsStagePair, IsSweep}
 use Rattle.cp_embed.specs.TreeSteps.{IsStageTree}
 use Rattle.cp_embed.specs.VertexOrders.{IsTakingOrder, taken_at, last_of, dart_at}
+use Rattle.cp_embed.proofs.Arrangements.{IsArrangementOf-reverse}
 use Rattle.cp_embed.proofs.EdgeDarts.{edges_at-Has}
 use Rattle.cp_embed.proofs.FirstEdges.{rest-some, root-touches_first}
 use Rattle.cp_embed.proofs.FirstTrees.{rest-Distinct, star_vars, star_leaves-are, free_first-IsStageTree, behind-arranges, listed_first-IsStageTree, listed_first-none}
+use Rattle.cp_embed.proofs.OneReading.{forced-no_P}
+use Rattle.cp_embed.proofs.RowNodes.{IsPermutation-arranges}
 use Rattle.cp_embed.proofs.StageTrees.{root_dart, no_loops, order-long, order-within, taken_more, sweep_to, given_arranges, none-IsNeverEmbedded}
 use Rattle.cp_embed.proofs.TakenTrees.{some_item}
 
@@ -125,6 +133,43 @@ module _ (block : ListedGraph) (well : IsListedBlock block) (order later : List 
           star is formed list turned.0 given arranges turned.2 first-within
           (subst (λ us. IsNeverInRow us star) turned.1 never) word bit
           (subst (λ us. IsStagePair (start ends) (length ends) (list_given block.lists) r us word bit) first_taken p))
+
+      -- where a list is given, no P-node is in the first tree
+      pub first-no_P : (new : PQTree) → IsForced row s star new → IsWellFormed new → (owner : ℕ) (kids : List Node)
+          → IsIn (P owner kids) new.body → ⊥
+      first-no_P new forced new_formed = forced-no_P row s star new forced new_formed lacks size pair
+        where
+          -- the edges of the star
+          abbrev rest : List ℕ
+          rest = but root (edges_at ends s)
+
+          row_is : IsArrangementOf row rest
+          row_is = subst (λ us. IsArrangementOf us rest) (sym turned.1) (IsArrangementOf-reverse turned.0 rest rest_is)
+
+          lacks : Lacks star.root row
+          lacks = subst (λ k. Lacks k row) (sym (ap (λ (t : PQTree). t.root) is.tree_is))
+              (Lacks-from root row (λ h. has_lacks root rest ((row_is.items root).0 h)
+              (but-Lacks root (edges_at ends s))))
+
+          size : length (leaves star.body) ≡ length row
+          size = ap length (star_leaves-are block well r (no_loops block well order later root ord)
+              (root_dart block well order later root ord).1 s first_sweep root
+              (root_dart block well order later root ord).2 star is formed)
+              ∙ sym (length_permutation rest row ((IsPermutation-arranges rest row star-distinct.1).1 row_is))
+
+          directed_is : (b : Bool) → IsArrangementOf (in_direction b row) rest
+          directed_is false = row_is
+          directed_is true = IsArrangementOf-reverse row rest row_is
+
+          pair : (order : List ℕ) × (bits : List Bool) × IsPair new order bits
+          pair =
+              let bits : List Bool = replicate n false in
+              let there : List ℕ = in_direction (bit_of bits s) row in
+              let more = forced.keeps (root ∷ there) bits
+              ((is.pairs (root ∷ there) bits).1 (length-replicate n false, (there, refl,
+              (IsPermutation-arranges rest there star-distinct.1).1 (directed_is (bit_of bits s)))))
+              (root ∷ [], [], ap (λ us. root ∷ us) (sym (append-nil there))) in
+              (root ∷ there, bits ++ more.0, more.1)
 
   -- a given list of the first vertex has the root
   pub root-listed : (list : List ℕ) → list_given block.lists s ≡ Some list → Has root list

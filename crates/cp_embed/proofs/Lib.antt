@@ -24,6 +24,8 @@ mod LinkedEdges
 mod OwnedTrees
 mod BondedOwners
 mod EveryOrders
+mod OneReading
+mod FreeOwners
 pub mod TurnedPairs
 mod EdgeRuns
 mod Cuts

@@ -3,7 +3,7 @@ use Rattle.std.specs.Prelude.{◌≡◌, ℕ, suc, List, [], ◌∷◌, length, 
 use Rattle.cp_pq.specs.Trees.{PQTree}
 use Rattle.cp_embed.specs.declared.taking.Frame.{Frame}
 use Rattle.cp_embed.specs.ListedBlocks.{ListedGraph, IsListedBlock, list_given}
-use Rattle.cp_embed.specs.OwnedTrees.{HaveOwner}
+use Rattle.cp_embed.specs.OwnedTrees.{HaveOwner, HasFreeOwners}
 use Rattle.cp_embed.specs.TreeSteps.{IsStageTree, IsTreeStep}
 use Rattle.cp_embed.specs.VertexOrders.{IsTakingOrder, edges_in, edges_out, taken_at, last_of, dart_at}
 
@@ -15,11 +15,11 @@ pub record IsFrameOf (block : ListedGraph) (later : List ℕ) (x : ℕ) (frame :
       (edges_out block.graph.ends later x) old new frame.part
 
 -- the tree is that of the stage behind the frames, the last of which comes first: each is of the vertex at its place in
--- the order, and the tree before the first has the first vertex as its only owner
+-- the order, and the tree before the first has the first vertex as its only owner, and none where this has a given list
 abbrev pub IsBuilt : ListedGraph → List ℕ → List ℕ → ℕ → List Frame → PQTree → Type 0
 IsBuilt block order later root [] tree =
     IsStageTree block (dart_at block.graph.ends (last_of order) root) (taken_at order 1) tree
-    × HaveOwner (slice_index order 0) tree
+    × HaveOwner (slice_index order 0) tree × HasFreeOwners block tree
 IsBuilt block order later root (frame ∷ frames) tree =
     (old : PQTree) × IsBuilt block order later root frames old
     × IsFrameOf block later (slice_index order (suc (length frames))) frame old tree

@@ -1,6 +1,6 @@
 -- What the owners of the P-nodes tell of a block: where an owner and the vertices that are not taken are removed, edges
 -- on different sides of its P-node are not connected.
-use Rattle.std.specs.Prelude.{◌≡◌, ◌≢◌, ℕ, ◌*◌, ◌<◌, ◌⊎◌, List, length, map}
+use Rattle.std.specs.Prelude.{◌≡◌, ◌≢◌, ℕ, ◌*◌, ◌<◌, ◌⊎◌, None, List, length, map}
 use Rattle.cp_lists.specs.CyclicLists.{Has}
 use Rattle.cp_conn.specs.Darts.{start}
 use Rattle.cp_faces.specs.Twins.{twin}
@@ -10,12 +10,17 @@ use Rattle.cp_pq.specs.Nodes.{IsIn}
 use Rattle.cp_pq.specs.Owners.{AreOnOneSide, IsExchangedFor}
 use Rattle.cp_pq.specs.Trees.{PQTree}
 use Rattle.cp_embed.specs.Directions.{edge_of}
-use Rattle.cp_embed.specs.ListedBlocks.{ListedGraph}
+use Rattle.cp_embed.specs.ListedBlocks.{ListedGraph, list_given}
 use Rattle.cp_embed.specs.Sweeps.{LeadsInto}
 
 -- all P-nodes in the tree have the one owner
 abbrev pub HaveOwner : ℕ → PQTree → Type 0
 HaveOwner v tree = (owner : ℕ) (kids : List Node) → IsIn (P owner kids) tree.body → owner ≡ v
+
+-- no owner of a P-node in the tree has a given list
+abbrev pub HasFreeOwners : ListedGraph → PQTree → Type 0
+HasFreeOwners block tree = (owner : ℕ) (kids : List Node) → IsIn (P owner kids) tree.body
+    → list_given block.lists owner ≡ None
 
 -- the old body has a P-node of this owner; where the edges of ins are exchanged for those of outs, which are all on one
 -- side of these kids, what is on one side of it is on one side of these kids

@@ -1,5 +1,5 @@
 // The order tree of a vertex of a block.
-ghost use Rattle.std.specs.Prelude.{◌≡◌, ◌<◌, ◌≤◌, ℕ, length, IfOk, IfErr, MatchOption};
+ghost use Rattle.std.specs.Prelude.{◌≡◌, ◌<◌, ◌≤◌, ℕ, None, length, IfOk, IfErr, MatchOption};
 ghost use Rattle.cp_conn.specs.Bonds.{IsBond};
 ghost use Rattle.cp_force.specs.Owners.{IsSoleP};
 ghost use Rattle.cp_pq.specs.Nodes.{leaves};
@@ -7,6 +7,7 @@ ghost use Rattle.cp_pq.specs.Trees.{IsPair, IsWellFormed};
 ghost use Rattle.cp_embed.specs.Bonds.{as_named};
 ghost use Rattle.cp_embed.specs.Embeddings.{HasTwoEdges, IsEmbeddingTree, IsNeverEmbedded, HasSomePair};
 ghost use Rattle.cp_embed.specs.EveryOrder.{HasEveryOrder};
+ghost use Rattle.cp_embed.specs.ListedBlocks.{list_given};
 ghost use Rattle.cp_embed.specs.declared.fault.EmbedFault.TheVariants.{NotPlanar};
 
 use crate::block::QBlock;
@@ -123,12 +124,13 @@ impl<T: OrderTree> Embedded<T> {
 
     /// The other pole of a bond of the block (Bläsius, Rutter 2016): the owner of the tree's body, exactly where the body
     /// is one P-node whose kids are all leaves. Where the vertex has four edges at least, that is exactly where each
-    /// cyclic order of its edges is one of the tree. It takes no memory.
+    /// cyclic order of its edges is one of the tree. The pole has no given list. It takes no memory.
     pub fn pole(&self) -> Option<usize>
         ensures owner { MatchOption result ((owner : ℕ) → IsSoleP self.now.tree owner → ⊥) (IsSoleP self.now.tree) }
         ensures every_order { MatchOption result (3 ≤ length (leaves self.now.tree.body)
             → HasEveryOrder self.now.tree → ⊥) (λ owner. HasEveryOrder self.now.tree) }
         ensures bond { MatchOption result (Unit {0}) (IsBond (as_named self.now.block.graph) self.now.vertex) }
+        ensures unlisted { MatchOption result (Unit {0}) (λ owner. list_given self.now.block.lists owner ≡ None) }
     {
         self.tree.sole_owner()
     }

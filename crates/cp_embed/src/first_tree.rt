@@ -1,7 +1,7 @@
 // The order tree of the first stage: one vertex is taken.
 ghost use Rattle.std.specs.Prelude.{◌≡◌, ◌<◌, [], ◌∷◌, length, slice_index, IfOk, IfErr};
 ghost use Rattle.cp_embed.specs.Embeddings.{HasTwoEdges, IsNeverEmbedded};
-ghost use Rattle.cp_embed.specs.OwnedTrees.{HaveOwner};
+ghost use Rattle.cp_embed.specs.OwnedTrees.{HaveOwner, HasFreeOwners};
 ghost use Rattle.cp_embed.specs.TreeSteps.{IsStageTree};
 ghost use Rattle.cp_embed.specs.VertexOrders.{IsTakingOrder, taken_at, last_of, dart_at};
 ghost use Rattle.cp_embed.specs.declared.fault.EmbedFault.TheVariants.{NotPlanar};
@@ -25,6 +25,7 @@ pub(crate) fn first_tree<T: OrderTree + Drop>(
     requires two_edges { HasTwoEdges block.now.graph.ends (last_of order.now.vertices.items) }
     ensures stage { IfOk result (λ new. IsStageTree block.now (dart_at block.now.graph.ends (last_of order.now.vertices.items) order.now.root) (taken_at order.now.vertices.items 1) (T.tree new)) }
     ensures owner { IfOk result (λ new. HaveOwner (slice_index order.now.vertices.items 0) (T.tree new)) }
+    ensures free { IfOk result (λ new. HasFreeOwners block.now (T.tree new)) }
     ensures refused { IfErr result (λ fault. fault ≡ NotPlanar → IsNeverEmbedded block.now (last_of order.now.vertices.items)) }
 {
     let first = order.vertices[0];

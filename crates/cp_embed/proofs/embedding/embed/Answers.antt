@@ -32,7 +32,7 @@ loop-place-init g c =
     record {
       count = ap (λ (fs : List Frame). suc (length fs)) c.new-frames.ensures;
       built = subst (λ (fs : List Frame). IsBuilt c.args.block.now c.in_ok-order.order.vertices.items c.in_ok-order.order.later.items c.in_ok-order.order.root
-          (reverse fs) (g.T.OrderTree.tree c.in_ok-tree.tree)) (sym c.new-frames.ensures) (c.in_ok-tree.ensures.stage, c.in_ok-tree.ensures.owner);
+          (reverse fs) (g.T.OrderTree.tree c.in_ok-tree.tree)) (sym c.new-frames.ensures) (c.in_ok-tree.ensures.stage, c.in_ok-tree.ensures.owner, c.in_ok-tree.ensures.free);
     }
 
 pub take-requires-clause-order : goal.take-requires-clause-order

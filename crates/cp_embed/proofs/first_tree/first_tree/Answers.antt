@@ -9,7 +9,8 @@ use Rattle.cp_pq.specs.Promises.{IsStar, IsForced}
 use Rattle.cp_pq.specs.Trees.{PQTree}
 use Rattle.cp_embed.specs.ListedBlocks.{edges_at, list_given}
 use Rattle.cp_embed.proofs.FirstEdges.{rest-some}
-use Rattle.cp_embed.proofs.FirstOrders.{star-distinct, first_free, first_vars, row-distinct, row-leaves, row-some, first_listed, first_refused, root-listed}
+use Rattle.cp_embed.proofs.FirstOrders.{star-distinct, first_free, first_vars, first-no_P, row-distinct, row-leaves, row-some, first_listed, first_refused, root-listed}
+use Rattle.cp_embed.proofs.FreeOwners.{owner-HasFreeOwners}
 use Rattle.cp_embed.proofs.OwnedTrees.{star-HaveOwner, kept-HaveOwner}
 use Rattle.cp_embed.proofs.StageTrees.{order-long}
 use Rattle.cp_embed.proofs.first_tree.first_tree.Goals as goal
@@ -219,3 +220,37 @@ returns-clause-owner g c =
     (omega (arith, order-long c.args.block.now c.edges_at.ensures.block c.args.order.now.vertices.items c.args.order.now.later.items c.args.order.now.root c.requires.order))
     c.index-first.ensures)
     c.in_ok-star.ensures.star)
+
+pub returns-in-None-clause-free : goal.returns-in-None-clause-free
+returns-in-None-clause-free g c =
+    let first_is : c.index-first.result.now ≡ slice_index c.args.order.now.vertices.items 0 =
+    vertex_is c.args.order.now.vertices.items 0 c.index-first.result.now
+    (omega (arith, order-long c.args.block.now c.edges_at.ensures.block c.args.order.now.vertices.items c.args.order.now.later.items c.args.order.now.root c.requires.order))
+    c.index-first.ensures in
+    owner-HasFreeOwners c.args.block.now (slice_index c.args.order.now.vertices.items 0) (g.T.OrderTree.tree c.in_ok-star.star)
+    (star-HaveOwner c.args.order.now.root c.vertices.result c.index-first.result.now
+    (slice_index c.args.order.now.vertices.items 0) c.as_slice.result.now (g.T.OrderTree.tree c.in_ok-star.star)
+    first_is c.in_ok-star.ensures.star)
+    (subst (λ v. list_given c.args.block.now.lists v ≡ None) first_is c.in-None.ensures)
+
+pub returns-clause-free : goal.returns-clause-free
+returns-clause-free g c =
+    let first_is : c.index-first.result.now ≡ slice_index c.args.order.now.vertices.items 0 =
+    vertex_is c.args.order.now.vertices.items 0 c.index-first.result.now
+    (omega (arith, order-long c.args.block.now c.edges_at.ensures.block c.args.order.now.vertices.items c.args.order.now.later.items c.args.order.now.root c.requires.order))
+    c.index-first.ensures in
+    let rest_is : c.as_slice.result.now ≡ but c.args.order.now.root (edges_at c.args.block.now.graph.ends (slice_index c.args.order.now.vertices.items 0)) =
+    c.as_slice.ensures.value ∙ c.in_ok-others.ensures ∙ ap (but c.args.order.now.root) c.edges_at.ensures.value
+    ∙ ap (λ v. but c.args.order.now.root (edges_at c.args.block.now.graph.ends v)) first_is in
+    let star_is : IsStar c.args.order.now.root (but c.args.order.now.root (edges_at c.args.block.now.graph.ends (slice_index c.args.order.now.vertices.items 0))) (slice_index c.args.order.now.vertices.items 0) c.args.block.now.graph.vertices
+    (g.T.OrderTree.tree c.in_ok-star.star) =
+    star_own c.args.order.now.root c.as_slice.result.now (but c.args.order.now.root (edges_at c.args.block.now.graph.ends (slice_index c.args.order.now.vertices.items 0))) c.index-first.result.now (slice_index c.args.order.now.vertices.items 0)
+    c.vertices.result c.args.block.now.graph.vertices (g.T.OrderTree.tree c.in_ok-star.star) rest_is first_is
+    (c.vertices.ensures.value ∙ ap (λ (k : PlainGraph). k.vertices) c.graph.ensures.value) c.in_ok-star.ensures.star in
+    λ owner kids h. absurd (first-no_P c.args.block.now c.edges_at.ensures.block c.args.order.now.vertices.items c.args.order.now.later.items c.args.order.now.root c.requires.order
+    (g.T.OrderTree.tree c.in_ok-star.star) star_is c.in_ok-star.ensures.well_formed c.items.result.now c.as_slice-2.result.now
+    (subst (λ v. list_given c.args.block.now.lists v ≡ Some c.in-Some.list.now) first_is c.in-Some.ensures ∙ ap Some (sym c.items.ensures))
+    (rest_own c.items.result.now c.args.order.now.root c.in_ok-back.back.items c.as_slice-2.result.now c.as_slice-2.ensures.value
+    c.in_ok-back.ensures) (g.T.OrderTree.tree c.in_ok-new.new)
+    (subst (λ v. IsForced c.as_slice-2.result.now v (g.T.OrderTree.tree c.in_ok-star.star) (g.T.OrderTree.tree c.in_ok-new.new)) first_is
+    c.in_ok-new.ensures.forced) c.in_ok-new.ensures.formed owner kids h)

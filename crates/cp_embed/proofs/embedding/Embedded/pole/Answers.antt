@@ -1,5 +1,5 @@
 -- The owner of the tree's body, which is the other pole of a bond.
-use Rattle.std.proofs.Common.{ℕ, ◌≤◌, Option, Some, None, length, subst}
+use Rattle.std.proofs.Common.{◌≡◌, ℕ, ◌≤◌, Option, Some, None, length, subst}
 use Rattle.std.specs.Prelude.{MatchOption}
 use Rattle.cp_conn.specs.Bonds.{IsBond}
 use Rattle.cp_force.specs.Owners.{IsSoleP}
@@ -8,7 +8,9 @@ use Rattle.cp_pq.specs.Trees.{PQTree, IsWellFormed}
 use Rattle.cp_embed.specs.Bonds.{as_named}
 use Rattle.cp_embed.specs.Embeddings.{Embedding, HasSomePair}
 use Rattle.cp_embed.specs.EveryOrder.{HasEveryOrder}
+use Rattle.cp_embed.specs.ListedBlocks.{list_given}
 use Rattle.cp_embed.proofs.BondedOwners.{way-IsWellFormed, way-IsBond, match_owner}
+use Rattle.cp_embed.proofs.FreeOwners.{way-unlisted}
 use Rattle.cp_embed.proofs.EveryOrders.{sole-HasEveryOrder, every_order-IsSoleP}
 use Rattle.cp_embed.proofs.embedding.Embedded.pole.Goals as goal
 
@@ -44,3 +46,14 @@ returns-clause-every_order g c =
     (way-IsWellFormed c.self.inside.block c.self.inside.vertex c.self.inside.first c.self.inside.frames
     (g.T.OrderTree.tree c.self.inside.tree) c.self.invariant.1)
     c.self.invariant.0.some_pair c.sole_owner.ensures)
+
+pub returns-clause-unlisted : goal.returns-clause-unlisted
+returns-clause-unlisted g c =
+    subst (λ (m : Embedding). MatchOption c.sole_owner.result (Unit {0}) (λ owner. list_given m.block.lists owner ≡ None))
+    c.self.view_is
+    (match_owner ((owner : ℕ) → IsSoleP (g.T.OrderTree.tree c.self.inside.tree) owner → ⊥)
+    (IsSoleP (g.T.OrderTree.tree c.self.inside.tree)) (λ owner. list_given c.self.inside.block.lists owner ≡ None)
+    c.sole_owner.result
+    (way-unlisted c.self.inside.block c.self.inside.vertex c.self.inside.first c.self.inside.frames
+    (g.T.OrderTree.tree c.self.inside.tree) c.self.invariant.1)
+    c.sole_owner.ensures)
