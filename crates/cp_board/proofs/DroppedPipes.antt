@@ -40,7 +40,8 @@ distinct-filter t (p ∷ ps) h =
     (λ e. distinct-filter t ps h.1.1)
 
 -- an instance with some of the pipes keeps the rules
-pub IsSynchronized-fewer_pipes : (i : Synchronized) (t : Pipe → Bool) → IsSynchronized i → IsSynchronized record { verts = i.verts; edges = i.edges; pipes = filter t i.pipes }
+pub IsSynchronized-fewer_pipes : (i : Synchronized) (t : Pipe → Bool) → IsSynchronized i
+    → IsSynchronized record { verts = i.verts; edges = i.edges; pipes = filter t i.pipes }
 IsSynchronized-fewer_pipes i t is = record {
   verts_named = is.verts_named;
   edges_named = is.edges_named;
@@ -61,13 +62,15 @@ IsSynchronized-fewer_pipes i t is = record {
     fit_of = All-map (λ n. n < 2 ^ 63) (λ p. p.name) (filter t i.pipes) (All-filter t (λ p. p.name < 2 ^ 63) i.pipes (All-unmapped (λ n. n < 2 ^ 63) (λ p. p.name) i.pipes is.pipes_named.fit))
 
 -- the instance after a pipe was dropped
-pub rewritten_dropping : (i : Synchronized) (pipe : ℕ) → IsSynchronized i → rewritten (dropping pipe) i ≡ record { verts = i.verts; edges = i.edges; pipes = other_pipes i (pipe ∷ []) }
+pub rewritten_dropping : (i : Synchronized) (pipe : ℕ) → IsSynchronized i
+    → rewritten (dropping pipe) i ≡ record { verts = i.verts; edges = i.edges; pipes = other_pipes i (pipe ∷ []) }
 rewritten_dropping i pipe is =
     ap (λ z. record { verts = z; edges = by_name (λ e. e.name) (i.edges ++ []); pipes = by_name (λ p. p.name) (other_pipes i (pipe ∷ []) ++ []) }) same_verts
     ∙ ap (λ z. record { verts = i.verts; edges = z; pipes = by_name (λ p. p.name) (other_pipes i (pipe ∷ []) ++ []) }) same_edges
     ∙ ap (λ z. record { verts = i.verts; edges = i.edges; pipes = z }) same_pipes
   where
-    same_verts : by_name (λ v. v.name) (map (with_kinds []) (filter (λ v. not (has [] v.name)) (i.verts ++ []))) ≡ i.verts
+    same_verts : by_name (λ v. v.name) (map (with_kinds []) (filter (λ v. not (has [] v.name)) (i.verts ++ [])))
+        ≡ i.verts
     same_verts = ap (by_name (λ v. v.name)) (map-id (filter (λ v. true) (i.verts ++ [])) ∙ filter_true (i.verts ++ []) ∙ append-nil i.verts) ∙ by_name_same (λ v. v.name) i.verts (rises_from (vert_names i) is.verts_named.rise)
 
     same_edges : by_name (λ e. e.name) (i.edges ++ []) ≡ i.edges

@@ -73,7 +73,8 @@ filter_moved to v stays (e ∷ es) =
     ∙ ap (λ zs. cond (touch v e) (moved_row to e ∷ zs) zs) (filter_moved to v stays es)
     ∙ by_cond (touch v e) (filter (touch v) es)
   where
-    by_cond : (b : Bool) (zs : List EdgeRow) → cond b (moved_row to e ∷ map (moved_row to) zs) (map (moved_row to) zs) ≡ map (moved_row to) (cond b (e ∷ zs) zs)
+    by_cond : (b : Bool) (zs : List EdgeRow) → cond b (moved_row to e ∷ map (moved_row to) zs) (map (moved_row to) zs)
+        ≡ map (moved_row to) (cond b (e ∷ zs) zs)
     by_cond true zs = refl
     by_cond false zs = refl
 

@@ -65,7 +65,8 @@ module _ (i : Synchronized) where
       second_part (vert_parts ++ edge_parts) pipe_parts (length i.verts + length i.edges) k d before_pipes
       ∙ kind_part PipeAt (length i.pipes) k d lt
 
-module _ (i : Synchronized) (rule : Rule) (least : (other : Rule) → number other < number rule → All (Keeps i other) (parts i)) where
+module _ (i : Synchronized) (rule : Rule) (least : (other : Rule) → number other < number rule → All (Keeps i other)
+    (parts i)) where
   -- a vertex breaks the rule first
   pub IsFirstBroken-vert : (k : ℕ) → k < length i.verts → ¬ Keeps i rule (VertAt k)
       → ((j : ℕ) → j < k → Keeps i rule (VertAt j))

@@ -29,7 +29,9 @@ arranged xs ys e = subst (λ z. IsPermutation z ys) e (IsPermutation-sym ys (ris
 abbrev pub under : {A : Type 0} → (A → ℕ) → ℕ → List A → Option A
 under name n xs = find (λ x. eqb (name x) n) xs
 
-exchanged : {A : Type 0} (name : A → ℕ) (n : ℕ) (x y : A) (o : Option A) → name x ≢ name y → cond (eqb (name y) n) (Some y) (cond (eqb (name x) n) (Some x) o) ≡ cond (eqb (name x) n) (Some x) (cond (eqb (name y) n) (Some y) o)
+exchanged : {A : Type 0} (name : A → ℕ) (n : ℕ) (x y : A) (o : Option A) → name x ≢ name y
+    → cond (eqb (name y) n) (Some y) (cond (eqb (name x) n) (Some x) o) ≡ cond (eqb (name x) n) (Some x)
+    (cond (eqb (name y) n) (Some y) o)
 exchanged name n x y o ne =
     ⊎_elim
     (λ e. let other = ne_eqb (name x) n (λ h. ne (h ∙ sym e)) in cond-true (eqb (name y) n) (Some y) _ (eq-eqb (name y) n e) ∙ sym (cond-false (eqb (name x) n) (Some x) _ other ∙ cond-true (eqb (name y) n) (Some y) o (eq-eqb (name y) n e)))
@@ -186,7 +188,9 @@ filter-put name p x (y ∷ ys) t =
     (λ l. ap (λ zs. cond (p x) zs (filter p (y ∷ ys))) (sym (put_front name x (filter p (y ∷ ys)) (under_all-filter name (name x) p (y ∷ ys) (under_all-rises name (name x) (y ∷ ys) (and_from (ltb (name x) (name y)) (rises (map name (y ∷ ys))) l t))))))
     (λ l. ap (λ zs. cond (p y) (y ∷ zs) zs) (filter-put name p x ys (rises_after name y ys t)) ∙ four (p x) (p y) (filter p ys) l)
   where
-    four : (a b : Bool) (zs : List _) → ltb (name x) (name y) ≡ false → cond b (y ∷ cond a (put name x zs) zs) (cond a (put name x zs) zs) ≡ cond a (put name x (cond b (y ∷ zs) zs)) (cond b (y ∷ zs) zs)
+    four : (a b : Bool) (zs : List _) → ltb (name x) (name y) ≡ false
+        → cond b (y ∷ cond a (put name x zs) zs) (cond a (put name x zs) zs) ≡ cond a (put name x (cond b (y ∷ zs) zs))
+        (cond b (y ∷ zs) zs)
     four true true zs l = sym (cond-false (ltb (name x) (name y)) (x ∷ y ∷ zs) (y ∷ put name x zs) l)
     four true false zs l = refl
     four false true zs l = refl

@@ -34,7 +34,8 @@ propagated = record {
 }
 
 -- three leaves below one Q-node
-plants_row : (f : ℕ → ℕ) (top v : ℕ) → Plants f row.body top (v ∷ []) (top ∷ []) (record { vertex = v; fixed = true; edges = top ∷ f 1 ∷ f 2 ∷ f 3 ∷ [] } ∷ [])
+plants_row : (f : ℕ → ℕ) (top v : ℕ) → Plants f row.body top (v ∷ []) (top ∷ [])
+    (record { vertex = v; fixed = true; edges = top ∷ f 1 ∷ f 2 ∷ f 3 ∷ [] } ∷ [])
 plants_row f top v =
     plantings.Plants.fixed _ top v (f 1 ∷ f 2 ∷ f 3 ∷ []) [] [] []
     (PlantsAll.more (Leaf 1) _ (f 1) _ [] [] [] [] [] [] (Plants.leaf 1)

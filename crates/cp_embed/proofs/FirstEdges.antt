@@ -93,7 +93,8 @@ module _ (block : ListedGraph) (well : IsListedBlock block) (order later : List 
 
       -- with more the second vertex has an edge to the first
       longer : (m : ℕ) → length order ≡ m
-          → ((k : ℕ) × (k < length ends) × (touches ends (slice_index order 0) k ≡ true) × (k ≢ root)) ⊎ (length order ≡ 2)
+          → ((k : ℕ) × (k < length ends) × (touches ends (slice_index order 0) k ≡ true) × (k ≢ root))
+          ⊎ (length order ≡ 2)
       longer m len = ⊎_elim
           (λ is_two. inr is_two)
           (λ ne. inl (three ne))

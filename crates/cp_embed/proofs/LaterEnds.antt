@@ -37,7 +37,8 @@ later-IsLaterEnd ends order places k a b once places_are a_is b_is differ lt_a l
     apart : first.0 ≡ second.0 → ⊥
     apart same = differ (sym first.2 ∙ ap (slice_index order) same ∙ second.2)
 
-    by_test : (t : Bool) → nat_lt (slice_index places a) (slice_index places b) ≡ t → IsLaterEnd ends order k (cond t b a)
+    by_test : (t : Bool) → nat_lt (slice_index places a) (slice_index places b) ≡ t
+        → IsLaterEnd ends order k (cond t b a)
     by_test true e =
         let less : slice_index places a < slice_index places b =
         ltb-true (slice_index places a) (slice_index places b) e in

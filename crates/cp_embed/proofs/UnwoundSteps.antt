@@ -53,7 +53,8 @@ module _ (set : List ℕ) (node : Node) (mid new : PQTree) (part : Part) (replac
     pub reads : Reads (given bits) node run
     pub some : (inc : List ℕ) × ReadsPart (given bits) part inc
     pub arranges : (inc : List ℕ) → ReadsPart (given bits) part inc → IsArrangementOf inc set
-    pub pair : (inc : List ℕ) → ReadsPart (given bits) part inc → IsPair mid (mid.root ∷ (front ++ (inc ++ behind))) bits
+    pub pair : (inc : List ℕ) → ReadsPart (given bits) part inc
+        → IsPair mid (mid.root ∷ (front ++ (inc ++ behind))) bits
 
   -- the pair is read so
   pub read_back : IsReadBack
@@ -222,7 +223,8 @@ module _ (x : ℕ) (ins outs : List ℕ) (old new : PQTree) (part : Part) (i o :
           (subst (λ us. IsArrangementOf us outs) (sym (s.reads.only bs run reads)) (row_outs bs))
 
       -- a run of the edges to what is taken is the first part of the list, by the bit of x
-      first_run : (front inc behind : List ℕ) (bs : List Bool) → IsPair s.mid (s.mid.root ∷ (front ++ (inc ++ behind))) bs
+      first_run : (front inc behind : List ℕ) (bs : List Bool)
+          → IsPair s.mid (s.mid.root ∷ (front ++ (inc ++ behind))) bs
           → IsArrangementOf inc ins → inc ≡ directed (bit_of bs x) s.first
       first_run front inc behind bs q a =
           let row = (s.forced.only (s.mid.root ∷ (front ++ (inc ++ behind))) bs q).1 in

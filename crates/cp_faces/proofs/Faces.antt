@@ -22,20 +22,28 @@ face_upto-past zero next d le = refl
 face_upto-past (suc i) next d le = ap (face_upto next i) (exchange_other (2 * i) (2 * i + 1) d (λ e. omega arith) (λ e. omega arith)) ∙ face_upto-past i next d (omega arith)
 
 -- what has one value at the two ends of each edge has one value along a face
-pub face_upto-keeps : {A : Type 0} (g : ℕ → A) (v n i : ℕ) (at next : ℕ → ℕ) → Rotates v n at next → 2 * i ≤ n → Respects g (ends_upto at i) → (d : ℕ) → d < n → g (at (face_upto next i d)) ≡ g (at d)
+pub face_upto-keeps : {A : Type 0} (g : ℕ → A) (v n i : ℕ) (at next : ℕ → ℕ) → Rotates v n at next → 2 * i ≤ n
+    → Respects g (ends_upto at i) → (d : ℕ) → d < n → g (at (face_upto next i d)) ≡ g (at d)
 face_upto-keeps g v n zero at next rot le r d lt = ap g (rot.kept d lt)
 face_upto-keeps g v n (suc i) at next rot le r d lt =
     face_upto-keeps g v n i at next rot (omega arith) r.1 (exchange (2 * i) (2 * i + 1) d) (exchange-below n (2 * i) (2 * i + 1) d (omega arith) (omega arith) lt)
     ∙ exchange_case (λ y. g (at y) ≡ g (at d)) (2 * i) (2 * i + 1) d (λ e. sym r.0 ∙ ap (λ (y : ℕ). g (at y)) (sym e)) (λ na e. r.0 ∙ ap (λ (y : ℕ). g (at y)) (sym e)) (λ na nb. refl)
 
 -- two darts of one face stand in one component
-pub face-component : (v n i : ℕ) (at next : ℕ → ℕ) → Rotates v n at next → 2 * i ≤ n → (c d : ℕ) → labels (graph (face_upto next i) n) c ≡ labels (graph (face_upto next i) n) d → labels (ends_upto at i) (at c) ≡ labels (ends_upto at i) (at d)
+pub face-component : (v n i : ℕ) (at next : ℕ → ℕ) → Rotates v n at next → 2 * i ≤ n → (c d : ℕ)
+    → labels (graph (face_upto next i) n) c ≡ labels (graph (face_upto next i) n) d
+    → labels (ends_upto at i) (at c) ≡ labels (ends_upto at i) (at d)
 face-component v n i at next rot le c d e =
     same_labels (λ y. labels (ends_upto at i) (at y)) (graph (face_upto next i) n) c d
     (Respects-graph (λ y. labels (ends_upto at i) (at y)) (face_upto next i) n (λ y lt. sym (face_upto-keeps (labels (ends_upto at i)) v n i at next rot le (labels-respects (ends_upto at i)) y lt))) e
 
 -- one edge more: it joins two components and two faces, or joins two faces or splits one within a component
-pub euler_step : (v n i : ℕ) (at next : ℕ → ℕ) → Rotates v n at next → 2 * suc i ≤ n → ((components v i at ≡ suc (components v (suc i) at)) × (faces_upto v n i at next ≡ suc (faces_upto v n (suc i) at next))) ⊎ ((components v (suc i) at ≡ components v i at) × ((faces_upto v n i at next ≡ suc (faces_upto v n (suc i) at next)) ⊎ (faces_upto v n (suc i) at next ≡ suc (faces_upto v n i at next))))
+pub euler_step : (v n i : ℕ) (at next : ℕ → ℕ) → Rotates v n at next → 2 * suc i ≤ n
+    → ((components v i at ≡ suc (components v (suc i) at))
+    × (faces_upto v n i at next ≡ suc (faces_upto v n (suc i) at next)))
+    ⊎ ((components v (suc i) at ≡ components v i at)
+    × ((faces_upto v n i at next ≡ suc (faces_upto v n (suc i) at next))
+    ⊎ (faces_upto v n (suc i) at next ≡ suc (faces_upto v n i at next))))
 euler_step v n i at next rot le =
     ⊎_elim
     (λ one. inr (
@@ -97,11 +105,13 @@ dart_at-stands at (suc n) x t =
     (cases_Bool (eqb (at n) x))
 
 -- two darts of one orbit of next stand at one vertex
-pub orbit-vertex : (v n : ℕ) (at next : ℕ → ℕ) → Rotates v n at next → (c d : ℕ) → labels (graph next n) c ≡ labels (graph next n) d → at c ≡ at d
+pub orbit-vertex : (v n : ℕ) (at next : ℕ → ℕ) → Rotates v n at next → (c d : ℕ)
+    → labels (graph next n) c ≡ labels (graph next n) d → at c ≡ at d
 orbit-vertex v n at next rot c d e = same_labels at (graph next n) c d (Respects-graph at next n (λ y lt. sym (rot.kept y lt))) e
 
 -- two darts of one vertex are of one orbit of next
-pub vertex-orbit : (v n : ℕ) (at next : ℕ → ℕ) → Rotates v n at next → (c d : ℕ) → c < n → d < n → at c ≡ at d → labels (graph next n) c ≡ labels (graph next n) d
+pub vertex-orbit : (v n : ℕ) (at next : ℕ → ℕ) → Rotates v n at next → (c d : ℕ) → c < n → d < n → at c ≡ at d
+    → labels (graph next n) c ≡ labels (graph next n) d
 vertex-orbit v n at next rot c d ltc ltd e = labels_reached n next rot.permutes c d ltc (rot.around c d ltc ltd e)
 
 -- each vertex is one orbit of next, or bare
@@ -138,7 +148,8 @@ genus_same : (v i g f h c b : ℕ) → v + f + 2 * g ≡ i + 2 * c → b ≡ c �
 genus_same v i g f h c b e one two = omega arith
 
 -- Euler's formula up to an even number: V - E + F + 2g = 2C for some g, which is the genus
-pub euler_genus : (v n i : ℕ) (at next : ℕ → ℕ) → Rotates v n at next → 2 * i ≤ n → (g : ℕ) × (v + faces_upto v n i at next + 2 * g ≡ i + 2 * components v i at)
+pub euler_genus : (v n i : ℕ) (at next : ℕ → ℕ) → Rotates v n at next → 2 * i ≤ n
+    → (g : ℕ) × (v + faces_upto v n i at next + 2 * g ≡ i + 2 * components v i at)
 euler_genus v n zero at next rot le = (0, omega (arith, orbits-bare v n at next rot, classes_none v))
 euler_genus v n (suc i) at next rot le =
     let rest : (g : ℕ) × (v + faces_upto v n i at next + 2 * g ≡ i + 2 * components v i at) = euler_genus v n i at next rot (omega arith) in
@@ -151,7 +162,8 @@ euler_genus v n (suc i) at next rot le =
     (euler_step v n i at next rot le)
 
 -- Euler's inequality, V - E + F <= 2C as a sum
-pub euler_upto : (v n i : ℕ) (at next : ℕ → ℕ) → Rotates v n at next → 2 * i ≤ n → v + faces_upto v n i at next ≤ i + 2 * components v i at
+pub euler_upto : (v n i : ℕ) (at next : ℕ → ℕ) → Rotates v n at next → 2 * i ≤ n
+    → v + faces_upto v n i at next ≤ i + 2 * components v i at
 euler_upto v n i at next rot le = let g : (g : ℕ) × (v + faces_upto v n i at next + 2 * g ≡ i + 2 * components v i at) = euler_genus v n i at next rot le in omega (arith, g.1)
 
 -- Euler's inequality for a rotation of e edges
@@ -188,7 +200,8 @@ iterate_fixed f zero x e = refl
 iterate_fixed f (suc k) x e = ap (iterate f k) e ∙ iterate_fixed f k x e
 
 -- a last dart that is alone leaves its vertex bare
-pub bare-more : (v n : ℕ) (at next : ℕ → ℕ) → Rotates v (suc n) at next → next n ≡ n → bare v n at ≡ suc (bare v (suc n) at)
+pub bare-more : (v n : ℕ) (at next : ℕ → ℕ) → Rotates v (suc n) at next → next n ≡ n
+    → bare v n at ≡ suc (bare v (suc n) at)
 bare-more v n at next rot e =
     count_without v vacant (at n) (rot.placed n (lt-suc_self n)) (not_from_false (stands at n (at n)) alone) ∙ ap suc (count_agree v (without vacant (at n)) (λ x. not (stands at (suc n) x)) (λ x lt.
     ⊎_elim
@@ -206,14 +219,16 @@ bare-more v n at next rot e =
         omega arith)
 
 -- the step round the faces without the last dart
-pub face_upto-splice : (n i : ℕ) (next : ℕ → ℕ) (d : ℕ) → 2 * i ≤ n → face_upto (splice next n) i d ≡ splice (face_upto next i) n d
+pub face_upto-splice : (n i : ℕ) (next : ℕ → ℕ) (d : ℕ) → 2 * i ≤ n
+    → face_upto (splice next n) i d ≡ splice (face_upto next i) n d
 face_upto-splice n zero next d le = refl
 face_upto-splice n (suc i) next d le =
     face_upto-splice n i next (exchange (2 * i) (2 * i + 1) d) (omega arith)
     ∙ ap (λ (y : ℕ). cond (eqb (face_upto next i (exchange (2 * i) (2 * i + 1) d)) n) (face_upto next i y) (face_upto next i (exchange (2 * i) (2 * i + 1) d))) (sym (exchange_other (2 * i) (2 * i + 1) n (λ e. omega arith) (λ e. omega arith)))
 
 -- without a last dart that is on no edge there are as many faces
-pub faces-splice : (v n i : ℕ) (at next : ℕ → ℕ) → Rotates v (suc n) at next → 2 * i ≤ n → faces_upto v (suc n) i at next ≡ faces_upto v n i at (splice next n)
+pub faces-splice : (v n i : ℕ) (at next : ℕ → ℕ) → Rotates v (suc n) at next → 2 * i ≤ n
+    → faces_upto v (suc n) i at next ≡ faces_upto v n i at (splice next n)
 faces-splice v n i at next rot le =
     ⊎_elim
     (λ e. omega (arith, bare-more v n at next rot e, orbits-splice_alone n (face_upto next i) perm (past ∙ e), same))
@@ -230,7 +245,8 @@ faces-splice v n i at next rot le =
     same = orbits_agree (face_upto (splice next n) i) (splice (face_upto next i) n) n (λ d lt. face_upto-splice n i next d le)
 
 -- without a last dart that is on no edge the others stay in their faces
-pub splice-face_labels : (v n i : ℕ) (at next : ℕ → ℕ) → Rotates v (suc n) at next → 2 * i ≤ n → (d : ℕ) → d < n → labels (graph (face_upto next i) (suc n)) d ≡ labels (graph (face_upto (splice next n) i) n) d
+pub splice-face_labels : (v n i : ℕ) (at next : ℕ → ℕ) → Rotates v (suc n) at next → 2 * i ≤ n → (d : ℕ) → d < n
+    → labels (graph (face_upto next i) (suc n)) d ≡ labels (graph (face_upto (splice next n) i) n) d
 splice-face_labels v n i at next rot le d lt =
     splice-labels n (face_upto next i) (face_upto-Permutes (suc n) i next rot.permutes (omega arith)) d lt
     ∙ ap (λ (es : List (ℕ × ℕ)). labels es d) (graph_agree (splice (face_upto next i) n) (face_upto (splice next n) i) n (λ y l. sym (face_upto-splice n i next y le)))
@@ -248,7 +264,8 @@ pub Turns-drop_edge : (v e : ℕ) (at next : ℕ → ℕ) → Turns v (suc e) at
 Turns-drop_edge v e at next rot = Rotates-splice v (2 * e) at (splice next (2 * e + 1)) (odd_darts v e at (splice next (2 * e + 1)) (Rotates-splice v (2 * e + 1) at next (turns_next v e at next rot)))
 
 -- without its last edge a rotation has the faces that it has with the two darts on no edge
-pub faces-drop_edge : (v e : ℕ) (at next : ℕ → ℕ) → Turns v (suc e) at next → faces_upto v (2 * suc e) e at next ≡ faces v e at (drop_edge e next)
+pub faces-drop_edge : (v e : ℕ) (at next : ℕ → ℕ) → Turns v (suc e) at next
+    → faces_upto v (2 * suc e) e at next ≡ faces v e at (drop_edge e next)
 faces-drop_edge v e at next rot =
     let more : 2 * suc e ≡ suc (2 * e + 1) = omega arith in
     let odd : 2 * e + 1 ≡ suc (2 * e) = omega arith in
@@ -258,24 +275,33 @@ faces-drop_edge v e at next rot =
     ∙ faces-splice v (2 * e) e at (splice next (2 * e + 1)) (odd_darts v e at (splice next (2 * e + 1)) (Rotates-splice v (2 * e + 1) at next (turns_next v e at next rot))) (omega arith)
 
 -- without its last edge: two components and faces more than were joined, or a face less or more within a component
-pub drop_edge_step : (v e : ℕ) (at next : ℕ → ℕ) → Turns v (suc e) at next → ((components v e at ≡ suc (components v (suc e) at)) × (faces v e at (drop_edge e next) ≡ suc (faces v (suc e) at next))) ⊎ ((components v (suc e) at ≡ components v e at) × ((faces v e at (drop_edge e next) ≡ suc (faces v (suc e) at next)) ⊎ (faces v (suc e) at next ≡ suc (faces v e at (drop_edge e next)))))
+pub drop_edge_step : (v e : ℕ) (at next : ℕ → ℕ) → Turns v (suc e) at next
+    → ((components v e at ≡ suc (components v (suc e) at))
+    × (faces v e at (drop_edge e next) ≡ suc (faces v (suc e) at next)))
+    ⊎ ((components v (suc e) at ≡ components v e at)
+    × ((faces v e at (drop_edge e next) ≡ suc (faces v (suc e) at next))
+    ⊎ (faces v (suc e) at next ≡ suc (faces v e at (drop_edge e next)))))
 drop_edge_step v e at next rot =
     subst (λ (f : ℕ). ((components v e at ≡ suc (components v (suc e) at)) × (f ≡ suc (faces v (suc e) at next))) ⊎ ((components v (suc e) at ≡ components v e at) × ((f ≡ suc (faces v (suc e) at next)) ⊎ (faces v (suc e) at next ≡ suc f))))
     (faces-drop_edge v e at next rot)
     (euler_step v (2 * suc e) e at next rot (omega arith))
 
 -- genus zero and the bound leave only genus zero
-drop_zero : (v e f h c b : ℕ) → v + f ≡ suc e + 2 * c → v + h ≤ e + 2 * b → ((b ≡ suc c) × (h ≡ suc f)) ⊎ ((c ≡ b) × ((h ≡ suc f) ⊎ (f ≡ suc h))) → v + h ≡ e + 2 * b
+drop_zero : (v e f h c b : ℕ) → v + f ≡ suc e + 2 * c → v + h ≤ e + 2 * b
+    → ((b ≡ suc c) × (h ≡ suc f)) ⊎ ((c ≡ b) × ((h ≡ suc f) ⊎ (f ≡ suc h))) → v + h ≡ e + 2 * b
 drop_zero v e f h c b zero_genus bound s = omega arith
 
 -- without its last edge a rotation of genus zero has genus zero
-pub drop_edge-zero : (v e : ℕ) (at next : ℕ → ℕ) → Turns v (suc e) at next → v + faces v (suc e) at next ≡ suc e + 2 * components v (suc e) at → v + faces v e at (drop_edge e next) ≡ e + 2 * components v e at
+pub drop_edge-zero : (v e : ℕ) (at next : ℕ → ℕ) → Turns v (suc e) at next
+    → v + faces v (suc e) at next ≡ suc e + 2 * components v (suc e) at
+    → v + faces v e at (drop_edge e next) ≡ e + 2 * components v e at
 drop_edge-zero v e at next rot zero_genus =
     let bound : v + faces v e at (drop_edge e next) ≤ e + 2 * components v e at = euler_bound v e at (drop_edge e next) (Turns-drop_edge v e at next rot) in
     drop_zero v e (faces v (suc e) at next) (faces v e at (drop_edge e next)) (components v (suc e) at) (components v e at) zero_genus bound (drop_edge_step v e at next rot)
 
 -- without the two darts of the last edge the others stay in one face, with the two on no edge
-pub drop_edge-labels : (v e : ℕ) (at next : ℕ → ℕ) → Turns v (suc e) at next → (d : ℕ) → d < 2 * e → labels (graph (face_upto next e) (2 * suc e)) d ≡ labels (graph (face_upto (drop_edge e next) e) (2 * e)) d
+pub drop_edge-labels : (v e : ℕ) (at next : ℕ → ℕ) → Turns v (suc e) at next → (d : ℕ) → d < 2 * e
+    → labels (graph (face_upto next e) (2 * suc e)) d ≡ labels (graph (face_upto (drop_edge e next) e) (2 * e)) d
 drop_edge-labels v e at next rot d lt =
     let more : 2 * suc e ≡ suc (2 * e + 1) = omega arith in
     let odd : 2 * e + 1 ≡ suc (2 * e) = omega arith in
@@ -303,42 +329,53 @@ pub insert-zero : (v e : ℕ) (at next : ℕ → ℕ) → Turns v (suc e) at nex
 insert-zero v e at next rot one zero_genus = let law = insert-faces v e at next rot one in omega (arith, law.0, law.1)
 
 -- a loop whose second dart stands directly behind its first can be put in or left out: genus zero stays
-pub loop-zero : (v e : ℕ) (at next : ℕ → ℕ) → Turns v (suc e) at next → next (2 * e) ≡ 2 * e + 1 → v + faces v e at (drop_edge e next) ≡ e + 2 * components v e at → v + faces v (suc e) at next ≡ suc e + 2 * components v (suc e) at
+pub loop-zero : (v e : ℕ) (at next : ℕ → ℕ) → Turns v (suc e) at next → next (2 * e) ≡ 2 * e + 1
+    → v + faces v e at (drop_edge e next) ≡ e + 2 * components v e at
+    → v + faces v (suc e) at next ≡ suc e + 2 * components v (suc e) at
 loop-zero v e at next rot behind zero_genus =
     insert-zero v e at next rot (label_step (face_upto next e) (2 * suc e) (2 * e) (omega arith) ∙ ap (labels (graph (face_upto next e) (2 * suc e))) (face_upto-past e next (2 * e) (omega arith) ∙ behind)) zero_genus
 
 -- the same where the first dart stands directly behind the second
-pub loop-zero_back : (v e : ℕ) (at next : ℕ → ℕ) → Turns v (suc e) at next → next (2 * e + 1) ≡ 2 * e → v + faces v e at (drop_edge e next) ≡ e + 2 * components v e at → v + faces v (suc e) at next ≡ suc e + 2 * components v (suc e) at
+pub loop-zero_back : (v e : ℕ) (at next : ℕ → ℕ) → Turns v (suc e) at next → next (2 * e + 1) ≡ 2 * e
+    → v + faces v e at (drop_edge e next) ≡ e + 2 * components v e at
+    → v + faces v (suc e) at next ≡ suc e + 2 * components v (suc e) at
 loop-zero_back v e at next rot behind zero_genus =
     insert-zero v e at next rot (sym (label_step (face_upto next e) (2 * suc e) (2 * e + 1) (omega arith) ∙ ap (labels (graph (face_upto next e) (2 * suc e))) (face_upto-past e next (2 * e + 1) (omega arith) ∙ behind))) zero_genus
 
 -- functions that agree below n give the same steps round the faces there
-pub face_upto-agree : (n i : ℕ) (next other : ℕ → ℕ) → ((d : ℕ) → d < n → next d ≡ other d) → 2 * i ≤ n → (d : ℕ) → d < n → face_upto next i d ≡ face_upto other i d
+pub face_upto-agree : (n i : ℕ) (next other : ℕ → ℕ) → ((d : ℕ) → d < n → next d ≡ other d) → 2 * i ≤ n → (d : ℕ)
+    → d < n → face_upto next i d ≡ face_upto other i d
 face_upto-agree n zero next other same le d lt = same d lt
 face_upto-agree n (suc i) next other same le d lt = face_upto-agree n i next other same (omega arith) (exchange (2 * i) (2 * i + 1) d) (exchange-below n (2 * i) (2 * i + 1) d (omega arith) (omega arith) lt)
 
 -- darts that stand at the same vertices leave the same vertices bare
-pub stands-agree : (n : ℕ) (at other : ℕ → ℕ) (x : ℕ) → ((d : ℕ) → d < n → at d ≡ other d) → stands at n x ≡ stands other n x
+pub stands-agree : (n : ℕ) (at other : ℕ → ℕ) (x : ℕ) → ((d : ℕ) → d < n → at d ≡ other d)
+    → stands at n x ≡ stands other n x
 stands-agree zero at other x same = refl
 stands-agree (suc n) at other x same = ap₂ (λ (y : ℕ) (b : Bool). eqb y x || b) (same n (lt-suc_self n)) (stands-agree n at other x (λ d lt. same d (omega arith)))
 
 -- functions that agree on all darts give as many faces
-pub faces_upto-agree : (v n i : ℕ) (at next at' next' : ℕ → ℕ) → ((d : ℕ) → d < n → at d ≡ at' d) → ((d : ℕ) → d < n → next d ≡ next' d) → 2 * i ≤ n → faces_upto v n i at next ≡ faces_upto v n i at' next'
+pub faces_upto-agree : (v n i : ℕ) (at next at' next' : ℕ → ℕ) → ((d : ℕ) → d < n → at d ≡ at' d)
+    → ((d : ℕ) → d < n → next d ≡ next' d) → 2 * i ≤ n → faces_upto v n i at next ≡ faces_upto v n i at' next'
 faces_upto-agree v n i at next at' next' same_at same_next le = ap₂ (λ (f g : ℕ). f + g)
     (orbits_agree (face_upto next i) (face_upto next' i) n (face_upto-agree n i next next' same_next le))
     (count_agree v (λ x. not (stands at n x)) (λ x. not (stands at' n x)) (λ x lt. ap not (stands-agree n at at' x same_at)))
 
 -- darts that stand at the same vertices have the same ends of edges
-pub ends_upto-agree : (i : ℕ) (at other : ℕ → ℕ) → ((d : ℕ) → d < 2 * i → at d ≡ other d) → ends_upto at i ≡ ends_upto other i
+pub ends_upto-agree : (i : ℕ) (at other : ℕ → ℕ) → ((d : ℕ) → d < 2 * i → at d ≡ other d)
+    → ends_upto at i ≡ ends_upto other i
 ends_upto-agree zero at other same = refl
 ends_upto-agree (suc i) at other same =
     ap₂ (λ (x y : ℕ). (x, y) ∷ ends_upto at i) (same (2 * i) (omega arith)) (same (2 * i + 1) (omega arith))
     ∙ ap (λ (es : List (ℕ × ℕ)). (other (2 * i), other (2 * i + 1)) ∷ es) (ends_upto-agree i at other (λ d lt. same d (omega arith)))
 
 -- darts that stand at the same vertices make as many components
-pub components-agree : (v e : ℕ) (at other : ℕ → ℕ) → ((d : ℕ) → d < 2 * e → at d ≡ other d) → components v e at ≡ components v e other
+pub components-agree : (v e : ℕ) (at other : ℕ → ℕ) → ((d : ℕ) → d < 2 * e → at d ≡ other d)
+    → components v e at ≡ components v e other
 components-agree v e at other same = ap (classes v) (ends_upto-agree e at other same)
 
 -- functions that agree on all darts have genus zero together
-pub zero-agree : (v e : ℕ) (at next at' next' : ℕ → ℕ) → ((d : ℕ) → d < 2 * e → at d ≡ at' d) → ((d : ℕ) → d < 2 * e → next d ≡ next' d) → v + faces v e at next ≡ e + 2 * components v e at → v + faces v e at' next' ≡ e + 2 * components v e at'
+pub zero-agree : (v e : ℕ) (at next at' next' : ℕ → ℕ) → ((d : ℕ) → d < 2 * e → at d ≡ at' d)
+    → ((d : ℕ) → d < 2 * e → next d ≡ next' d) → v + faces v e at next ≡ e + 2 * components v e at
+    → v + faces v e at' next' ≡ e + 2 * components v e at'
 zero-agree v e at next at' next' same_at same_next zero_genus = omega (arith, faces_upto-agree v (2 * e) e at next at' next' same_at same_next (omega arith), components-agree v e at at' same_at)

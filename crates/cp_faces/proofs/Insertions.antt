@@ -42,7 +42,9 @@ module _ (v n d : ℕ) (at next : ℕ → ℕ) (rot : Rotates v n at next) (ltd 
   old_walk (suc k) y lt = Reaches-trans (put next n d) y (next y) (iterate next k (next y)) (old_step y lt) (old_walk k (next y) (rot.permutes.below y lt))
 
   -- a dart is d, the new one, or another old one, and what is behind it accordingly
-  put_cases : (y : ℕ) → y < suc n → ((y ≡ d) × (put next n d y ≡ n)) ⊎ (((y ≡ n) × (put next n d y ≡ next d)) ⊎ ((y < n) × (y ≢ d) × (put next n d y ≡ next y)))
+  put_cases : (y : ℕ) → y < suc n
+      → ((y ≡ d) × (put next n d y ≡ n)) ⊎ (((y ≡ n) × (put next n d y ≡ next d))
+      ⊎ ((y < n) × (y ≢ d) × (put next n d y ≡ next y)))
   put_cases y lt = ⊎_elim
       (λ e. inl (e, put_behind next n d y e))
       (λ nd. inr (⊎_elim (λ e. inl (e, put_new next n d y nd e)) (λ ny. inr (omega arith, nd, put_other next n d y nd ny)) (cases_eq y n)))
@@ -72,7 +74,8 @@ module _ (v n d : ℕ) (at next : ℕ → ℕ) (rot : Rotates v n at next) (ltd 
   }
 
   -- each dart goes to an old dart of its vertex and back
-  to_old : (c : ℕ) → c < suc n → (b : ℕ) × (b < n) × (at b ≡ at c) × Reaches (put next n d) c b × Reaches (put next n d) b c
+  to_old : (c : ℕ) → c < suc n → (b : ℕ) × (b < n) × (at b ≡ at c) × Reaches (put next n d) c b
+      × Reaches (put next n d) b c
   to_old c lt = ⊎_elim
       (λ l. (c, l, refl, (0, refl), (0, refl)))
       (λ g.
@@ -118,7 +121,8 @@ splice-agree : (f g : ℕ → ℕ) (z y : ℕ) → f y ≡ g y → f z ≡ g z �
 splice-agree f g z y ey ez = ap₂ (λ (a b : ℕ). cond (eqb a z) b a) ey ez
 
 -- an edge more, from behind d to behind f; where the two are one dart, its second dart comes behind its first
-module _ (v e d f : ℕ) (at next : ℕ → ℕ) (rot : Turns v e at next) (ltd : d < 2 * e) (ltf : f < 2 * e) (one : at (2 * e) ≡ at d) (two : at (2 * e + 1) ≡ at f) where
+module _ (v e d f : ℕ) (at next : ℕ → ℕ) (rot : Turns v e at next) (ltd : d < 2 * e) (ltf : f < 2 * e)
+    (one : at (2 * e) ≡ at d) (two : at (2 * e + 1) ≡ at f) where
   -- where the second dart is put in
   second_at : (at (cond (eqb f d) (2 * e) f) ≡ at f) × (cond (eqb f d) (2 * e) f < suc (2 * e))
   second_at = ⊎_elim
@@ -147,7 +151,9 @@ module _ (v e d f : ℕ) (at next : ℕ → ℕ) (rot : Turns v e at next) (ltd 
       ∙ splice-put v (2 * e) d at next rot ltd one y lt
 
   -- put in within a face, genus zero stays
-  pub put_edge-zero : labels (graph (face_upto next e) (2 * e)) (next d) ≡ labels (graph (face_upto next e) (2 * e)) (next f) → v + faces v e at next ≡ e + 2 * components v e at → v + faces v (suc e) at (put_edge e d f next) ≡ suc e + 2 * components v (suc e) at
+  pub put_edge-zero : labels (graph (face_upto next e) (2 * e)) (next d) ≡ labels (graph (face_upto next e) (2 * e))
+      (next f) → v + faces v e at next ≡ e + 2 * components v e at
+      → v + faces v (suc e) at (put_edge e d f next) ≡ suc e + 2 * components v (suc e) at
   put_edge-zero same zero_genus = insert-zero v e at (put_edge e d f next) Turns-put_edge
       (⊎_elim equal differ (cases_eq f d))
       (zero-agree v e at next at (drop_edge e (put_edge e d f next)) (λ y lt. refl) (λ y lt. sym (drop_edge-put_edge y lt)) zero_genus)
@@ -177,7 +183,8 @@ module _ (v e d f : ℕ) (at next : ℕ → ℕ) (rot : Turns v e at next) (ltd 
           ∙ sym (after_step (2 * e + 1) (omega arith) (omega arith) ∙ ap label second ∙ old (next f) (rot.permutes.below f ltf))
 
 -- functions that agree on all darts agree without the last edge
-pub drop_edge-agree : (e : ℕ) (f g : ℕ → ℕ) → ((y : ℕ) → y < 2 * suc e → f y ≡ g y) → (y : ℕ) → y < 2 * suc e → drop_edge e f y ≡ drop_edge e g y
+pub drop_edge-agree : (e : ℕ) (f g : ℕ → ℕ) → ((y : ℕ) → y < 2 * suc e → f y ≡ g y) → (y : ℕ) → y < 2 * suc e
+    → drop_edge e f y ≡ drop_edge e g y
 drop_edge-agree e f g same y lt = splice-agree (splice f (2 * e + 1)) (splice g (2 * e + 1)) (2 * e) y (inner y lt) (inner (2 * e) (omega arith))
   where
     inner : (z : ℕ) → z < 2 * suc e → splice f (2 * e + 1) z ≡ splice g (2 * e + 1) z
@@ -185,7 +192,11 @@ drop_edge-agree e f g same y lt = splice-agree (splice f (2 * e + 1)) (splice g 
 
 -- vertex w expanded to an edge with the new vertex v: what is behind d up to f goes to v, behind the second dart;
 -- behind the two new darts is exchanged what would be behind them if the edge were put in as a loop
-module _ (v e d f w : ℕ) (at next at' next' : ℕ → ℕ) (rot : Turns v e at next) (rot' : Turns (suc v) (suc e) at' next') (ltd : d < 2 * e) (ltf : f < 2 * e) (stand_d : at d ≡ w) (stand_f : at f ≡ w) (behind : (y : ℕ) → y < 2 * suc e → next' y ≡ put_edge e d f next (exchange (2 * e) (2 * e + 1) y)) (stand : (y : ℕ) → y < 2 * e → joined w v (at' y) ≡ at y) (first : at' (2 * e) ≡ w) (second : at' (2 * e + 1) ≡ v) where
+module _ (v e d f w : ℕ) (at next at' next' : ℕ → ℕ) (rot : Turns v e at next) (rot' : Turns (suc v) (suc e) at' next')
+    (ltd : d < 2 * e) (ltf : f < 2 * e) (stand_d : at d ≡ w) (stand_f : at f ≡ w)
+    (behind : (y : ℕ) → y < 2 * suc e → next' y ≡ put_edge e d f next (exchange (2 * e) (2 * e + 1) y))
+    (stand : (y : ℕ) → y < 2 * e → joined w v (at' y) ≡ at y) (first : at' (2 * e) ≡ w)
+    (second : at' (2 * e + 1) ≡ v) where
   -- the expanded vertex is one of the old ones
   expanded_below : w < v
   expanded_below = subst (λ y. y < v) stand_d (rot.placed d ltd)
@@ -204,7 +215,8 @@ module _ (v e d f w : ℕ) (at next at' next' : ℕ → ℕ) (rot : Turns v e at
       (ap (joined w v) second ∙ joined_at w v v refl ∙ sym stand_f ∙ sym (stand f ltf)) y lt
 
   -- expanded, genus zero stays
-  pub expanded-zero : v + faces v e at next ≡ e + 2 * components v e at → suc v + faces (suc v) (suc e) at' next' ≡ suc e + 2 * components (suc v) (suc e) at'
+  pub expanded-zero : v + faces v e at next ≡ e + 2 * components v e at
+      → suc v + faces (suc v) (suc e) at' next' ≡ suc e + 2 * components (suc v) (suc e) at'
   expanded-zero zero_genus = contracted-zero_back v e w at' next' rot' first second expanded_below
       (zero-agree v e at next (λ y. joined w v (at' y)) (contracted e next') (λ y lt. sym (stand y lt)) (λ y lt. sym (contracted-expanded y lt)) zero_genus)
 

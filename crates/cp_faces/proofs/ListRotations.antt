@@ -12,7 +12,8 @@ use Rattle.cp_lists.proofs.CyclicLists.{follow-Has, follow-apart, follow-but}
 use Rattle.cp_lists.proofs.FollowedLists.{iterate_in_list}
 
 -- functions that agree below n are rotations together
-pub Rotates-agree : (v n : ℕ) (at next at' next' : ℕ → ℕ) → ((d : ℕ) → d < n → at d ≡ at' d) → ((d : ℕ) → d < n → next d ≡ next' d) → Rotates v n at next → Rotates v n at' next'
+pub Rotates-agree : (v n : ℕ) (at next at' next' : ℕ → ℕ) → ((d : ℕ) → d < n → at d ≡ at' d)
+    → ((d : ℕ) → d < n → next d ≡ next' d) → Rotates v n at next → Rotates v n at' next'
 Rotates-agree v n at next at' next' same_at same_next rot = record {
   permutes = Permutes-agree n next next' same_next rot.permutes;
   placed = λ d lt. subst (λ y. y < v) (same_at d lt) (rot.placed d lt);
@@ -23,7 +24,8 @@ Rotates-agree v n at next at' next' same_at same_next rot = record {
 }
 
 -- lists that hold for each vertex exactly its darts make a rotation
-pub Rotates-lists : (v n : ℕ) (at : ℕ → ℕ) (lists : ℕ → List ℕ) → ((d : ℕ) → d < n → at d < v) → ((x : ℕ) → x < v → Exactly n (λ d. eqb (at d) x) (lists x)) → Rotates v n at (λ d. follow (lists (at d)) d)
+pub Rotates-lists : (v n : ℕ) (at : ℕ → ℕ) (lists : ℕ → List ℕ) → ((d : ℕ) → d < n → at d < v)
+    → ((x : ℕ) → x < v → Exactly n (λ d. eqb (at d) x) (lists x)) → Rotates v n at (λ d. follow (lists (at d)) d)
 Rotates-lists v n at lists placed exact = record {
   permutes = record {
     below = λ d lt. (item (at d) (placed d lt) (follow (lists (at d)) d) (follow-Has d (lists (at d)) (own d lt))).0;
@@ -51,7 +53,8 @@ Rotates-lists v n at lists placed exact = record {
     stays d lt = (item (at d) (placed d lt) (follow (lists (at d)) d) (follow-Has d (lists (at d)) (own d lt))).1
 
 -- the lists without the dart z make the function that leaves z out
-pub follow-splice : (next : ℕ → ℕ) (z d : ℕ) (xs : List ℕ) → Distinct xs → d ≢ z → Has d xs → next d ≡ follow xs d → (Has z xs → next z ≡ follow xs z) → follow (but z xs) d ≡ splice next z d
+pub follow-splice : (next : ℕ → ℕ) (z d : ℕ) (xs : List ℕ) → Distinct xs → d ≢ z → Has d xs → next d ≡ follow xs d
+    → (Has z xs → next z ≡ follow xs z) → follow (but z xs) d ≡ splice next z d
 follow-splice next z d xs dis ne h same_d same_z =
     follow-but z d xs dis ne h ∙ ⊎_elim
     (λ e. cond-true (eqb (follow xs d) z) (follow xs z) (follow xs d) (eq-eqb (follow xs d) z e) ∙ sym (same_z (subst (λ y. Has y xs) e (follow-Has d xs h))) ∙ sym (cond-true (eqb (next d) z) (next z) (next d) (eq-eqb (next d) z (same_d ∙ e))))

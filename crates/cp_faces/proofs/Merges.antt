@@ -19,7 +19,8 @@ joined_cases u v x y e =
     (cases_eq x v)
 
 -- the last vertex merged with a lower one: what is behind dart a of the one and dart b of the other is exchanged
-pub Rotates-joined : (v n a b u : ℕ) (at next : ℕ → ℕ) → Rotates (suc v) n at next → a < n → b < n → at a ≡ u → at b ≡ v → u < v → Rotates v n (λ d. joined u v (at d)) (λ d. next (exchange a b d))
+pub Rotates-joined : (v n a b u : ℕ) (at next : ℕ → ℕ) → Rotates (suc v) n at next → a < n → b < n → at a ≡ u → at b ≡ v
+    → u < v → Rotates v n (λ d. joined u v (at d)) (λ d. next (exchange a b d))
 Rotates-joined v n a b u at next rot lta ltb ea eb lt = record {
   permutes = perm;
   placed = λ d l. joined-below u v (at d) lt (rot.placed d l);
@@ -58,7 +59,8 @@ Rotates-joined v n a b u at next rot lta ltb ea eb lt = record {
     same c d ltc ltd h = vertex-orbit (suc v) n at next rot c d ltc ltd h
 
 -- two vertices with darts merged leave as many bare vertices
-pub bare-joined : (v n a b u : ℕ) (at : ℕ → ℕ) → a < n → b < n → at a ≡ u → at b ≡ v → u < v → bare v n (λ d. joined u v (at d)) ≡ bare (suc v) n at
+pub bare-joined : (v n a b u : ℕ) (at : ℕ → ℕ) → a < n → b < n → at a ≡ u → at b ≡ v → u < v
+    → bare v n (λ d. joined u v (at d)) ≡ bare (suc v) n at
 bare-joined v n a b u at lta ltb ea eb lt =
     count_agree v (λ x. not (stands (λ d. joined u v (at d)) n x)) (λ x. not (stands at n x)) (λ x l. ap not (same_tests (stands (λ d. joined u v (at d)) n x) (stands at n x) (down x l) (up x l)))
     ∙ sym (count_no v (λ x. not (stands at n x)) (not_from_true (stands at n v) (stands_at at n b v ltb eb)))
@@ -77,34 +79,41 @@ bare-joined v n a b u at lta ltb ea eb lt =
         stands_at (λ d. joined u v (at d)) n w.0 x w.1 (joined_other u v (at w.0) (λ h. let e : x ≡ v = sym w.2 ∙ h in omega arith) ∙ w.2)
 
 -- the ends of the edges, with v named u
-pub ends_upto-joined : (u v i : ℕ) (at : ℕ → ℕ) → ends_upto (λ d. joined u v (at d)) i ≡ rename (joined u v) (ends_upto at i)
+pub ends_upto-joined : (u v i : ℕ) (at : ℕ → ℕ) → ends_upto (λ d. joined u v (at d)) i ≡ rename (joined u v)
+    (ends_upto at i)
 ends_upto-joined u v zero at = refl
 ends_upto-joined u v (suc i) at = ap (λ (es : List (ℕ × ℕ)). (joined u v (at (2 * i)), joined u v (at (2 * i + 1))) ∷ es) (ends_upto-joined u v i at)
 
 -- with v merged into u there are as many components as with a pair of the two
-pub components-joined : (u v i : ℕ) (at : ℕ → ℕ) → u < v → components v i (λ d. joined u v (at d)) ≡ classes (suc v) ((u, v) ∷ ends_upto at i)
+pub components-joined : (u v i : ℕ) (at : ℕ → ℕ) → u < v
+    → components v i (λ d. joined u v (at d)) ≡ classes (suc v) ((u, v) ∷ ends_upto at i)
 components-joined u v i at lt = ap (classes v) (ends_upto-joined u v i at) ∙ classes-merged u v (ends_upto at i) lt
 
 -- exchanges of two pairs without a common number can be made in either order
-pub exchange-exchange_comm : (a b c d x : ℕ) → a ≢ c → a ≢ d → b ≢ c → b ≢ d → exchange a b (exchange c d x) ≡ exchange c d (exchange a b x)
+pub exchange-exchange_comm : (a b c d x : ℕ) → a ≢ c → a ≢ d → b ≢ c → b ≢ d
+    → exchange a b (exchange c d x) ≡ exchange c d (exchange a b x)
 exchange-exchange_comm a b c d x ac ad bc bd = exchange_case (λ y. exchange a b y ≡ exchange c d (exchange a b x)) c d x
     (λ e. exchange_other a b d (λ h. ad (sym h)) (λ h. bd (sym h)) ∙ sym (exchange_left c d (exchange a b x) (exchange_other a b x (λ h. ac (sym h ∙ e)) (λ h. bc (sym h ∙ e)) ∙ e)))
     (λ nc e. exchange_other a b c (λ h. ac (sym h)) (λ h. bc (sym h)) ∙ sym (exchange_right c d (exchange a b x) (exchange_other a b x (λ h. ad (sym h ∙ e)) (λ h. bd (sym h ∙ e)) ∙ e)))
     (λ nc nd. exchange_case (λ y. y ≡ exchange c d y) a b x (λ e. sym (exchange_other c d b bc bd)) (λ na e. sym (exchange_other c d a ac ad)) (λ na nb. sym (exchange_other c d x nc nd)))
 
 -- with the exchange behind the first i edges
-face_upto-exchange : (i a b : ℕ) (next : ℕ → ℕ) (d : ℕ) → 2 * i ≤ a → 2 * i ≤ b → face_upto (λ x. next (exchange a b x)) i d ≡ face_upto next i (exchange a b d)
+face_upto-exchange : (i a b : ℕ) (next : ℕ → ℕ) (d : ℕ) → 2 * i ≤ a → 2 * i ≤ b
+    → face_upto (λ x. next (exchange a b x)) i d ≡ face_upto next i (exchange a b d)
 face_upto-exchange zero a b next d lea leb = refl
 face_upto-exchange (suc i) a b next d lea leb =
     face_upto-exchange i a b next (exchange (2 * i) (2 * i + 1) d) (omega arith) (omega arith)
     ∙ ap (face_upto next i) (exchange-exchange_comm a b (2 * i) (2 * i + 1) d (λ e. omega arith) (λ e. omega arith) (λ e. omega arith) (λ e. omega arith))
 
 -- it is a rotation
-pub Turns-contracted : (v e u : ℕ) (at next : ℕ → ℕ) → Turns (suc v) (suc e) at next → at (2 * e) ≡ u → at (2 * e + 1) ≡ v → u < v → Turns v e (λ d. joined u v (at d)) (contracted e next)
+pub Turns-contracted : (v e u : ℕ) (at next : ℕ → ℕ) → Turns (suc v) (suc e) at next → at (2 * e) ≡ u
+    → at (2 * e + 1) ≡ v → u < v → Turns v e (λ d. joined u v (at d)) (contracted e next)
 Turns-contracted v e u at next rot eu ev lt = Turns-drop_edge v e (λ d. joined u v (at d)) (λ d. next (exchange (2 * e) (2 * e + 1) d)) (Rotates-joined v (2 * suc e) (2 * e) (2 * e + 1) u at next rot (omega arith) (omega arith) eu ev lt)
 
 -- it has as many faces
-pub faces-contracted : (v e u : ℕ) (at next : ℕ → ℕ) → Turns (suc v) (suc e) at next → at (2 * e) ≡ u → at (2 * e + 1) ≡ v → u < v → faces v e (λ d. joined u v (at d)) (contracted e next) ≡ faces (suc v) (suc e) at next
+pub faces-contracted : (v e u : ℕ) (at next : ℕ → ℕ) → Turns (suc v) (suc e) at next → at (2 * e) ≡ u
+    → at (2 * e + 1) ≡ v → u < v → faces v e (λ d. joined u v (at d)) (contracted e next) ≡ faces (suc v)
+    (suc e) at next
 faces-contracted v e u at next rot eu ev lt =
     sym (faces-drop_edge v e (λ d. joined u v (at d)) (λ d. next (exchange (2 * e) (2 * e + 1) d)) (Rotates-joined v (2 * suc e) (2 * e) (2 * e + 1) u at next rot (omega arith) (omega arith) eu ev lt))
     ∙ ap₂ (λ (f g : ℕ). f + g)
@@ -112,7 +121,8 @@ faces-contracted v e u at next rot eu ev lt =
     (bare-joined v (2 * suc e) (2 * e) (2 * e + 1) u at (omega arith) (omega arith) eu ev lt)
 
 -- it has as many components
-pub components-contracted : (v e u : ℕ) (at : ℕ → ℕ) → at (2 * e) ≡ u → at (2 * e + 1) ≡ v → u < v → components v e (λ d. joined u v (at d)) ≡ components (suc v) (suc e) at
+pub components-contracted : (v e u : ℕ) (at : ℕ → ℕ) → at (2 * e) ≡ u → at (2 * e + 1) ≡ v → u < v
+    → components v e (λ d. joined u v (at d)) ≡ components (suc v) (suc e) at
 components-contracted v e u at eu ev lt = components-joined u v e at lt ∙ ap₂ (λ (x y : ℕ). classes (suc v) ((x, y) ∷ ends_upto at e)) (sym eu) (sym ev)
 
 -- the step round the faces is the dart behind the partner
@@ -130,14 +140,16 @@ partner-partner (suc i) d =
     ∙ exchange-exchange (2 * i) (2 * i + 1) d
 
 -- an exchange behind a function that undoes itself is one before it
-pub exchange_conjugate : (t : ℕ → ℕ) (a b d : ℕ) → ((x : ℕ) → t (t x) ≡ x) → exchange a b (t d) ≡ t (exchange (t a) (t b) d)
+pub exchange_conjugate : (t : ℕ → ℕ) (a b d : ℕ) → ((x : ℕ) → t (t x) ≡ x)
+    → exchange a b (t d) ≡ t (exchange (t a) (t b) d)
 exchange_conjugate t a b d twice = exchange_case (λ y. exchange a b (t d) ≡ t y) (t a) (t b) d
     (λ e. exchange_left a b (t d) (ap t e ∙ twice a) ∙ sym (twice b))
     (λ na e. exchange_right a b (t d) (ap t e ∙ twice b) ∙ sym (twice a))
     (λ na nb. exchange_other a b (t d) (λ e. na (sym (twice d) ∙ ap t e)) (λ e. nb (sym (twice d) ∙ ap t e)))
 
 -- merging at a and b exchanges in the step round the faces what is behind their partners
-pub face_upto-merged : (i a b : ℕ) (next : ℕ → ℕ) (d : ℕ) → face_upto (λ x. next (exchange a b x)) i d ≡ face_upto next i (exchange (partner i a) (partner i b) d)
+pub face_upto-merged : (i a b : ℕ) (next : ℕ → ℕ) (d : ℕ)
+    → face_upto (λ x. next (exchange a b x)) i d ≡ face_upto next i (exchange (partner i a) (partner i b) d)
 face_upto-merged i a b next d =
     face_upto-partner i (λ x. next (exchange a b x)) d
     ∙ ap next (exchange_conjugate (partner i) a b d (partner-partner i))
@@ -170,11 +182,14 @@ partner-twin i d lt =
     (cases_eq (d % 2) 0)
 
 -- the step round the faces leads to the dart behind the other dart of the edge
-pub face_upto-twin : (i : ℕ) (next : ℕ → ℕ) (d : ℕ) → d < 2 * i → face_upto next i d ≡ next (cond (eqb (d % 2) 0) (d + 1) (d - 1))
+pub face_upto-twin : (i : ℕ) (next : ℕ → ℕ) (d : ℕ) → d < 2 * i
+    → face_upto next i d ≡ next (cond (eqb (d % 2) 0) (d + 1) (d - 1))
 face_upto-twin i next d lt = face_upto-partner i next d ∙ ap next (partner-twin i d lt)
 
 -- a contracted edge keeps genus zero
-pub contracted-zero : (v e u : ℕ) (at next : ℕ → ℕ) → Turns (suc v) (suc e) at next → at (2 * e) ≡ u → at (2 * e + 1) ≡ v → u < v → suc v + faces (suc v) (suc e) at next ≡ suc e + 2 * components (suc v) (suc e) at → v + faces v e (λ d. joined u v (at d)) (contracted e next) ≡ e + 2 * components v e (λ d. joined u v (at d))
+pub contracted-zero : (v e u : ℕ) (at next : ℕ → ℕ) → Turns (suc v) (suc e) at next → at (2 * e) ≡ u
+    → at (2 * e + 1) ≡ v → u < v → suc v + faces (suc v) (suc e) at next ≡ suc e + 2 * components (suc v) (suc e) at
+    → v + faces v e (λ d. joined u v (at d)) (contracted e next) ≡ e + 2 * components v e (λ d. joined u v (at d))
 contracted-zero v e u at next rot eu ev lt zero_genus =
     contracted_sum v e (faces (suc v) (suc e) at next) (faces v e (λ d. joined u v (at d)) (contracted e next)) (components (suc v) (suc e) at) (components v e (λ d. joined u v (at d))) zero_genus (faces-contracted v e u at next rot eu ev lt) (components-contracted v e u at eu ev lt)
   where
@@ -182,7 +197,10 @@ contracted-zero v e u at next rot eu ev lt zero_genus =
     contracted_sum v e f h c b sum one two = omega arith
 
 -- genus zero after a contraction is genus zero before
-pub contracted-zero_back : (v e u : ℕ) (at next : ℕ → ℕ) → Turns (suc v) (suc e) at next → at (2 * e) ≡ u → at (2 * e + 1) ≡ v → u < v → v + faces v e (λ d. joined u v (at d)) (contracted e next) ≡ e + 2 * components v e (λ d. joined u v (at d)) → suc v + faces (suc v) (suc e) at next ≡ suc e + 2 * components (suc v) (suc e) at
+pub contracted-zero_back : (v e u : ℕ) (at next : ℕ → ℕ) → Turns (suc v) (suc e) at next → at (2 * e) ≡ u
+    → at (2 * e + 1) ≡ v → u < v → v + faces v e (λ d. joined u v (at d)) (contracted e next)
+    ≡ e + 2 * components v e (λ d. joined u v (at d)) → suc v + faces (suc v) (suc e) at next
+    ≡ suc e + 2 * components (suc v) (suc e) at
 contracted-zero_back v e u at next rot eu ev lt zero_genus =
     expanded_sum v e (faces (suc v) (suc e) at next) (faces v e (λ d. joined u v (at d)) (contracted e next)) (components (suc v) (suc e) at) (components v e (λ d. joined u v (at d))) zero_genus (faces-contracted v e u at next rot eu ev lt) (components-contracted v e u at eu ev lt)
   where
@@ -190,7 +208,8 @@ contracted-zero_back v e u at next rot eu ev lt zero_genus =
     expanded_sum v e f h c b sum one two = omega arith
 
 -- the last vertex v of a rotation of e edges, merged with u, where dart a stands at u and dart b at v
-module _ (v e a b u : ℕ) (at next : ℕ → ℕ) (rot : Turns (suc v) e at next) (lta : a < 2 * e) (ltb : b < 2 * e) (ea : at a ≡ u) (eb : at b ≡ v) (lt : u < v) where
+module _ (v e a b u : ℕ) (at next : ℕ → ℕ) (rot : Turns (suc v) e at next) (lta : a < 2 * e) (ltb : b < 2 * e)
+    (ea : at a ≡ u) (eb : at b ≡ v) (lt : u < v) where
   -- the step round the faces is a permutation
   round_perm : Permutes (2 * e) (face_upto next e)
   round_perm = face_upto-Permutes (2 * e) e next rot.permutes (omega arith)
@@ -207,11 +226,13 @@ module _ (v e a b u : ℕ) (at next : ℕ → ℕ) (rot : Turns (suc v) e at nex
       omega arith
 
   -- a partner lies in the face of the dart behind
-  partner_label : (d : ℕ) → d < 2 * e → labels (graph (face_upto next e) (2 * e)) (partner e d) ≡ labels (graph (face_upto next e) (2 * e)) (next d)
+  partner_label : (d : ℕ) → d < 2 * e → labels (graph (face_upto next e) (2 * e)) (partner e d)
+      ≡ labels (graph (face_upto next e) (2 * e)) (next d)
   partner_label d l = label_step (face_upto next e) (2 * e) (partner e d) (partner-below d l) ∙ ap (labels (graph (face_upto next e) (2 * e))) (face_upto-partner e next (partner e d) ∙ ap next (partner-partner e d))
 
   -- the step round the faces has its values at the partners exchanged
-  merged_orbits : orbits (2 * e) (face_upto (λ x. next (exchange a b x)) e) ≡ orbits (2 * e) (λ d. face_upto next e (exchange (partner e a) (partner e b) d))
+  merged_orbits : orbits (2 * e) (face_upto (λ x. next (exchange a b x)) e) ≡ orbits (2 * e)
+      (λ d. face_upto next e (exchange (partner e a) (partner e b) d))
   merged_orbits = orbits_agree (face_upto (λ x. next (exchange a b x)) e) (λ d. face_upto next e (exchange (partner e a) (partner e b) d)) (2 * e) (λ d l. face_upto-merged e a b next d)
 
   -- the merged system is a rotation
@@ -219,34 +240,48 @@ module _ (v e a b u : ℕ) (at next : ℕ → ℕ) (rot : Turns (suc v) e at nex
   Turns-merged = Rotates-joined v (2 * e) a b u at next rot lta ltb ea eb lt
 
   -- merged within a face, the face is split
-  pub faces-merged_within : labels (graph (face_upto next e) (2 * e)) (next a) ≡ labels (graph (face_upto next e) (2 * e)) (next b) → faces v e (λ d. joined u v (at d)) (λ d. next (exchange a b d)) ≡ suc (faces (suc v) e at next)
+  pub faces-merged_within : labels (graph (face_upto next e) (2 * e))
+      (next a) ≡ labels (graph (face_upto next e) (2 * e)) (next b)
+      → faces v e (λ d. joined u v (at d)) (λ d. next (exchange a b d)) ≡ suc (faces (suc v) e at next)
   faces-merged_within one =
       let split = orbits_split (2 * e) (face_upto next e) (partner e a) (partner e b) round_perm (partner-below a lta) (partner-below b ltb) partners-differ (partner_label a lta ∙ one ∙ sym (partner_label b ltb)) in
       omega (arith, merged_orbits, bare-joined v (2 * e) a b u at lta ltb ea eb lt)
 
   -- merged between two faces, the faces are joined
-  pub faces-merged_between : labels (graph (face_upto next e) (2 * e)) (next a) ≢ labels (graph (face_upto next e) (2 * e)) (next b) → faces (suc v) e at next ≡ suc (faces v e (λ d. joined u v (at d)) (λ d. next (exchange a b d)))
+  pub faces-merged_between : labels (graph (face_upto next e) (2 * e))
+      (next a) ≢ labels (graph (face_upto next e) (2 * e)) (next b)
+      → faces (suc v) e at next ≡ suc (faces v e (λ d. joined u v (at d)) (λ d. next (exchange a b d)))
   faces-merged_between two =
       let join = orbits_joined (2 * e) (face_upto next e) (partner e a) (partner e b) round_perm (partner-below a lta) (partner-below b ltb) (λ h. two (sym (partner_label a lta) ∙ h ∙ partner_label b ltb)) in
       omega (arith, merged_orbits, bare-joined v (2 * e) a b u at lta ltb ea eb lt)
 
   -- the darts behind a and b stand in one component where a and b do
-  face_component : labels (graph (face_upto next e) (2 * e)) (next a) ≡ labels (graph (face_upto next e) (2 * e)) (next b) → labels (ends_upto at e) u ≡ labels (ends_upto at e) v
+  face_component : labels (graph (face_upto next e) (2 * e)) (next a) ≡ labels (graph (face_upto next e) (2 * e))
+      (next b) → labels (ends_upto at e) u ≡ labels (ends_upto at e) v
   face_component one =
       ap (labels (ends_upto at e)) (sym (rot.kept a lta ∙ ea)) ∙ face-component (suc v) (2 * e) e at next rot (omega arith) (next a) (next b) one ∙ ap (labels (ends_upto at e)) (rot.kept b ltb ∙ eb)
 
   -- merged within a component, there are as many components
-  pub components-merged_within : labels (ends_upto at e) u ≡ labels (ends_upto at e) v → components v e (λ d. joined u v (at d)) ≡ components (suc v) e at
+  pub components-merged_within : labels (ends_upto at e) u ≡ labels (ends_upto at e) v
+      → components v e (λ d. joined u v (at d)) ≡ components (suc v) e at
   components-merged_within one = components-joined u v e at lt ∙ classes_same (suc v) (u, v) (ends_upto at e) one
 
   -- merged between two components, there is one less
-  pub components-merged_between : labels (ends_upto at e) u ≢ labels (ends_upto at e) v → components (suc v) e at ≡ suc (components v e (λ d. joined u v (at d)))
+  pub components-merged_between : labels (ends_upto at e) u ≢ labels (ends_upto at e) v
+      → components (suc v) e at ≡ suc (components v e (λ d. joined u v (at d)))
   components-merged_between two = classes_joined (suc v) (u, v) (ends_upto at e) (omega arith) (lt-suc_self v) two ∙ ap suc (sym (components-joined u v e at lt))
 
   -- merged within a face, genus zero stays
-  pub merged_within-zero : labels (graph (face_upto next e) (2 * e)) (next a) ≡ labels (graph (face_upto next e) (2 * e)) (next b) → suc v + faces (suc v) e at next ≡ e + 2 * components (suc v) e at → v + faces v e (λ d. joined u v (at d)) (λ d. next (exchange a b d)) ≡ e + 2 * components v e (λ d. joined u v (at d))
+  pub merged_within-zero : labels (graph (face_upto next e) (2 * e))
+      (next a) ≡ labels (graph (face_upto next e) (2 * e)) (next b)
+      → suc v + faces (suc v) e at next ≡ e + 2 * components (suc v) e at
+      → v + faces v e (λ d. joined u v (at d)) (λ d. next (exchange a b d))
+      ≡ e + 2 * components v e (λ d. joined u v (at d))
   merged_within-zero one zero_genus = omega (arith, faces-merged_within one, components-merged_within (face_component one))
 
   -- merged between two components, genus zero stays
-  pub merged_between-zero : labels (ends_upto at e) u ≢ labels (ends_upto at e) v → suc v + faces (suc v) e at next ≡ e + 2 * components (suc v) e at → v + faces v e (λ d. joined u v (at d)) (λ d. next (exchange a b d)) ≡ e + 2 * components v e (λ d. joined u v (at d))
+  pub merged_between-zero : labels (ends_upto at e) u ≢ labels (ends_upto at e) v
+      → suc v + faces (suc v) e at next ≡ e + 2 * components (suc v) e at
+      → v + faces v e (λ d. joined u v (at d)) (λ d. next (exchange a b d))
+      ≡ e + 2 * components v e (λ d. joined u v (at d))
   merged_between-zero two zero_genus = omega (arith, faces-merged_between (λ h. two (face_component h)), components-merged_between two)

@@ -21,7 +21,8 @@ count_add n (suc m) p =
     ap (λ (k : ℕ). count k p) e ∙ omega (arith, count_add n m p)
 
 -- labels are what does not raise, is respected, and stays within its class
-pub labels_are : (es : List (ℕ × ℕ)) (g : ℕ → ℕ) → ((x : ℕ) → g x ≤ x) → Respects g es → ((x : ℕ) → labels es (g x) ≡ labels es x) → (x : ℕ) → labels es x ≡ g x
+pub labels_are : (es : List (ℕ × ℕ)) (g : ℕ → ℕ) → ((x : ℕ) → g x ≤ x) → Respects g es
+    → ((x : ℕ) → labels es (g x) ≡ labels es x) → (x : ℕ) → labels es x ≡ g x
 labels_are es g low r same x = omega (arith, labels-keeps g es r x, low (labels es x), same x, labels-le es (g x))
 
 -- below v
@@ -35,7 +36,8 @@ beside_high v es fs x =
     cond-false (ltb (v + x) v) (labels es (v + x)) (v + labels fs (v + x - v)) (le-ltb (v + x) v (omega arith)) ∙ ap (λ (y : ℕ). v + labels fs y) off
 
 -- pairs gs that are es below v and fs, v higher, from v on: the labels are those of the parts
-pub labels_beside : (v : ℕ) (es fs gs : List (ℕ × ℕ)) → Respects (beside v es fs) gs → Respects (labels gs) es → Respects (λ x. labels gs (v + x)) fs → (x : ℕ) → labels gs x ≡ beside v es fs x
+pub labels_beside : (v : ℕ) (es fs gs : List (ℕ × ℕ)) → Respects (beside v es fs) gs → Respects (labels gs) es
+    → Respects (λ x. labels gs (v + x)) fs → (x : ℕ) → labels gs x ≡ beside v es fs x
 labels_beside v es fs gs r low high = labels_are gs (beside v es fs)
     (λ x. split x (λ y. beside v es fs y ≤ y) (λ y l. omega (arith, beside_low v es fs y l, labels-le es y)) (λ y. omega (arith, beside_high v es fs y, labels-le fs y)))
     r
@@ -47,7 +49,8 @@ labels_beside v es fs gs r low high = labels_are gs (beside v es fs)
     split x P below above = ⊎_elim (below x) (λ g. let whole : v + (x - v) ≡ x = omega arith in subst P whole (above (x - v))) (cases_lt x v)
 
 -- pairs gs that are es below v and fs, v higher, from v on: the numbers of classes add up
-pub classes_beside : (v w : ℕ) (es fs gs : List (ℕ × ℕ)) → Respects (beside v es fs) gs → Respects (labels gs) es → Respects (λ x. labels gs (v + x)) fs → classes (v + w) gs ≡ classes v es + classes w fs
+pub classes_beside : (v w : ℕ) (es fs gs : List (ℕ × ℕ)) → Respects (beside v es fs) gs → Respects (labels gs) es
+    → Respects (λ x. labels gs (v + x)) fs → classes (v + w) gs ≡ classes v es + classes w fs
 classes_beside v w es fs gs r low high =
     count_add v w (λ x. eqb (labels gs x) x)
     ∙ ap₂ (λ (a b : ℕ). a + b)
@@ -57,7 +60,8 @@ classes_beside v w es fs gs r low high =
     (λ t. let e : labels fs x ≡ x = eqb-true (labels fs x) x t in eq-eqb (labels gs (v + x)) (v + x) (omega (arith, labels_beside v es fs gs r low high (v + x), beside_high v es fs x)))))
 
 -- a function that is f below n and g, n higher, from n on has the orbits of both
-pub orbits_beside : (n m : ℕ) (f g : ℕ → ℕ) → ((x : ℕ) → x < n → f x < n) → ((x : ℕ) → x < m → f (n + x) ≡ n + g x) → orbits (n + m) f ≡ orbits n f + orbits m g
+pub orbits_beside : (n m : ℕ) (f g : ℕ → ℕ) → ((x : ℕ) → x < n → f x < n) → ((x : ℕ) → x < m → f (n + x) ≡ n + g x)
+    → orbits (n + m) f ≡ orbits n f + orbits m g
 orbits_beside n m f g below above = classes_beside n m (graph f n) (graph g m) (graph f (n + m))
     (Respects-graph parts f (n + m) (λ x lt. ⊎_elim
     (λ l. beside_low n (graph f n) (graph g m) x l ∙ label_step f n x l ∙ sym (beside_low n (graph f n) (graph g m) (f x) (below x l)))
@@ -89,9 +93,12 @@ partner_shift e k = each_dart (λ d. partner (e + k) (2 * e + d) ≡ 2 * e + par
     ap (partner (e + k)) at ∙ partner_odd (e + k) (e + i) (omega arith) ∙ omega (arith, partner_odd k i l))
 
 -- two rotations side by side: v and e vertices and edges of the first, w and k of the second, whose numbers come behind
-module _ (v e w k : ℕ) (at next at₂ next₂ : ℕ → ℕ) (first : Turns v e at next) (second : Turns w k at₂ next₂) (stand : (d : ℕ) → d < 2 * k → at (2 * e + d) ≡ v + at₂ d) (follow : (d : ℕ) → d < 2 * k → next (2 * e + d) ≡ 2 * e + next₂ d) where
+module _ (v e w k : ℕ) (at next at₂ next₂ : ℕ → ℕ) (first : Turns v e at next) (second : Turns w k at₂ next₂)
+    (stand : (d : ℕ) → d < 2 * k → at (2 * e + d) ≡ v + at₂ d)
+    (follow : (d : ℕ) → d < 2 * k → next (2 * e + d) ≡ 2 * e + next₂ d) where
   -- a dart of the two is one of the first or one of the second
-  either : (P : ℕ → Type 0) → ((d : ℕ) → d < 2 * e → P d) → ((d : ℕ) → d < 2 * k → P (2 * e + d)) → (d : ℕ) → d < 2 * (e + k) → P d
+  either : (P : ℕ → Type 0) → ((d : ℕ) → d < 2 * e → P d) → ((d : ℕ) → d < 2 * k → P (2 * e + d)) → (d : ℕ)
+      → d < 2 * (e + k) → P d
   either P low high d lt = ⊎_elim (low d) (λ g. let whole : 2 * e + (d - 2 * e) ≡ d = omega arith in subst P whole (high (d - 2 * e) (omega arith))) (cases_lt d (2 * e))
 
   -- the two side by side are a rotation
@@ -189,9 +196,12 @@ module _ (v e w k : ℕ) (at next at₂ next₂ : ℕ → ℕ) (first : Turns v 
       )
 
   -- two rotations of genus zero side by side have genus zero
-  pub beside-zero : v + faces v e at next ≡ e + 2 * components v e at → w + faces w k at₂ next₂ ≡ k + 2 * components w k at₂ → v + w + faces (v + w) (e + k) at next ≡ e + k + 2 * components (v + w) (e + k) at
+  pub beside-zero : v + faces v e at next ≡ e + 2 * components v e at
+      → w + faces w k at₂ next₂ ≡ k + 2 * components w k at₂
+      → v + w + faces (v + w) (e + k) at next ≡ e + k + 2 * components (v + w) (e + k) at
   beside-zero one two = omega (arith, faces-beside, components-beside)
 
   -- if two rotations side by side have genus zero, each has
-  pub parts-zero : v + w + faces (v + w) (e + k) at next ≡ e + k + 2 * components (v + w) (e + k) at → (v + faces v e at next ≡ e + 2 * components v e at) × (w + faces w k at₂ next₂ ≡ k + 2 * components w k at₂)
+  pub parts-zero : v + w + faces (v + w) (e + k) at next ≡ e + k + 2 * components (v + w) (e + k) at
+      → (v + faces v e at next ≡ e + 2 * components v e at) × (w + faces w k at₂ next₂ ≡ k + 2 * components w k at₂)
   parts-zero both = (omega (arith, faces-beside, components-beside, euler_bound v e at next first, euler_bound w k at₂ next₂ second), omega (arith, faces-beside, components-beside, euler_bound v e at next first, euler_bound w k at₂ next₂ second))

@@ -12,7 +12,8 @@ use Rattle.cp_faces.proofs.Merges.{Turns-merged, merged_within-zero, merged_betw
 use Rattle.cp_faces.proofs.Renaming.{Renames-vertices, Respects-ends, ends-respects, Renames-Turns, faces-renamed, components-renamed, Renumbers-on_edges, partner-on_edges, on_edges_even, on_edges_odd}
 
 -- vertices and edges with new numbers
-pub Renames-both : (v e : ℕ) (h back p q at next : ℕ → ℕ) → Turns v e at next → Renumbers v h back → Renumbers e p q → Renames v e h back (on_edges p) (on_edges q) at next (renamed_at h q at) (renamed_next p q next)
+pub Renames-both : (v e : ℕ) (h back p q at next : ℕ → ℕ) → Turns v e at next → Renumbers v h back → Renumbers e p q
+    → Renames v e h back (on_edges p) (on_edges q) at next (renamed_at h q at) (renamed_next p q next)
 Renames-both v e h back p q at next rot vertices edges =
     let darts : Renumbers (2 * e) (on_edges p) (on_edges q) = Renumbers-on_edges e p q edges in
     record {
@@ -24,7 +25,9 @@ Renames-both v e h back p q at next rot vertices edges =
     }
 
 -- genus zero stays where vertices and edges have new numbers
-pub renamed-zero : (v e : ℕ) (h back k undo at next at' next' : ℕ → ℕ) → Turns v e at next → Renames v e h back k undo at next at' next' → v + faces v e at next ≡ e + 2 * components v e at → v + faces v e at' next' ≡ e + 2 * components v e at'
+pub renamed-zero : (v e : ℕ) (h back k undo at next at' next' : ℕ → ℕ) → Turns v e at next
+    → Renames v e h back k undo at next at' next' → v + faces v e at next ≡ e + 2 * components v e at
+    → v + faces v e at' next' ≡ e + 2 * components v e at'
 renamed-zero v e h back k undo at next at' next' rot ren zero_genus = omega (arith, faces-renamed v e h back k undo at next at' next' rot ren, components-renamed v e h back k undo at next at' next' rot ren)
 
 -- edge i and the last of e + 1 edges exchanged
@@ -38,7 +41,9 @@ module _ (v e i : ℕ) (at next : ℕ → ℕ) (rot : Turns v (suc e) at next) (
   same_vertices = record { there = λ x l. l; back = λ x l. l; there_back = λ x l. refl; back_there = λ x l. refl }
 
   -- the exchange of two edges renames the rotation
-  renames : Renames v (suc e) (λ x. x) (λ x. x) (on_edges (exchange i e)) (on_edges (exchange i e)) at next (renamed_at (λ x. x) (exchange i e) at) (renamed_next (exchange i e) (exchange i e) next)
+  renames : Renames v (suc e) (λ x. x) (λ x. x) (on_edges (exchange i e))
+      (on_edges (exchange i e)) at next (renamed_at (λ x. x) (exchange i e) at)
+      (renamed_next (exchange i e) (exchange i e) next)
   renames = Renames-both v (suc e) (λ x. x) (λ x. x) (exchange i e) (exchange i e) at next rot same_vertices swapped
 
   -- with the two edges exchanged it is a rotation
@@ -46,16 +51,21 @@ module _ (v e i : ℕ) (at next : ℕ → ℕ) (rot : Turns v (suc e) at next) (
   turns = Renames-Turns v (suc e) (λ x. x) (λ x. x) (on_edges (exchange i e)) (on_edges (exchange i e)) at next (renamed_at (λ x. x) (exchange i e) at) (renamed_next (exchange i e) (exchange i e) next) rot renames
 
   -- without edge i a rotation is one
-  pub Turns-deleted : Turns v e (renamed_at (λ x. x) (exchange i e) at) (drop_edge e (renamed_next (exchange i e) (exchange i e) next))
+  pub Turns-deleted : Turns v e (renamed_at (λ x. x) (exchange i e) at)
+      (drop_edge e (renamed_next (exchange i e) (exchange i e) next))
   Turns-deleted = Turns-drop_edge v e (renamed_at (λ x. x) (exchange i e) at) (renamed_next (exchange i e) (exchange i e) next) turns
 
   -- without edge i a rotation of genus zero has genus zero
-  pub deleted-zero : v + faces v (suc e) at next ≡ suc e + 2 * components v (suc e) at → v + faces v e (renamed_at (λ x. x) (exchange i e) at) (drop_edge e (renamed_next (exchange i e) (exchange i e) next)) ≡ e + 2 * components v e (renamed_at (λ x. x) (exchange i e) at)
+  pub deleted-zero : v + faces v (suc e) at next ≡ suc e + 2 * components v (suc e) at
+      → v + faces v e (renamed_at (λ x. x) (exchange i e) at)
+      (drop_edge e (renamed_next (exchange i e) (exchange i e) next))
+      ≡ e + 2 * components v e (renamed_at (λ x. x) (exchange i e) at)
   deleted-zero zero_genus = drop_edge-zero v e (renamed_at (λ x. x) (exchange i e) at) (renamed_next (exchange i e) (exchange i e) next) turns
       (renamed-zero v (suc e) (λ x. x) (λ x. x) (on_edges (exchange i e)) (on_edges (exchange i e)) at next (renamed_at (λ x. x) (exchange i e) at) (renamed_next (exchange i e) (exchange i e) next) rot renames zero_genus)
 
 -- edge i, which is no loop, contracted: its target w and the last vertex v are exchanged, and edge i and the last
-module _ (v e i u w : ℕ) (at next : ℕ → ℕ) (rot : Turns (suc v) (suc e) at next) (lt : i < suc e) (source : at (2 * i) ≡ u) (target : at (2 * i + 1) ≡ w) (apart : u ≢ w) where
+module _ (v e i u w : ℕ) (at next : ℕ → ℕ) (rot : Turns (suc v) (suc e) at next) (lt : i < suc e)
+    (source : at (2 * i) ≡ u) (target : at (2 * i + 1) ≡ w) (apart : u ≢ w) where
   -- the target is one of the vertices
   target_below : w < suc v
   target_below = subst (λ y. y < suc v) target (rot.placed (2 * i + 1) (omega arith))
@@ -65,11 +75,14 @@ module _ (v e i u w : ℕ) (at next : ℕ → ℕ) (rot : Turns (suc v) (suc e) 
   source_below = subst (λ y. y < suc v) source (rot.placed (2 * i) (omega arith))
 
   -- the two exchanges rename the rotation
-  renames_both : Renames (suc v) (suc e) (exchange w v) (exchange w v) (on_edges (exchange i e)) (on_edges (exchange i e)) at next (renamed_at (exchange w v) (exchange i e) at) (renamed_next (exchange i e) (exchange i e) next)
+  renames_both : Renames (suc v) (suc e) (exchange w v) (exchange w v) (on_edges (exchange i e))
+      (on_edges (exchange i e)) at next (renamed_at (exchange w v) (exchange i e) at)
+      (renamed_next (exchange i e) (exchange i e) next)
   renames_both = Renames-both (suc v) (suc e) (exchange w v) (exchange w v) (exchange i e) (exchange i e) at next rot (Renumbers-exchange (suc v) w v target_below (lt-suc_self v)) (Renumbers-exchange (suc e) i e lt (lt-suc_self e))
 
   -- with both exchanged it is a rotation
-  turns_both : Turns (suc v) (suc e) (renamed_at (exchange w v) (exchange i e) at) (renamed_next (exchange i e) (exchange i e) next)
+  turns_both : Turns (suc v) (suc e) (renamed_at (exchange w v) (exchange i e) at)
+      (renamed_next (exchange i e) (exchange i e) next)
   turns_both = Renames-Turns (suc v) (suc e) (exchange w v) (exchange w v) (on_edges (exchange i e)) (on_edges (exchange i e)) at next (renamed_at (exchange w v) (exchange i e) at) (renamed_next (exchange i e) (exchange i e) next) rot renames_both
 
   -- the last edge begins where edge i began
@@ -87,23 +100,27 @@ module _ (v e i u w : ℕ) (at next : ℕ → ℕ) (rot : Turns (suc v) (suc e) 
       omega (arith, exchange-below (suc v) w v u target_below (lt-suc_self v) source_below)
 
   -- the contracted rotation is one
-  pub Turns-contracted_edge : Turns v e (λ d. joined (exchange w v u) v (renamed_at (exchange w v) (exchange i e) at d)) (contracted e (renamed_next (exchange i e) (exchange i e) next))
+  pub Turns-contracted_edge : Turns v e (λ d. joined (exchange w v u) v (renamed_at (exchange w v) (exchange i e) at d))
+      (contracted e (renamed_next (exchange i e) (exchange i e) next))
   Turns-contracted_edge = Turns-contracted v e (exchange w v u) (renamed_at (exchange w v) (exchange i e) at) (renamed_next (exchange i e) (exchange i e) next) turns_both new_source new_target source_low
 
   -- it has as many faces
-  pub faces-contracted_edge : faces v e (λ d. joined (exchange w v u) v (renamed_at (exchange w v) (exchange i e) at d)) (contracted e (renamed_next (exchange i e) (exchange i e) next)) ≡ faces (suc v) (suc e) at next
+  pub faces-contracted_edge : faces v e (λ d. joined (exchange w v u) v (renamed_at (exchange w v) (exchange i e) at d))
+      (contracted e (renamed_next (exchange i e) (exchange i e) next)) ≡ faces (suc v) (suc e) at next
   faces-contracted_edge =
       faces-contracted v e (exchange w v u) (renamed_at (exchange w v) (exchange i e) at) (renamed_next (exchange i e) (exchange i e) next) turns_both new_source new_target source_low
       ∙ faces-renamed (suc v) (suc e) (exchange w v) (exchange w v) (on_edges (exchange i e)) (on_edges (exchange i e)) at next (renamed_at (exchange w v) (exchange i e) at) (renamed_next (exchange i e) (exchange i e) next) rot renames_both
 
   -- it has as many components
-  pub components-contracted_edge : components v e (λ d. joined (exchange w v u) v (renamed_at (exchange w v) (exchange i e) at d)) ≡ components (suc v) (suc e) at
+  pub components-contracted_edge : components v e (λ d. joined (exchange w v u) v (renamed_at (exchange w v)
+      (exchange i e) at d)) ≡ components (suc v) (suc e) at
   components-contracted_edge =
       components-contracted v e (exchange w v u) (renamed_at (exchange w v) (exchange i e) at) new_source new_target source_low
       ∙ components-renamed (suc v) (suc e) (exchange w v) (exchange w v) (on_edges (exchange i e)) (on_edges (exchange i e)) at next (renamed_at (exchange w v) (exchange i e) at) (renamed_next (exchange i e) (exchange i e) next) rot renames_both
 
 -- vertices u and w merged at darts a and b: w and the last vertex v are exchanged first
-module _ (v e a b u w : ℕ) (at next : ℕ → ℕ) (rot : Turns (suc v) e at next) (lta : a < 2 * e) (ltb : b < 2 * e) (first : at a ≡ u) (second : at b ≡ w) (apart : u ≢ w) where
+module _ (v e a b u w : ℕ) (at next : ℕ → ℕ) (rot : Turns (suc v) e at next) (lta : a < 2 * e) (ltb : b < 2 * e)
+    (first : at a ≡ u) (second : at b ≡ w) (apart : u ≢ w) where
   -- the second vertex is one of the vertices
   second_within : w < suc v
   second_within = subst (λ y. y < suc v) second (rot.placed b ltb)
@@ -117,7 +134,8 @@ module _ (v e a b u w : ℕ) (at next : ℕ → ℕ) (rot : Turns (suc v) e at n
   new_numbers = Renumbers-exchange (suc v) w v second_within (lt-suc_self v)
 
   -- the exchange of two vertices renames the rotation
-  renames_vertices : Renames (suc v) e (exchange w v) (exchange w v) (λ d. d) (λ d. d) at next (λ d. exchange w v (at d)) next
+  renames_vertices : Renames (suc v) e (exchange w v) (exchange w v) (λ d. d)
+      (λ d. d) at next (λ d. exchange w v (at d)) next
   renames_vertices = Renames-vertices (suc v) e (exchange w v) (exchange w v) at next rot new_numbers
 
   -- with the two vertices exchanged it is a rotation
@@ -139,19 +157,28 @@ module _ (v e a b u w : ℕ) (at next : ℕ → ℕ) (rot : Turns (suc v) e at n
       omega (arith, exchange-below (suc v) w v u second_within (lt-suc_self v) first_within)
 
   -- genus zero stays with the two vertices exchanged
-  zero_vertices : suc v + faces (suc v) e at next ≡ e + 2 * components (suc v) e at → suc v + faces (suc v) e (λ d. exchange w v (at d)) next ≡ e + 2 * components (suc v) e (λ d. exchange w v (at d))
+  zero_vertices : suc v + faces (suc v) e at next ≡ e + 2 * components (suc v) e at
+      → suc v + faces (suc v) e (λ d. exchange w v (at d)) next
+      ≡ e + 2 * components (suc v) e (λ d. exchange w v (at d))
   zero_vertices zero_genus = renamed-zero (suc v) e (exchange w v) (exchange w v) (λ d. d) (λ d. d) at next (λ d. exchange w v (at d)) next rot renames_vertices zero_genus
 
   -- the merged rotation is one
-  pub Turns-merged_vertices : Turns v e (λ d. joined (exchange w v u) v (exchange w v (at d))) (λ d. next (exchange a b d))
+  pub Turns-merged_vertices : Turns v e (λ d. joined (exchange w v u) v (exchange w v (at d)))
+      (λ d. next (exchange a b d))
   Turns-merged_vertices = Turns-merged v e a b (exchange w v u) (λ d. exchange w v (at d)) next turns_vertices lta ltb new_first new_second first_low
 
   -- merged within a face, genus zero stays
-  pub merged_vertices_within-zero : labels (graph (face_upto next e) (2 * e)) (next a) ≡ labels (graph (face_upto next e) (2 * e)) (next b) → suc v + faces (suc v) e at next ≡ e + 2 * components (suc v) e at → v + faces v e (λ d. joined (exchange w v u) v (exchange w v (at d))) (λ d. next (exchange a b d)) ≡ e + 2 * components v e (λ d. joined (exchange w v u) v (exchange w v (at d)))
+  pub merged_vertices_within-zero : labels (graph (face_upto next e) (2 * e))
+      (next a) ≡ labels (graph (face_upto next e) (2 * e)) (next b)
+      → suc v + faces (suc v) e at next ≡ e + 2 * components (suc v) e at
+      → v + faces v e (λ d. joined (exchange w v u) v (exchange w v (at d)))
+      (λ d. next (exchange a b d)) ≡ e + 2 * components v e (λ d. joined (exchange w v u) v (exchange w v (at d)))
   merged_vertices_within-zero one zero_genus = merged_within-zero v e a b (exchange w v u) (λ d. exchange w v (at d)) next turns_vertices lta ltb new_first new_second first_low one (zero_vertices zero_genus)
 
   -- vertices are in one component where they are with their new numbers
-  old_component : labels (ends_upto (λ d. exchange w v (at d)) e) (exchange w v u) ≡ labels (ends_upto (λ d. exchange w v (at d)) e) v → labels (ends_upto at e) u ≡ labels (ends_upto at e) w
+  old_component : labels (ends_upto (λ d. exchange w v (at d)) e)
+      (exchange w v u) ≡ labels (ends_upto (λ d. exchange w v (at d)) e) v
+      → labels (ends_upto at e) u ≡ labels (ends_upto at e) w
   old_component h =
       ap label (sym (exchange-exchange w v u))
       ∙ same_labels (λ x. label (exchange w v x)) (ends_upto (λ d. exchange w v (at d)) e) (exchange w v u) v
@@ -162,5 +189,8 @@ module _ (v e a b u w : ℕ) (at next : ℕ → ℕ) (rot : Turns (suc v) e at n
       label = labels (ends_upto at e)
 
   -- merged between two components, genus zero stays
-  pub merged_vertices_between-zero : labels (ends_upto at e) u ≢ labels (ends_upto at e) w → suc v + faces (suc v) e at next ≡ e + 2 * components (suc v) e at → v + faces v e (λ d. joined (exchange w v u) v (exchange w v (at d))) (λ d. next (exchange a b d)) ≡ e + 2 * components v e (λ d. joined (exchange w v u) v (exchange w v (at d)))
+  pub merged_vertices_between-zero : labels (ends_upto at e) u ≢ labels (ends_upto at e) w
+      → suc v + faces (suc v) e at next ≡ e + 2 * components (suc v) e at
+      → v + faces v e (λ d. joined (exchange w v u) v (exchange w v (at d)))
+      (λ d. next (exchange a b d)) ≡ e + 2 * components v e (λ d. joined (exchange w v u) v (exchange w v (at d)))
   merged_vertices_between-zero two zero_genus = merged_between-zero v e a b (exchange w v u) (λ d. exchange w v (at d)) next turns_vertices lta ltb new_first new_second first_low (λ h. two (old_component h)) (zero_vertices zero_genus)

@@ -50,5 +50,6 @@ partner_of_three : partner 3 3 ≡ 2
 partner_of_three = refl
 
 -- the triangle without its last edge has one face
-path_faces : faces 3 2 (slice_index (0 ∷ 1 ∷ 1 ∷ 2 ∷ 2 ∷ 0 ∷ [])) (drop_edge 2 (slice_index (5 ∷ 2 ∷ 1 ∷ 4 ∷ 3 ∷ 0 ∷ []))) ≡ 1
+path_faces : faces 3 2 (slice_index (0 ∷ 1 ∷ 1 ∷ 2 ∷ 2 ∷ 0 ∷ []))
+    (drop_edge 2 (slice_index (5 ∷ 2 ∷ 1 ∷ 4 ∷ 3 ∷ 0 ∷ []))) ≡ 1
 path_faces = refl

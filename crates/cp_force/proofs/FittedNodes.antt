@@ -270,7 +270,8 @@ module _ (place : ℕ → ℕ) where
         (both_ways vars b row (rows_below vars ks row z h)));
   }
     where
-      way_is : (may : ℕ → Bool → Bool) (xs : List ℕ) (way : Bool) → ReadsAll may (in_direction way ks) xs → Rises place xs
+      way_is : (may : ℕ → Bool → Bool) (xs : List ℕ) (way : Bool) → ReadsAll may (in_direction way ks) xs
+          → Rises place xs
           → is_turned row ≡ way
       way_is may xs true r rise = backward_turn may ks row xs z two r rise
       way_is may xs false r rise = forward_turn may ks row xs z two r rise

@@ -147,7 +147,8 @@ module _ (may : ℕ → Bool → Bool) (var : ℕ) (n : Node) (row : List ℕ) (
   }
 
 -- turned by both bits
-turned_both : {A : Type 0} (a b : Bool) (xs : List A) → in_direction a (in_direction b xs) ≡ in_direction (differ a b) xs
+turned_both : {A : Type 0} (a b : Bool) (xs : List A) → in_direction a (in_direction b xs)
+    ≡ in_direction (differ a b) xs
 turned_both true true xs = reverse-reverse xs
 turned_both true false xs = refl
 turned_both false b xs = refl

@@ -102,7 +102,9 @@ count_without (suc n) p a lt passes =
     (cases_eq n a)
 
 -- the pigeonhole principle: what maps the numbers that pass p to different numbers that pass q shows that as many pass q
-pub count_inject : (n m : ℕ) (p q : ℕ → Bool) (h : ℕ → ℕ) → ((x : ℕ) → x < n → p x ≡ true → (h x < m) × (q (h x) ≡ true)) → ((x y : ℕ) → x < n → y < n → p x ≡ true → p y ≡ true → h x ≡ h y → x ≡ y) → count n p ≤ count m q
+pub count_inject : (n m : ℕ) (p q : ℕ → Bool) (h : ℕ → ℕ)
+    → ((x : ℕ) → x < n → p x ≡ true → (h x < m) × (q (h x) ≡ true))
+    → ((x y : ℕ) → x < n → y < n → p x ≡ true → p y ≡ true → h x ≡ h y → x ≡ y) → count n p ≤ count m q
 count_inject zero m p q h into apart = omega arith
 count_inject (suc n) m p q h into apart =
     ⊎_elim
@@ -119,7 +121,8 @@ count_inject (suc n) m p q h into apart =
     (cases_Bool (p n))
 
 -- the first number below n that passes, or that none passes
-pub first_below : (n : ℕ) (p : ℕ → Bool) → ((k : ℕ) × (k < n) × (p k ≡ true) × ((i : ℕ) → i < k → p i ≡ false)) ⊎ ((k : ℕ) → k < n → p k ≡ false)
+pub first_below : (n : ℕ) (p : ℕ → Bool) → ((k : ℕ) × (k < n) × (p k ≡ true) × ((i : ℕ) → i < k → p i ≡ false))
+    ⊎ ((k : ℕ) → k < n → p k ≡ false)
 first_below zero p = inr (λ k lt. absurd (omega arith))
 first_below (suc n) p =
     ⊎_elim
@@ -152,7 +155,8 @@ pub IsCount-le : (P : ℕ → Type 0) (n c : ℕ) → IsCount P n c → c ≤ n
 IsCount-le P n c one = omega (arith, one.counted, count-le n one.test)
 
 -- a property that implies another has no higher count
-pub IsCount-weaker : (P Q : ℕ → Type 0) (n c d : ℕ) → ((x : ℕ) → x < n → P x → Q x) → IsCount P n c → IsCount Q n d → c ≤ d
+pub IsCount-weaker : (P Q : ℕ → Type 0) (n c d : ℕ) → ((x : ℕ) → x < n → P x → Q x) → IsCount P n c → IsCount Q n d
+    → c ≤ d
 IsCount-weaker P Q n c d weaker one two = omega (arith, one.counted, two.counted, count_weaker n one.test two.test (λ x lt t. (two.decides x lt).1 (weaker x lt ((one.decides x lt).0 t))))
 
 -- the test of a count, with one answer more at n

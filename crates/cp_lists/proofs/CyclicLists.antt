@@ -22,7 +22,8 @@ head_or-append d [] ys = refl
 head_or-append d (x ∷ xs) ys = refl
 
 -- for an item of the first part the second begins where the first ends
-pub next_from-append_left : (first d : ℕ) (xs ys : List ℕ) → Has d xs → next_from first (xs ++ ys) d ≡ next_from (head_or first ys) xs d
+pub next_from-append_left : (first d : ℕ) (xs ys : List ℕ) → Has d xs
+    → next_from first (xs ++ ys) d ≡ next_from (head_or first ys) xs d
 next_from-append_left first d [] ys h = absurd h
 next_from-append_left first d (x ∷ xs) ys h =
     ⊎_elim
@@ -31,7 +32,8 @@ next_from-append_left first d (x ∷ xs) ys h =
     (cases_eq x d)
 
 -- a first part without d is passed over
-pub next_from-append_right : (first d : ℕ) (xs ys : List ℕ) → Lacks d xs → next_from first (xs ++ ys) d ≡ next_from first ys d
+pub next_from-append_right : (first d : ℕ) (xs ys : List ℕ) → Lacks d xs
+    → next_from first (xs ++ ys) d ≡ next_from first ys d
 next_from-append_right first d [] ys l = refl
 next_from-append_right first d (x ∷ xs) ys l = next_from_other first d x (xs ++ ys) l.0 ∙ next_from-append_right first d xs ys l.1
 
@@ -54,12 +56,14 @@ next_from_cases first d (x ∷ xs) =
     (cases_eq x d)
 
 -- with another stand-in only the head of an empty list changes
-head_first : (first z : ℕ) (xs : List ℕ) → Lacks z xs → head_or first xs ≡ cond (eqb (head_or z xs) z) first (head_or z xs)
+head_first : (first z : ℕ) (xs : List ℕ) → Lacks z xs → head_or first xs
+    ≡ cond (eqb (head_or z xs) z) first (head_or z xs)
 head_first first z [] l = sym (cond-true (eqb z z) first z (eq-eqb z z refl))
 head_first first z (x ∷ xs) l = sym (cond-false (eqb x z) first x (ne_eqb x z l.0))
 
 -- with another first item only what comes behind the last changes
-pub next_from_first : (first z d : ℕ) (xs : List ℕ) → Has d xs → Lacks z xs → next_from first xs d ≡ cond (eqb (next_from z xs d) z) first (next_from z xs d)
+pub next_from_first : (first z d : ℕ) (xs : List ℕ) → Has d xs → Lacks z xs
+    → next_from first xs d ≡ cond (eqb (next_from z xs d) z) first (next_from z xs d)
 next_from_first first z d [] h l = absurd h
 next_from_first first z d (x ∷ xs) h l =
     ⊎_elim
@@ -77,7 +81,8 @@ turn_half d ps qs h l =
     same_head (r ∷ rs) = refl
 
 -- a turn of a list changes nothing
-pub follow-turn : (d : ℕ) (ps qs : List ℕ) → Distinct (ps ++ qs) → Has d (ps ++ qs) → follow (qs ++ ps) d ≡ follow (ps ++ qs) d
+pub follow-turn : (d : ℕ) (ps qs : List ℕ) → Distinct (ps ++ qs) → Has d (ps ++ qs)
+    → follow (qs ++ ps) d ≡ follow (ps ++ qs) d
 follow-turn d ps qs dis h =
     ⊎_elim
     (λ k. turn_half d ps qs k (Distinct-apart d ps qs dis k))
@@ -99,13 +104,17 @@ head_whole : (d : ℕ) (xs ys zs : List ℕ) → Has d xs → head_or 0 (xs ++ y
 head_whole d xs ys zs h = head_or-append 0 xs ys ∙ head_has (head_or 0 ys) (head_or 0 zs) d xs h ∙ sym (head_or-append 0 xs zs)
 
 -- what a list with an item more has behind z and behind an item of the second part
-but_second : (z d : ℕ) (ps qs : List ℕ) → Lacks z ps → Lacks z qs → Lacks d ps → d ≢ z → Has d qs → next_from (head_or 0 (ps ++ qs)) qs d ≡ cond (eqb (next_from (head_or 0 (ps ++ z ∷ qs)) qs d) z) (head_or (head_or 0 (ps ++ z ∷ qs)) qs) (next_from (head_or 0 (ps ++ z ∷ qs)) qs d)
+but_second : (z d : ℕ) (ps qs : List ℕ) → Lacks z ps → Lacks z qs → Lacks d ps → d ≢ z → Has d qs
+    → next_from (head_or 0 (ps ++ qs)) qs d ≡ cond (eqb (next_from (head_or 0 (ps ++ z ∷ qs)) qs d) z)
+    (head_or (head_or 0 (ps ++ z ∷ qs)) qs) (next_from (head_or 0 (ps ++ z ∷ qs)) qs d)
 but_second z d [] qs lp lq ld ne h = next_from_first (head_or 0 qs) z d qs h lq ∙ ap (λ (f : ℕ). cond (eqb (next_from z qs d) z) f (next_from z qs d)) (head_has 0 z d qs h)
 but_second z d (p ∷ ps) qs lp lq ld ne h =
     sym (cond-false (eqb (next_from p qs d) z) (head_or p qs) (next_from p qs d) (ne_eqb (next_from p qs d) z (⊎_elim (λ k. has_other (next_from p qs d) z qs k lq) (λ e f. lp.0 (sym e ∙ f)) (next_from_cases p d qs))))
 
 -- where z stands between two parts
-follow_but_middle : (z d : ℕ) (ps qs : List ℕ) → Distinct (ps ++ z ∷ qs) → d ≢ z → Has d (ps ++ z ∷ qs) → follow (but z (ps ++ z ∷ qs)) d ≡ cond (eqb (follow (ps ++ z ∷ qs) d) z) (follow (ps ++ z ∷ qs) z) (follow (ps ++ z ∷ qs) d)
+follow_but_middle : (z d : ℕ) (ps qs : List ℕ) → Distinct (ps ++ z ∷ qs) → d ≢ z → Has d (ps ++ z ∷ qs)
+    → follow (but z (ps ++ z ∷ qs)) d ≡ cond (eqb (follow (ps ++ z ∷ qs) d) z) (follow (ps ++ z ∷ qs) z)
+    (follow (ps ++ z ∷ qs) d)
 follow_but_middle z d ps qs dis ne h =
     ap (λ (ws : List ℕ). follow ws d) (but_middle z ps qs dis) ∙ ⊎_elim
     (λ k. in_first k)
@@ -133,7 +142,8 @@ follow_but_middle z d ps qs dis ne h =
         (sym (next_from-append_right (head_or 0 (ps ++ z ∷ qs)) d ps (z ∷ qs) before ∙ next_from_other (head_or 0 (ps ++ z ∷ qs)) d z qs (λ e. ne (sym e))))
 
 -- with z left out, what came before z goes on to what comes behind z
-pub follow-but : (z d : ℕ) (xs : List ℕ) → Distinct xs → d ≢ z → Has d xs → follow (but z xs) d ≡ cond (eqb (follow xs d) z) (follow xs z) (follow xs d)
+pub follow-but : (z d : ℕ) (xs : List ℕ) → Distinct xs → d ≢ z → Has d xs
+    → follow (but z xs) d ≡ cond (eqb (follow xs d) z) (follow xs z) (follow xs d)
 follow-but z d xs dis ne h =
     ⊎_elim
     (λ k.
@@ -145,7 +155,8 @@ follow-but z d xs dis ne h =
     (has_cases z xs)
 
 -- a list put into another at a and b exchanges what comes behind them
-pub follow-merge : (a b : ℕ) (ys zs us : List ℕ) → Distinct (ys ++ a ∷ (us ++ b ∷ zs)) → MergesAt (ys ++ a ∷ zs) (us ++ b ∷ []) (ys ++ a ∷ (us ++ b ∷ zs)) a b
+pub follow-merge : (a b : ℕ) (ys zs us : List ℕ) → Distinct (ys ++ a ∷ (us ++ b ∷ zs))
+    → MergesAt (ys ++ a ∷ zs) (us ++ b ∷ []) (ys ++ a ∷ (us ++ b ∷ zs)) a b
 follow-merge a b ys zs us dis = record {
   behind_first = next_from_middle whole a ys (us ++ b ∷ zs) mid.0 ∙ head_or-append whole us (b ∷ zs) ∙ sym (next_from_middle other b us [] mid_b.0 ∙ head_or-append 0 us (b ∷ []));
   behind_second = past_a b lacks_b ne_ab ∙ next_from_middle whole b us zs mid_b.0 ∙ ap (λ (f : ℕ). head_or f zs) same_head ∙ sym (next_from_middle old a ys zs mid.0);
@@ -190,7 +201,8 @@ follow-merge a b ys zs us dis = record {
     ne_ab : a ≢ b
     ne_ab e = has_lacks a (us ++ b ∷ zs) (Has-append_right a us (b ∷ zs) (inl (sym e))) mid.1
 
-    past_a : (d : ℕ) → Lacks d ys → a ≢ d → next_from whole (ys ++ a ∷ (us ++ b ∷ zs)) d ≡ next_from whole (us ++ b ∷ zs) d
+    past_a : (d : ℕ) → Lacks d ys → a ≢ d → next_from whole (ys ++ a ∷ (us ++ b ∷ zs)) d
+        ≡ next_from whole (us ++ b ∷ zs) d
     past_a d l ne = next_from-append_right whole d ys (a ∷ (us ++ b ∷ zs)) l ∙ next_from_other whole d a (us ++ b ∷ zs) ne
 
     behind : (d : ℕ) → d ≢ a → Has d zs → follow (ys ++ a ∷ (us ++ b ∷ zs)) d ≡ follow (ys ++ a ∷ zs) d
@@ -203,7 +215,8 @@ follow-merge a b ys zs us dis = record {
         ∙ sym (next_from-append_right old d ys (a ∷ zs) before ∙ next_from_other old d a zs (λ e. ne (sym e)))
 
 -- an item put in directly behind another
-pub follow-insert : (a b : ℕ) (ys zs : List ℕ) → Distinct (ys ++ a ∷ b ∷ zs) → MergesAt (ys ++ a ∷ zs) (b ∷ []) (ys ++ a ∷ b ∷ zs) a b
+pub follow-insert : (a b : ℕ) (ys zs : List ℕ) → Distinct (ys ++ a ∷ b ∷ zs)
+    → MergesAt (ys ++ a ∷ zs) (b ∷ []) (ys ++ a ∷ b ∷ zs) a b
 follow-insert a b ys zs dis = follow-merge a b ys zs [] dis
 
 -- the first place of d is behind a part that lacks it
@@ -218,7 +231,8 @@ head_place [] = refl
 head_place (x ∷ xs) = refl
 
 -- behind an item between two parts stands what the place behind it holds
-behind_place : (d : ℕ) (ys zs : List ℕ) → head_or (head_or 0 (ys ++ d ∷ zs)) zs ≡ slice_index (ys ++ d ∷ zs) (cond (eqb (length ys + 1) (length (ys ++ d ∷ zs))) 0 (length ys + 1))
+behind_place : (d : ℕ) (ys zs : List ℕ) → head_or (head_or 0 (ys ++ d ∷ zs)) zs ≡ slice_index (ys ++ d ∷ zs)
+    (cond (eqb (length ys + 1) (length (ys ++ d ∷ zs))) 0 (length ys + 1))
 behind_place d ys [] =
     let last : length ys + 1 ≡ length (ys ++ d ∷ []) = omega (arith, length-append ys (d ∷ [])) in
     head_place (ys ++ d ∷ []) ∙ ap (slice_index (ys ++ d ∷ [])) (sym (cond-true (eqb (length ys + 1) (length (ys ++ d ∷ []))) 0 (length ys + 1) (eq-eqb (length ys + 1) (length (ys ++ d ∷ [])) last)))
@@ -231,7 +245,10 @@ behind_place d ys (z ∷ zs) =
     )
 
 -- the item behind d stands at the next place, or at the first if d is the last
-pub follow-places : (d : ℕ) (xs : List ℕ) → Has d xs → follow xs d ≡ slice_index xs (cond (eqb (position_or_len (λ x. eqb x d) xs + 1) (length xs)) 0 (position_or_len (λ x. eqb x d) xs + 1))
+pub follow-places : (d : ℕ) (xs : List ℕ) → Has d xs
+    → follow xs d
+    ≡ slice_index xs (cond (eqb (position_or_len (λ x. eqb x d) xs + 1) (length xs)) 0
+    (position_or_len (λ x. eqb x d) xs + 1))
 follow-places d xs h =
     let s : (ys : List ℕ) × (zs : List ℕ) × (xs ≡ ys ++ d ∷ zs) × Lacks d ys = Has-split d xs h in
     subst (λ (ws : List ℕ). follow ws d ≡ slice_index ws (cond (eqb (place ws d + 1) (length ws)) 0 (place ws d + 1))) (sym s.2)

@@ -74,7 +74,8 @@ pub Distinct-apart_right : (d : ℕ) (xs ys : List ℕ) → Distinct (xs ++ ys) 
 Distinct-apart_right d xs ys dis h = Lacks-from d xs (λ k. has_lacks d ys h (Distinct-apart d xs ys dis k))
 
 -- distinct parts without a common item are distinct together
-pub Distinct-append : (xs ys : List ℕ) → Distinct xs → Distinct ys → ((d : ℕ) → Has d xs → Lacks d ys) → Distinct (xs ++ ys)
+pub Distinct-append : (xs ys : List ℕ) → Distinct xs → Distinct ys → ((d : ℕ) → Has d xs → Lacks d ys)
+    → Distinct (xs ++ ys)
 Distinct-append [] ys dx dy apart = dy
 Distinct-append (x ∷ xs) ys dx dy apart = (Lacks-append x xs ys dx.0 (apart x (inl refl)), Distinct-append xs ys dx.1 dy (λ d h. apart d (inr h)))
 
@@ -227,7 +228,8 @@ Distinct-once (x ∷ xs) d (suc i) zero li lj e = absurd (has_lacks x xs (subst 
 Distinct-once (x ∷ xs) d (suc i) (suc j) li lj e = ap suc (Distinct-once xs d.1 i j (omega arith) (omega arith) e)
 
 -- distinct items that are the numbers that pass make an exact list
-pub Exactly-from : (n : ℕ) (p : ℕ → Bool) (xs : List ℕ) → Distinct xs → ((x : ℕ) → Has x xs → (x < n) × (p x ≡ true)) → ((x : ℕ) → x < n → p x ≡ true → Has x xs) → Exactly n p xs
+pub Exactly-from : (n : ℕ) (p : ℕ → Bool) (xs : List ℕ) → Distinct xs → ((x : ℕ) → Has x xs → (x < n) × (p x ≡ true))
+    → ((x : ℕ) → x < n → p x ≡ true → Has x xs) → Exactly n p xs
 Exactly-from n p xs d passes all = record {
   each_passes = λ i lt. passes (slice_index xs i) (Has_at xs i lt);
   each_once = Distinct-once xs d;

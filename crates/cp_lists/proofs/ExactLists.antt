@@ -21,12 +21,16 @@ pub place_of : (xs : List ℕ) (x : ℕ) → Contains xs x → (i : ℕ) × (i <
 place_of xs x c = (c.0, c.1, get_or_default xs c.0 0 x c.1 ∙ c.2)
 
 -- a list of distinct numbers that pass has at most as many items as numbers pass
-pub distinct-le : (n : ℕ) (p : ℕ → Bool) (xs : List ℕ) → ((i : ℕ) → i < length xs → (slice_index xs i < n) × (p (slice_index xs i) ≡ true)) → EachOnce xs → length xs ≤ count n p
+pub distinct-le : (n : ℕ) (p : ℕ → Bool) (xs : List ℕ)
+    → ((i : ℕ) → i < length xs → (slice_index xs i < n) × (p (slice_index xs i) ≡ true)) → EachOnce xs
+    → length xs ≤ count n p
 distinct-le n p xs passes once =
     omega (arith, count_all (length xs) (λ i. true) (λ i lt. refl), count_inject (length xs) n (λ i. true) p (slice_index xs) (λ i lt t. passes i lt) (λ i j lti ltj t u e. once i j lti ltj e))
 
 -- distinct numbers that pass, as many as numbers pass, are all of them
-pub Exactly-full : (n : ℕ) (p : ℕ → Bool) (xs : List ℕ) → ((i : ℕ) → i < length xs → (slice_index xs i < n) × (p (slice_index xs i) ≡ true)) → EachOnce xs → count n p ≤ length xs → Exactly n p xs
+pub Exactly-full : (n : ℕ) (p : ℕ → Bool) (xs : List ℕ)
+    → ((i : ℕ) → i < length xs → (slice_index xs i < n) × (p (slice_index xs i) ≡ true)) → EachOnce xs
+    → count n p ≤ length xs → Exactly n p xs
 Exactly-full n p xs passes once enough = record {
   each_passes = passes;
   each_once = once;
@@ -72,7 +76,8 @@ Exactly-length n p xs ex =
     omega (arith, count_all (length xs) (λ i. true) (λ i lt. refl))
 
 -- an exact list is exact for each test that agrees below n
-pub Exactly-agree : (n : ℕ) (p q : ℕ → Bool) (xs : List ℕ) → ((x : ℕ) → x < n → p x ≡ q x) → Exactly n p xs → Exactly n q xs
+pub Exactly-agree : (n : ℕ) (p q : ℕ → Bool) (xs : List ℕ) → ((x : ℕ) → x < n → p x ≡ q x) → Exactly n p xs
+    → Exactly n q xs
 Exactly-agree n p q xs same ex = record {
   each_passes = λ i lt. let h : (slice_index xs i < n) × (p (slice_index xs i) ≡ true) = ex.each_passes i lt in (h.0, sym (same (slice_index xs i) h.0) ∙ h.1);
   each_once = ex.each_once;
@@ -80,13 +85,16 @@ Exactly-agree n p q xs same ex = record {
 }
 
 -- what an exact list contains passes
-pub Exactly-contains : (n : ℕ) (p : ℕ → Bool) (xs : List ℕ) (x : ℕ) → Exactly n p xs → Contains xs x → (x < n) × (p x ≡ true)
+pub Exactly-contains : (n : ℕ) (p : ℕ → Bool) (xs : List ℕ) (x : ℕ) → Exactly n p xs → Contains xs x
+    → (x < n) × (p x ≡ true)
 Exactly-contains n p xs x ex c =
     let h : (i : ℕ) × (i < length xs) × (slice_index xs i ≡ x) = place_of xs x c in
     subst (λ y. (y < n) × (p y ≡ true)) h.2 (ex.each_passes h.0 h.1)
 
 -- where item i of the turned list stood before
-turned_place : (ps qs : List ℕ) (i : ℕ) → i < length (qs ++ ps) → (j : ℕ) × (j < length (ps ++ qs)) × (slice_index (qs ++ ps) i ≡ slice_index (ps ++ qs) j) × (((i < length qs) × (j ≡ length ps + i)) ⊎ ((length qs ≤ i) × (j < length ps) × (j + length qs ≡ i)))
+turned_place : (ps qs : List ℕ) (i : ℕ) → i < length (qs ++ ps)
+    → (j : ℕ) × (j < length (ps ++ qs)) × (slice_index (qs ++ ps) i ≡ slice_index (ps ++ qs) j)
+    × (((i < length qs) × (j ≡ length ps + i)) ⊎ ((length qs ≤ i) × (j < length ps) × (j + length qs ≡ i)))
 turned_place ps qs i lt =
     ⊎_elim
     (λ l. (length ps + i, omega (arith, length-append ps qs), get_or_append_left qs ps 0 i l ∙ sym (get_or-append_right ps qs (length ps) (length ps + i) 0 refl (omega arith) ∙ ap (slice_index qs) (omega arith)), inl (l, refl)))
@@ -120,7 +128,8 @@ pub record SoFar (n : ℕ) (p : ℕ → Bool) (xs : List ℕ) (i : ℕ) (before 
   pub size : length seen ≡ length before
 
 -- at the start nothing that passes is marked
-pub SoFar-none : (n : ℕ) (p : ℕ → Bool) (xs : List ℕ) (before : List Bool) → ((x : ℕ) → p x ≡ true → get_or before x false ≡ false) → SoFar n p xs 0 before before
+pub SoFar-none : (n : ℕ) (p : ℕ → Bool) (xs : List ℕ) (before : List Bool)
+    → ((x : ℕ) → p x ≡ true → get_or before x false ≡ false) → SoFar n p xs 0 before before
 SoFar-none n p xs before clear = record {
   passes = λ k lt. absurd (omega arith);
   once = λ j k lt. absurd (omega arith);
@@ -131,7 +140,9 @@ SoFar-none n p xs before clear = record {
 }
 
 -- the next item, if it passes and is not marked, is marked
-pub SoFar-more : (n : ℕ) (p : ℕ → Bool) (xs : List ℕ) (i : ℕ) (before seen : List Bool) (d : ℕ) → SoFar n p xs i before seen → slice_index xs i ≡ d → d < n → p d ≡ true → d < length seen → get_or seen d false ≡ false → SoFar n p xs (i + 1) before (set seen d true)
+pub SoFar-more : (n : ℕ) (p : ℕ → Bool) (xs : List ℕ) (i : ℕ) (before seen : List Bool) (d : ℕ)
+    → SoFar n p xs i before seen → slice_index xs i ≡ d → d < n → p d ≡ true → d < length seen
+    → get_or seen d false ≡ false → SoFar n p xs (i + 1) before (set seen d true)
 SoFar-more n p xs i before seen d so item lt pd within new = record {
   passes = λ k l. ⊎_elim (λ e. subst (λ y. (y < n) × (p y ≡ true)) (sym (ap (slice_index xs) e ∙ item)) (lt, pd)) (λ ne. so.passes k (omega arith)) (cases_eq k i);
   once = λ j k lj lk e.
@@ -157,19 +168,23 @@ SoFar-more n p xs i before seen d so item lt pd within new = record {
     differs k l e = false≢true (sym new ∙ ap (λ y. get_or seen y false) (sym e) ∙ so.marked k l)
 
 -- at the end, a list as long as numbers pass is exact
-pub SoFar-all : (n : ℕ) (p : ℕ → Bool) (xs : List ℕ) (before seen : List Bool) → SoFar n p xs (length xs) before seen → count n p ≤ length xs → Exactly n p xs
+pub SoFar-all : (n : ℕ) (p : ℕ → Bool) (xs : List ℕ) (before seen : List Bool) → SoFar n p xs (length xs) before seen
+    → count n p ≤ length xs → Exactly n p xs
 SoFar-all n p xs before seen so enough = Exactly-full n p xs so.passes so.once enough
 
 -- a list with an item that is not below n is not exact
-pub stopped_outside : (n : ℕ) (p : ℕ → Bool) (xs : List ℕ) (i : ℕ) → i < length xs → n ≤ slice_index xs i → Exactly n p xs → ⊥
+pub stopped_outside : (n : ℕ) (p : ℕ → Bool) (xs : List ℕ) (i : ℕ) → i < length xs → n ≤ slice_index xs i
+    → Exactly n p xs → ⊥
 stopped_outside n p xs i lt out ex = omega (arith, (ex.each_passes i lt).0)
 
 -- a list with an item that fails the test is not exact
-pub stopped_failing : (n : ℕ) (p : ℕ → Bool) (xs : List ℕ) (i : ℕ) → i < length xs → p (slice_index xs i) ≡ false → Exactly n p xs → ⊥
+pub stopped_failing : (n : ℕ) (p : ℕ → Bool) (xs : List ℕ) (i : ℕ) → i < length xs → p (slice_index xs i) ≡ false
+    → Exactly n p xs → ⊥
 stopped_failing n p xs i lt fails ex = false≢true (sym fails ∙ (ex.each_passes i lt).1)
 
 -- a list with an item that is marked already is not exact
-pub stopped_twice : (n : ℕ) (p : ℕ → Bool) (xs : List ℕ) (i : ℕ) (before seen : List Bool) → SoFar n p xs i before seen → i < length xs → get_or seen (slice_index xs i) false ≡ true → Exactly n p xs → ⊥
+pub stopped_twice : (n : ℕ) (p : ℕ → Bool) (xs : List ℕ) (i : ℕ) (before seen : List Bool) → SoFar n p xs i before seen
+    → i < length xs → get_or seen (slice_index xs i) false ≡ true → Exactly n p xs → ⊥
 stopped_twice n p xs i before seen so lt old ex =
     let h : (k : ℕ) × (k < i) × (slice_index xs k ≡ slice_index xs i) = so.met (slice_index xs i) (ex.each_passes i lt).1 old in
     let same : h.0 ≡ i = ex.each_once h.0 i (omega (arith, h.1)) lt h.2 in
@@ -186,7 +201,8 @@ pub record Cleared (p : ℕ → Bool) (xs : List ℕ) (m i : ℕ) (before seen :
   pub size : length seen ≡ length before
 
 -- at the start the marked numbers that pass are the items
-pub Cleared-none : (n : ℕ) (p : ℕ → Bool) (xs : List ℕ) (m : ℕ) (before seen : List Bool) → SoFar n p xs m before seen → Cleared p xs m 0 before seen
+pub Cleared-none : (n : ℕ) (p : ℕ → Bool) (xs : List ℕ) (m : ℕ) (before seen : List Bool) → SoFar n p xs m before seen
+    → Cleared p xs m 0 before seen
 Cleared-none n p xs m before seen so = record {
   left = λ x px t. let h : (k : ℕ) × (k < m) × (slice_index xs k ≡ x) = so.met x px t in (h.0, omega arith, h.1, h.2);
   others = so.others;
@@ -194,7 +210,9 @@ Cleared-none n p xs m before seen so = record {
 }
 
 -- the mark of the next item is taken away
-pub Cleared-more : (p : ℕ → Bool) (xs : List ℕ) (m i : ℕ) (before seen : List Bool) (d : ℕ) → Cleared p xs m i before seen → slice_index xs i ≡ d → p d ≡ true → d < length seen → Cleared p xs m (i + 1) before (set seen d false)
+pub Cleared-more : (p : ℕ → Bool) (xs : List ℕ) (m i : ℕ) (before seen : List Bool) (d : ℕ)
+    → Cleared p xs m i before seen → slice_index xs i ≡ d → p d ≡ true → d < length seen
+    → Cleared p xs m (i + 1) before (set seen d false)
 Cleared-more p xs m i before seen d so item pd within = record {
   left = λ x px t.
       ⊎_elim
@@ -209,9 +227,11 @@ Cleared-more p xs m i before seen d so item pd within = record {
 }
 
 -- at the end nothing that passes is marked
-pub Cleared-all : (p : ℕ → Bool) (xs : List ℕ) (m : ℕ) (before seen : List Bool) → Cleared p xs m m before seen → (x : ℕ) → p x ≡ true → get_or seen x false ≡ false
+pub Cleared-all : (p : ℕ → Bool) (xs : List ℕ) (m : ℕ) (before seen : List Bool) → Cleared p xs m m before seen
+    → (x : ℕ) → p x ≡ true → get_or seen x false ≡ false
 Cleared-all p xs m before seen so x px = false_from_ne_true (get_or seen x false) (λ t. let h : (k : ℕ) × (m ≤ k) × (k < m) × (slice_index xs k ≡ x) = so.left x px t in omega (arith, h.1, h.2))
 
 -- where nothing that passes was marked before, the marks are as before
-pub Cleared-restored : (p : ℕ → Bool) (xs : List ℕ) (m : ℕ) (before seen : List Bool) → Cleared p xs m m before seen → ((x : ℕ) → p x ≡ true → get_or before x false ≡ false) → seen ≡ before
+pub Cleared-restored : (p : ℕ → Bool) (xs : List ℕ) (m : ℕ) (before seen : List Bool) → Cleared p xs m m before seen
+    → ((x : ℕ) → p x ≡ true → get_or before x false ≡ false) → seen ≡ before
 Cleared-restored p xs m before seen so clear = ext_get_or false seen before so.size (λ x lt. ⊎_elim (λ px. Cleared-all p xs m before seen so x px ∙ sym (clear x px)) (λ px. so.others x px) (cases_Bool (p x)))

@@ -48,12 +48,14 @@ labels-le [] x = omega arith
 labels-le (e ∷ es) x = omega (arith, merge-le (labels es e.0) (labels es e.1) (labels es x), labels-le es x)
 
 -- what is respected is respected after a function more
-pub Respects-map : {A B : Type 0} (h : A → B) (g : ℕ → A) (es : List (ℕ × ℕ)) → Respects g es → Respects (λ x. h (g x)) es
+pub Respects-map : {A B : Type 0} (h : A → B) (g : ℕ → A) (es : List (ℕ × ℕ)) → Respects g es
+    → Respects (λ x. h (g x)) es
 Respects-map h g [] r = tt
 Respects-map h g (e ∷ es) r = (ap h r.0, Respects-map h g es r.1)
 
 -- a function that equals one that respects the pairs respects them
-pub Respects-same : {A : Type 0} (g h : ℕ → A) (es : List (ℕ × ℕ)) → ((x : ℕ) → g x ≡ h x) → Respects g es → Respects h es
+pub Respects-same : {A : Type 0} (g h : ℕ → A) (es : List (ℕ × ℕ)) → ((x : ℕ) → g x ≡ h x) → Respects g es
+    → Respects h es
 Respects-same g h [] same r = tt
 Respects-same g h (e ∷ es) same r = (sym (same e.0) ∙ r.0 ∙ same e.1, Respects-same g h es same r.1)
 
@@ -66,17 +68,20 @@ pub Contains-tail : {X : Type 0} (e f : X) (es : List X) → Contains es f → C
 Contains-tail e f es c = (suc c.0, omega (arith, c.1), c.2)
 
 -- what is respected has one value at the two ends of the pair at a place
-respects_place : {A : Type 0} (g : ℕ → A) (e : ℕ × ℕ) (es : List (ℕ × ℕ)) → Respects g es → (k : ℕ) → k < length es → get_or es k e ≡ e → g e.0 ≡ g e.1
+respects_place : {A : Type 0} (g : ℕ → A) (e : ℕ × ℕ) (es : List (ℕ × ℕ)) → Respects g es → (k : ℕ) → k < length es
+    → get_or es k e ≡ e → g e.0 ≡ g e.1
 respects_place g e [] r k lt f = absurd (omega arith)
 respects_place g e (d ∷ es) r zero lt f = ap (λ (y : ℕ × ℕ). g y.0) (sym f) ∙ r.0 ∙ ap (λ (y : ℕ × ℕ). g y.1) f
 respects_place g e (d ∷ es) r (suc k) lt f = respects_place g e es r.1 k (omega arith) f
 
 -- what is respected has one value at the two ends of each pair
-pub Respects_at : {A : Type 0} (g : ℕ → A) (es : List (ℕ × ℕ)) (e : ℕ × ℕ) → Respects g es → Contains es e → g e.0 ≡ g e.1
+pub Respects_at : {A : Type 0} (g : ℕ → A) (es : List (ℕ × ℕ)) (e : ℕ × ℕ) → Respects g es → Contains es e
+    → g e.0 ≡ g e.1
 Respects_at g es e r c = respects_place g e es r c.0 c.1 c.2
 
 -- a function is respected if it has one value at the two ends of each pair
-pub Respects-from : {A : Type 0} (g : ℕ → A) (es : List (ℕ × ℕ)) → ((e : ℕ × ℕ) → Contains es e → g e.0 ≡ g e.1) → Respects g es
+pub Respects-from : {A : Type 0} (g : ℕ → A) (es : List (ℕ × ℕ)) → ((e : ℕ × ℕ) → Contains es e → g e.0 ≡ g e.1)
+    → Respects g es
 Respects-from g [] same = tt
 Respects-from g (e ∷ es) same = (same e (Contains-head e es), Respects-from g es (λ f c. same f (Contains-tail e f es c)))
 
@@ -95,7 +100,8 @@ pub labels-labels : (es : List (ℕ × ℕ)) (x : ℕ) → labels es (labels es 
 labels-labels es x = labels-keeps (labels es) es (labels-respects es) x
 
 -- what is respected is the same where the labels are
-pub same_labels : {A : Type 0} (g : ℕ → A) (es : List (ℕ × ℕ)) (x y : ℕ) → Respects g es → labels es x ≡ labels es y → g x ≡ g y
+pub same_labels : {A : Type 0} (g : ℕ → A) (es : List (ℕ × ℕ)) (x y : ℕ) → Respects g es → labels es x ≡ labels es y
+    → g x ≡ g y
 same_labels g es x y r e = sym (labels-keeps g es r x) ∙ ap g e ∙ labels-keeps g es r y
 
 -- the two ends of the first pair have one label
@@ -108,23 +114,28 @@ classes_coarser n es fs r = count_weaker n (λ x. eqb (labels fs x) x) (λ x. eq
     (λ x lt t. let e : labels fs x ≡ x = eqb-true (labels fs x) x t in eq-eqb (labels es x) x (omega (arith, labels-keeps (labels fs) es r x, labels-le fs (labels es x), labels-le es x)))
 
 -- pairs that respect each other's labels have as many classes
-pub classes_equal : (n : ℕ) (es fs : List (ℕ × ℕ)) → Respects (labels fs) es → Respects (labels es) fs → classes n es ≡ classes n fs
+pub classes_equal : (n : ℕ) (es fs : List (ℕ × ℕ)) → Respects (labels fs) es → Respects (labels es) fs
+    → classes n es ≡ classes n fs
 classes_equal n es fs r s = omega (arith, classes_coarser n es fs r, classes_coarser n fs es s)
 
 -- pairs that respect each other's labels have the same labels
-pub equal_labels : (es fs : List (ℕ × ℕ)) → Respects (labels fs) es → Respects (labels es) fs → (x : ℕ) → labels es x ≡ labels fs x
+pub equal_labels : (es fs : List (ℕ × ℕ)) → Respects (labels fs) es → Respects (labels es) fs → (x : ℕ)
+    → labels es x ≡ labels fs x
 equal_labels es fs r s x = omega (arith, labels-keeps (labels fs) es r x, labels-keeps (labels es) fs s x, labels-le fs (labels es x), labels-le es (labels fs x))
 
 -- a pair within a class changes no label
-pub labels_same : (e : ℕ × ℕ) (es : List (ℕ × ℕ)) (x : ℕ) → labels es e.0 ≡ labels es e.1 → labels (e ∷ es) x ≡ labels es x
+pub labels_same : (e : ℕ × ℕ) (es : List (ℕ × ℕ)) (x : ℕ) → labels es e.0 ≡ labels es e.1
+    → labels (e ∷ es) x ≡ labels es x
 labels_same e es x f = merge_same (labels es e.0) (labels es e.1) (labels es x) f
 
 -- a pair within a class changes no count
-pub classes_same : (n : ℕ) (e : ℕ × ℕ) (es : List (ℕ × ℕ)) → labels es e.0 ≡ labels es e.1 → classes n (e ∷ es) ≡ classes n es
+pub classes_same : (n : ℕ) (e : ℕ × ℕ) (es : List (ℕ × ℕ)) → labels es e.0 ≡ labels es e.1
+    → classes n (e ∷ es) ≡ classes n es
 classes_same n e es f = count_agree n (λ x. eqb (labels (e ∷ es) x) x) (λ x. eqb (labels es x) x) (λ x lt. ap (λ y. eqb y x) (labels_same e es x f))
 
 -- a pair between two classes makes them one
-pub classes_joined : (n : ℕ) (e : ℕ × ℕ) (es : List (ℕ × ℕ)) → e.0 < n → e.1 < n → labels es e.0 ≢ labels es e.1 → classes n es ≡ suc (classes n (e ∷ es))
+pub classes_joined : (n : ℕ) (e : ℕ × ℕ) (es : List (ℕ × ℕ)) → e.0 < n → e.1 < n → labels es e.0 ≢ labels es e.1
+    → classes n es ≡ suc (classes n (e ∷ es))
 classes_joined n e es lt0 lt1 ne =
     count_without n leads top (omega (arith, labels-le es e.0, labels-le es e.1)) (eq-eqb (labels es top) top leader) ∙ ap suc (count_agree n (without leads top) (λ x. eqb (labels (e ∷ es) x) x) same)
   where
@@ -157,7 +168,8 @@ classes_joined n e es lt0 lt1 ne =
         (cases_eq x top)
 
 -- an equivalence that relates the two numbers relates a number and what it is merged to
-merge_related : (R : ℕ → ℕ → Type 0) → ((x : ℕ) → R x x) → ((x y : ℕ) → R x y → R y x) → (a b y : ℕ) → R a b → R y (merge a b y)
+merge_related : (R : ℕ → ℕ → Type 0) → ((x : ℕ) → R x x) → ((x y : ℕ) → R x y → R y x) → (a b y : ℕ) → R a b
+    → R y (merge a b y)
 merge_related R same back a b y r =
     ⊎_elim
     (λ f. ⊎_elim
@@ -168,7 +180,9 @@ merge_related R same back a b y r =
     (cases_eq y (max a b))
 
 -- an equivalence that relates the ends of each pair relates a number and its label
-pub labels-related : (R : ℕ → ℕ → Type 0) → ((x : ℕ) → R x x) → ((x y : ℕ) → R x y → R y x) → ((x y z : ℕ) → R x y → R y z → R x z) → (es : List (ℕ × ℕ)) → ((e : ℕ × ℕ) → Contains es e → R e.0 e.1) → (x : ℕ) → R x (labels es x)
+pub labels-related : (R : ℕ → ℕ → Type 0) → ((x : ℕ) → R x x) → ((x y : ℕ) → R x y → R y x)
+    → ((x y z : ℕ) → R x y → R y z → R x z) → (es : List (ℕ × ℕ)) → ((e : ℕ × ℕ) → Contains es e → R e.0 e.1) → (x : ℕ)
+    → R x (labels es x)
 labels-related R same back chain [] ends x = same x
 labels-related R same back chain (e ∷ es) ends x =
     let rest = labels-related R same back chain es (λ f c. ends f (Contains-tail e f es c)) in
@@ -190,12 +204,14 @@ Connected-sym es x y here = here
 Connected-sym es x y (step {y = w} q e c j) = Connected-trans es y w x (step here e c (⊎_elim (λ h. inr h) (λ h. inl h) j)) (Connected-sym es x w q)
 
 -- what has one value at the ends of each pair has one value on each component
-pub Connected-keeps : {A : Type 0} (g : ℕ → A) (es : List (ℕ × ℕ)) (x y : ℕ) → Respects g es → Connected es x y → g x ≡ g y
+pub Connected-keeps : {A : Type 0} (g : ℕ → A) (es : List (ℕ × ℕ)) (x y : ℕ) → Respects g es → Connected es x y
+    → g x ≡ g y
 Connected-keeps g es x y r here = refl
 Connected-keeps g es x y r (step {y = w} q e c j) = Connected-keeps g es x w r q ∙ ⊎_elim (λ h. ap g (sym h.0) ∙ Respects_at g es e r c ∙ ap g h.1) (λ h. ap g (sym h.1) ∙ sym (Respects_at g es e r c) ∙ ap g h.0) j
 
 -- connection within some of the pairs is connection within all
-pub Connected-more : (es fs : List (ℕ × ℕ)) (x y : ℕ) → ((e : ℕ × ℕ) → Contains es e → Contains fs e) → Connected es x y → Connected fs x y
+pub Connected-more : (es fs : List (ℕ × ℕ)) (x y : ℕ) → ((e : ℕ × ℕ) → Contains es e → Contains fs e) → Connected es x y
+    → Connected fs x y
 Connected-more es fs x y more here = here
 Connected-more es fs x y more (step {y = w} q e c j) = step (Connected-more es fs x w more q) e (more e c) j
 
@@ -235,17 +251,21 @@ IsCount-classes n es = record {
 }
 
 -- classes that are mapped to different classes are not more
-pub classes_transport-le : (n m : ℕ) (es fs : List (ℕ × ℕ)) (h g : ℕ → ℕ) → ((x : ℕ) → x < n → h x < m) → Respects (λ y. labels es (g y)) fs → ((x : ℕ) → x < n → labels es (g (h x)) ≡ labels es x) → classes n es ≤ classes m fs
+pub classes_transport-le : (n m : ℕ) (es fs : List (ℕ × ℕ)) (h g : ℕ → ℕ) → ((x : ℕ) → x < n → h x < m)
+    → Respects (λ y. labels es (g y)) fs → ((x : ℕ) → x < n → labels es (g (h x)) ≡ labels es x)
+    → classes n es ≤ classes m fs
 classes_transport-le n m es fs h g into r back = count_inject n m (λ x. eqb (labels es x) x) (λ y. eqb (labels fs y) y) (λ x. labels fs (h x))
     (λ x lt t. (omega (arith, labels-le fs (h x), into x lt), eq-eqb (labels fs (labels fs (h x))) (labels fs (h x)) (labels-labels fs (h x))))
     (λ x y ltx lty tx ty e. sym (eqb-true (labels es x) x tx) ∙ sym (back x ltx) ∙ same_labels (λ z. labels es (g z)) fs (h x) (h y) r e ∙ back y lty ∙ eqb-true (labels es y) y ty)
 
 -- a set of numbers that each pair lies in or out of has with a number all that is connected to it
-pub Connected-closed : (p : ℕ → Bool) (es : List (ℕ × ℕ)) (x y : ℕ) → ((e : ℕ × ℕ) → Contains es e → p e.0 ≡ p e.1) → p x ≡ true → Connected es x y → p y ≡ true
+pub Connected-closed : (p : ℕ → Bool) (es : List (ℕ × ℕ)) (x y : ℕ) → ((e : ℕ × ℕ) → Contains es e → p e.0 ≡ p e.1)
+    → p x ≡ true → Connected es x y → p y ≡ true
 Connected-closed p es x y closed px c = sym (Connected-keeps p es x y (Respects-from p es closed) c) ∙ px
 
 -- the item at a place is the first, or the rest contains it
-contains_place : {X : Type 0} (e f : X) (es : List X) (k : ℕ) → k < length (e ∷ es) → get_or (e ∷ es) k f ≡ f → (e ≡ f) ⊎ Contains es f
+contains_place : {X : Type 0} (e f : X) (es : List X) (k : ℕ) → k < length (e ∷ es) → get_or (e ∷ es) k f ≡ f
+    → (e ≡ f) ⊎ Contains es f
 contains_place e f es zero lt h = inl h
 contains_place e f es (suc k) lt h = inr (k, omega arith, h)
 
@@ -292,6 +312,7 @@ over_walk e es x y (step {y = w} q f c j) =
     (Contains-cons_cases e f es c)
 
 -- with one pair more, numbers are connected that were, or over that pair
-pub Connected-cons : (e : ℕ × ℕ) (es : List (ℕ × ℕ)) (x y : ℕ) → Connected (e ∷ es) x y → Connected es x y ⊎ ((Connected es x e.0 × Connected es e.1 y) ⊎ (Connected es x e.1 × Connected es e.0 y))
+pub Connected-cons : (e : ℕ × ℕ) (es : List (ℕ × ℕ)) (x y : ℕ) → Connected (e ∷ es) x y
+    → Connected es x y ⊎ ((Connected es x e.0 × Connected es e.1 y) ⊎ (Connected es x e.1 × Connected es e.0 y))
 unfolding Over
 Connected-cons e es x y c = over_walk e es x y c

@@ -9,12 +9,15 @@ use Rattle.cp_orbits.proofs.ClassLabels.{Respects-same, labels-le, labels-keeps,
 use Rattle.cp_orbits.proofs.OrbitLaws.{iterate-after, iterate-add, iterate-below, returns_within, Reaches-within, labels_reached, reached_labels, label_step, Respects-graph, graph-respects, orbits_agree, exchange_right, exchange_other, exchange_case, exchange-exchange, exchange-below, Permutes-exchange, Permutes-undone}
 
 -- what has one value along each step of a run has it at both ends
-pub run_keeps : {A : Type 0} (g : ℕ → A) (f : ℕ → ℕ) (x k : ℕ) → ((i : ℕ) → i < k → g (iterate f i x) ≡ g (f (iterate f i x))) → g x ≡ g (iterate f k x)
+pub run_keeps : {A : Type 0} (g : ℕ → A) (f : ℕ → ℕ) (x k : ℕ)
+    → ((i : ℕ) → i < k → g (iterate f i x) ≡ g (f (iterate f i x))) → g x ≡ g (iterate f k x)
 run_keeps g f x zero along = refl
 run_keeps g f x (suc k) along = run_keeps g f x k (λ i lt. along i (omega arith)) ∙ along k (lt-suc_self k) ∙ ap g (sym (iterate-after f k x))
 
 -- an exchange of two numbers of different orbits brings them into one
-pub joined_labels : (n : ℕ) (f : ℕ → ℕ) (a b : ℕ) → Permutes n f → a < n → b < n → labels (graph f n) a ≢ labels (graph f n) b → labels (graph (λ x. f (exchange a b x)) n) a ≡ labels (graph (λ x. f (exchange a b x)) n) b
+pub joined_labels : (n : ℕ) (f : ℕ → ℕ) (a b : ℕ) → Permutes n f → a < n → b < n
+    → labels (graph f n) a ≢ labels (graph f n) b → labels (graph (λ x. f (exchange a b x)) n) a
+    ≡ labels (graph (λ x. f (exchange a b x)) n) b
 joined_labels n f a b perm lta ltb ne =
     ⊎_elim
     (λ found.
@@ -35,7 +38,9 @@ joined_labels n f a b perm lta ltb ne =
     apart i e = ne (labels_reached n f perm a b lta (suc i, e))
 
 -- the pairs of the permutation with a pair more have the classes of the permutation after the exchange
-joined_respects : (n : ℕ) (f : ℕ → ℕ) (a b : ℕ) → Permutes n f → a < n → b < n → labels (graph f n) a ≢ labels (graph f n) b → Respects (labels (graph (λ x. f (exchange a b x)) n)) ((a, b) ∷ graph f n) × Respects (labels ((a, b) ∷ graph f n)) (graph (λ x. f (exchange a b x)) n)
+joined_respects : (n : ℕ) (f : ℕ → ℕ) (a b : ℕ) → Permutes n f → a < n → b < n
+    → labels (graph f n) a ≢ labels (graph f n) b → Respects (labels (graph (λ x. f (exchange a b x)) n))
+    ((a, b) ∷ graph f n) × Respects (labels ((a, b) ∷ graph f n)) (graph (λ x. f (exchange a b x)) n)
 joined_respects n f a b perm lta ltb ne = (
   (
     joined_labels n f a b perm lta ltb ne,
@@ -57,11 +62,14 @@ joined_respects n f a b perm lta ltb ne = (
     swapped g e x = exchange_case (λ y. g y ≡ g x) a b x (λ h. sym e ∙ ap g (sym h)) (λ na h. e ∙ ap g (sym h)) (λ na nb. refl)
 
 -- after an exchange of two numbers of different orbits the labels are those of the pairs with one pair more
-pub joined-labels : (n : ℕ) (f : ℕ → ℕ) (a b : ℕ) → Permutes n f → a < n → b < n → labels (graph f n) a ≢ labels (graph f n) b → (x : ℕ) → labels (graph (λ y. f (exchange a b y)) n) x ≡ labels ((a, b) ∷ graph f n) x
+pub joined-labels : (n : ℕ) (f : ℕ → ℕ) (a b : ℕ) → Permutes n f → a < n → b < n
+    → labels (graph f n) a ≢ labels (graph f n) b → (x : ℕ)
+    → labels (graph (λ y. f (exchange a b y)) n) x ≡ labels ((a, b) ∷ graph f n) x
 joined-labels n f a b perm lta ltb ne x = let r = joined_respects n f a b perm lta ltb ne in equal_labels (graph (λ y. f (exchange a b y)) n) ((a, b) ∷ graph f n) r.1 r.0 x
 
 -- an exchange of two numbers of different orbits joins the orbits
-pub orbits_joined : (n : ℕ) (f : ℕ → ℕ) (a b : ℕ) → Permutes n f → a < n → b < n → labels (graph f n) a ≢ labels (graph f n) b → orbits n f ≡ suc (orbits n (λ x. f (exchange a b x)))
+pub orbits_joined : (n : ℕ) (f : ℕ → ℕ) (a b : ℕ) → Permutes n f → a < n → b < n
+    → labels (graph f n) a ≢ labels (graph f n) b → orbits n f ≡ suc (orbits n (λ x. f (exchange a b x)))
 orbits_joined n f a b perm lta ltb ne =
     let r = joined_respects n f a b perm lta ltb ne in
     classes_joined n (a, b) (graph f n) lta ltb ne ∙ ap suc (classes_equal n ((a, b) ∷ graph f n) (graph (λ x. f (exchange a b x)) n) r.0 r.1)
@@ -71,12 +79,14 @@ Arc : (ℕ → ℕ) → ℕ → ℕ → ℕ → Type 0
 Arc f a b k = (iterate f k (f a) ≡ b) × ((i : ℕ) → i < k → iterate f i (f a) ≡ b → ⊥) × ((i : ℕ) → i < k → iterate f i (f a) ≡ a → ⊥)
 
 -- where b is nowhere on the way from the image of a, it is not reached from a
-no_walk : (n : ℕ) (f : ℕ → ℕ) (a b : ℕ) → a ≢ b → ((k : ℕ) → k < n → iterate f k (f a) ≡ b → ⊥) → (k : ℕ) → k < n → iterate f k a ≡ b → ⊥
+no_walk : (n : ℕ) (f : ℕ → ℕ) (a b : ℕ) → a ≢ b → ((k : ℕ) → k < n → iterate f k (f a) ≡ b → ⊥) → (k : ℕ) → k < n
+    → iterate f k a ≡ b → ⊥
 no_walk n f a b ne none zero lt h = ne h
 no_walk n f a b ne none (suc k) lt h = none k (omega arith) h
 
 -- in one orbit there is a run from the image of a to b
-arc_found : (n : ℕ) (f : ℕ → ℕ) (a b : ℕ) → Permutes n f → a < n → b < n → a ≢ b → labels (graph f n) a ≡ labels (graph f n) b → (k : ℕ) × Arc f a b k
+arc_found : (n : ℕ) (f : ℕ → ℕ) (a b : ℕ) → Permutes n f → a < n → b < n → a ≢ b
+    → labels (graph f n) a ≡ labels (graph f n) b → (k : ℕ) × Arc f a b k
 unfolding Arc
 arc_found n f a b perm lta ltb ne e =
     ⊎_elim
@@ -96,7 +106,8 @@ arc_found n f a b perm lta ltb ne e =
     (first_below n (λ k. eqb (iterate f k (f a)) b))
 
 -- from b the exchanged permutation never leaves the run
-arc_closed : (f : ℕ → ℕ) (a b k : ℕ) → Arc f a b k → (j : ℕ) → (i : ℕ) × (i ≤ k) × (iterate (λ x. f (exchange a b x)) j b ≡ iterate f i (f a))
+arc_closed : (f : ℕ → ℕ) (a b k : ℕ) → Arc f a b k → (j : ℕ)
+    → (i : ℕ) × (i ≤ k) × (iterate (λ x. f (exchange a b x)) j b ≡ iterate f i (f a))
 unfolding Arc
 arc_closed f a b k arc zero = (k, omega arith, sym arc.0)
 arc_closed f a b k arc (suc j) =
@@ -110,7 +121,9 @@ arc_closed f a b k arc (suc j) =
     (cases_eq w.0 k)
 
 -- an exchange of two numbers of one orbit brings them into different orbits
-pub split_labels : (n : ℕ) (f : ℕ → ℕ) (a b : ℕ) → Permutes n f → a < n → b < n → a ≢ b → labels (graph f n) a ≡ labels (graph f n) b → labels (graph (λ x. f (exchange a b x)) n) a ≢ labels (graph (λ x. f (exchange a b x)) n) b
+pub split_labels : (n : ℕ) (f : ℕ → ℕ) (a b : ℕ) → Permutes n f → a < n → b < n → a ≢ b
+    → labels (graph f n) a ≡ labels (graph f n) b
+    → labels (graph (λ x. f (exchange a b x)) n) a ≢ labels (graph (λ x. f (exchange a b x)) n) b
 unfolding Arc
 split_labels n f a b perm lta ltb ne e same =
     let found : (k : ℕ) × Arc f a b k = arc_found n f a b perm lta ltb ne e in
@@ -123,7 +136,8 @@ split_labels n f a b perm lta ltb ne e same =
     (cases_eq w.0 found.0)
 
 -- an exchange of two numbers of one orbit splits the orbit
-pub orbits_split : (n : ℕ) (f : ℕ → ℕ) (a b : ℕ) → Permutes n f → a < n → b < n → a ≢ b → labels (graph f n) a ≡ labels (graph f n) b → orbits n (λ x. f (exchange a b x)) ≡ suc (orbits n f)
+pub orbits_split : (n : ℕ) (f : ℕ → ℕ) (a b : ℕ) → Permutes n f → a < n → b < n → a ≢ b
+    → labels (graph f n) a ≡ labels (graph f n) b → orbits n (λ x. f (exchange a b x)) ≡ suc (orbits n f)
 orbits_split n f a b perm lta ltb ne e =
     orbits_joined n (λ x. f (exchange a b x)) a b (Permutes-exchange n f a b perm lta ltb) lta ltb (split_labels n f a b perm lta ltb ne e) ∙ ap suc (orbits_agree (λ x. f (exchange a b (exchange a b x))) f n (λ x lt. ap f (exchange-exchange a b x)))
 
@@ -132,7 +146,8 @@ pub orbits_alike : (n : ℕ) (f : ℕ → ℕ) (a b : ℕ) → a ≡ b → orbit
 orbits_alike n f a b e = orbits_agree (λ x. f (exchange a b x)) f n (λ x lt. ap f (exchange_case (λ y. y ≡ x) a b x (λ h. sym e ∙ sym h) (λ na h. e ∙ sym h) (λ na nb. refl)))
 
 -- an exchange adds at most one orbit
-pub orbits_exchanged : (n : ℕ) (f : ℕ → ℕ) (a b : ℕ) → Permutes n f → a < n → b < n → orbits n (λ x. f (exchange a b x)) ≤ suc (orbits n f)
+pub orbits_exchanged : (n : ℕ) (f : ℕ → ℕ) (a b : ℕ) → Permutes n f → a < n → b < n
+    → orbits n (λ x. f (exchange a b x)) ≤ suc (orbits n f)
 orbits_exchanged n f a b perm lta ltb =
     ⊎_elim
     (λ e. omega (arith, orbits_alike n f a b e))
@@ -140,7 +155,8 @@ orbits_exchanged n f a b perm lta ltb =
     (cases_eq a b)
 
 -- an exchange takes away at most one orbit
-pub orbits_exchanged-ge : (n : ℕ) (f : ℕ → ℕ) (a b : ℕ) → Permutes n f → a < n → b < n → orbits n f ≤ suc (orbits n (λ x. f (exchange a b x)))
+pub orbits_exchanged-ge : (n : ℕ) (f : ℕ → ℕ) (a b : ℕ) → Permutes n f → a < n → b < n
+    → orbits n f ≤ suc (orbits n (λ x. f (exchange a b x)))
 orbits_exchanged-ge n f a b perm lta ltb =
     ⊎_elim
     (λ e. omega (arith, orbits_alike n f a b e))
@@ -180,7 +196,8 @@ Permutes-splice n f perm = record {
     last x lt e h = let same : x ≡ n = perm.apart x n (omega arith) (lt-suc_self n) (e ∙ sym h) in omega arith
 
 -- without the last number the others keep their labels
-pub splice-labels : (n : ℕ) (f : ℕ → ℕ) → Permutes (suc n) f → (x : ℕ) → x < n → labels (graph f (suc n)) x ≡ labels (graph (splice f n) n) x
+pub splice-labels : (n : ℕ) (f : ℕ → ℕ) → Permutes (suc n) f → (x : ℕ) → x < n
+    → labels (graph f (suc n)) x ≡ labels (graph (splice f n) n) x
 splice-labels n f perm x lt =
     let down : label (skip (whole x)) ≡ label (skip x) = labels-keeps (λ y. label (skip y)) (graph f (suc n)) respected x in
     let up : whole (label x) ≡ whole x = labels-keeps whole (graph (splice f n) n) kept x in
@@ -222,7 +239,8 @@ orbits-splice n f perm ne =
     ∙ count_agree n (λ x. eqb (labels (graph f (suc n)) x) x) (λ x. eqb (labels (graph (splice f n) n) x) x) (λ x lt. ap (λ (y : ℕ). eqb y x) (splice-labels n f perm x lt))
 
 -- a number that is alone in its orbit is an orbit
-pub orbits-splice_alone : (n : ℕ) (f : ℕ → ℕ) → Permutes (suc n) f → f n ≡ n → orbits (suc n) f ≡ suc (orbits n (splice f n))
+pub orbits-splice_alone : (n : ℕ) (f : ℕ → ℕ) → Permutes (suc n) f → f n ≡ n
+    → orbits (suc n) f ≡ suc (orbits n (splice f n))
 orbits-splice_alone n f perm e =
     count_yes n (λ x. eqb (labels (graph f (suc n)) x) x) (ap (λ (y : ℕ). eqb y n) (labels_same (n, f n) (graph f n) n (ap (labels (graph f n)) (sym e))) ∙ own)
     ∙ ap suc (count_agree n (λ x. eqb (labels (graph f (suc n)) x) x) (λ x. eqb (labels (graph (splice f n) n) x) x) (λ x lt. ap (λ (y : ℕ). eqb y x) (splice-labels n f perm x lt)))
@@ -234,7 +252,8 @@ orbits-splice_alone n f perm e =
     own = labels-keeps (λ y. eqb y n) (graph f n) (Respects-graph (λ y. eqb y n) f n (λ x lt. ne_eqb x n (λ h. omega arith) ∙ sym (ne_eqb (f x) n (elsewhere x lt)))) n ∙ eq-eqb n n refl
 
 -- a renumbering that carries the pairs' classes to those of other pairs does not give fewer
-pub classes_renumbered-le : (n : ℕ) (p q : ℕ → ℕ) (es fs : List (ℕ × ℕ)) → Renumbers n p q → Respects (λ x. labels es (q x)) fs → classes n es ≤ classes n fs
+pub classes_renumbered-le : (n : ℕ) (p q : ℕ → ℕ) (es fs : List (ℕ × ℕ)) → Renumbers n p q
+    → Respects (λ x. labels es (q x)) fs → classes n es ≤ classes n fs
 classes_renumbered-le n p q es fs ren r = classes_transport-le n n es fs p q ren.there r (λ x lt. ap (labels es) (ren.there_back x lt))
 
 -- the other way round a renumbering is one too
@@ -255,13 +274,15 @@ pub Renumbers-Permutes : (n : ℕ) (p q : ℕ → ℕ) → Renumbers n p q → P
 Renumbers-Permutes n p q ren = Permutes-undone n p q ren.there ren.there_back
 
 -- the renumbered permutation respects the orbits of the old one
-renumbered_respects : (n : ℕ) (p q f g : ℕ → ℕ) → Renumbers n p q → Permutes n f → ((x : ℕ) → x < n → g (p x) ≡ p (f x)) → Respects (λ x. labels (graph f n) (q x)) (graph g n)
+renumbered_respects : (n : ℕ) (p q f g : ℕ → ℕ) → Renumbers n p q → Permutes n f → ((x : ℕ) → x < n → g (p x) ≡ p (f x))
+    → Respects (λ x. labels (graph f n) (q x)) (graph g n)
 renumbered_respects n p q f g ren perm same = Respects-graph (λ x. labels (graph f n) (q x)) g n (λ y lt.
     let moved : q (g y) ≡ f (q y) = ap (λ (z : ℕ). q (g z)) (sym (ren.back_there y lt)) ∙ ap q (same (q y) (ren.back y lt)) ∙ ren.there_back (f (q y)) (perm.below (q y) (ren.back y lt)) in
     label_step f n (q y) (ren.back y lt) ∙ ap (labels (graph f n)) (sym moved))
 
 -- a renumbering keeps the number of orbits
-pub orbits_renumbered : (n : ℕ) (p q f g : ℕ → ℕ) → Renumbers n p q → Permutes n f → Permutes n g → ((x : ℕ) → x < n → g (p x) ≡ p (f x)) → orbits n f ≡ orbits n g
+pub orbits_renumbered : (n : ℕ) (p q f g : ℕ → ℕ) → Renumbers n p q → Permutes n f → Permutes n g
+    → ((x : ℕ) → x < n → g (p x) ≡ p (f x)) → orbits n f ≡ orbits n g
 orbits_renumbered n p q f g ren pf pg same = omega (
   arith,
   classes_renumbered-le n p q (graph f n) (graph g n) ren (renumbered_respects n p q f g ren pf same),
@@ -270,12 +291,14 @@ orbits_renumbered n p q f g ren pf pg same = omega (
 )
 
 -- a renumbering leads from steps to steps
-steps_renumbered : (n : ℕ) (p f g : ℕ → ℕ) → Permutes n f → ((x : ℕ) → x < n → g (p x) ≡ p (f x)) → (k x : ℕ) → x < n → iterate g k (p x) ≡ p (iterate f k x)
+steps_renumbered : (n : ℕ) (p f g : ℕ → ℕ) → Permutes n f → ((x : ℕ) → x < n → g (p x) ≡ p (f x)) → (k x : ℕ) → x < n
+    → iterate g k (p x) ≡ p (iterate f k x)
 steps_renumbered n p f g perm same zero x lt = refl
 steps_renumbered n p f g perm same (suc k) x lt = ap (iterate g k) (same x lt) ∙ steps_renumbered n p f g perm same k (f x) (perm.below x lt)
 
 -- a renumbering leads from walk to walk
-pub Reaches-renumbered : (n : ℕ) (p f g : ℕ → ℕ) → Permutes n f → ((x : ℕ) → x < n → g (p x) ≡ p (f x)) → (x y : ℕ) → x < n → Reaches f x y → Reaches g (p x) (p y)
+pub Reaches-renumbered : (n : ℕ) (p f g : ℕ → ℕ) → Permutes n f → ((x : ℕ) → x < n → g (p x) ≡ p (f x)) → (x y : ℕ)
+    → x < n → Reaches f x y → Reaches g (p x) (p y)
 Reaches-renumbered n p f g perm same x y lt r = (r.0, steps_renumbered n p f g perm same r.0 x lt ∙ ap p r.1)
 
 -- v takes the number u
@@ -295,17 +318,20 @@ pub joined-keeps : {A : Type 0} (g : ℕ → A) (u v x : ℕ) → g u ≡ g v �
 joined-keeps g u v x e = ⊎_elim (λ h. ap g (joined_at u v x h) ∙ e ∙ ap g (sym h)) (λ ne. ap g (joined_other u v x ne)) (cases_eq x v)
 
 -- to respect renamed pairs is to respect the pairs after the renaming
-pub Respects-rename : {A : Type 0} (g : ℕ → A) (h : ℕ → ℕ) (es : List (ℕ × ℕ)) → Respects (λ x. g (h x)) es → Respects g (rename h es)
+pub Respects-rename : {A : Type 0} (g : ℕ → A) (h : ℕ → ℕ) (es : List (ℕ × ℕ)) → Respects (λ x. g (h x)) es
+    → Respects g (rename h es)
 Respects-rename g h [] r = tt
 Respects-rename g h (e ∷ es) r = (r.0, Respects-rename g h es r.1)
 
 -- to respect the pairs after the renaming is to respect renamed pairs
-pub rename-respects : {A : Type 0} (g : ℕ → A) (h : ℕ → ℕ) (es : List (ℕ × ℕ)) → Respects g (rename h es) → Respects (λ x. g (h x)) es
+pub rename-respects : {A : Type 0} (g : ℕ → A) (h : ℕ → ℕ) (es : List (ℕ × ℕ)) → Respects g (rename h es)
+    → Respects (λ x. g (h x)) es
 rename-respects g h [] r = tt
 rename-respects g h (e ∷ es) r = (r.0, rename-respects g h es r.1)
 
 -- the last number merged with a lower one: as many classes as with the pair of the two
-pub classes-merged : (u v : ℕ) (es : List (ℕ × ℕ)) → u < v → classes v (rename (joined u v) es) ≡ classes (suc v) ((u, v) ∷ es)
+pub classes-merged : (u v : ℕ) (es : List (ℕ × ℕ)) → u < v
+    → classes v (rename (joined u v) es) ≡ classes (suc v) ((u, v) ∷ es)
 classes-merged u v es lt = omega (
   arith,
   classes_transport-le v (suc v) (rename (joined u v) es) ((u, v) ∷ es) (λ x. x) (joined u v) (λ x l. omega arith)

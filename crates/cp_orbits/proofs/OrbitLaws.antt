@@ -20,7 +20,8 @@ iterate-add f zero k x = let e : 0 + k ≡ k = omega arith in ap (λ (i : ℕ). 
 iterate-add f (suc j) k x = let e : suc j + k ≡ suc (j + k) = omega arith in ap (λ (i : ℕ). iterate f i x) e ∙ iterate-add f j k (f x)
 
 -- functions that agree below n, where the first stays, have the same iterates
-pub iterate-agree : (n : ℕ) (f g : ℕ → ℕ) → ((x : ℕ) → x < n → f x < n) → ((x : ℕ) → x < n → f x ≡ g x) → (k x : ℕ) → x < n → iterate f k x ≡ iterate g k x
+pub iterate-agree : (n : ℕ) (f g : ℕ → ℕ) → ((x : ℕ) → x < n → f x < n) → ((x : ℕ) → x < n → f x ≡ g x) → (k x : ℕ)
+    → x < n → iterate f k x ≡ iterate g k x
 iterate-agree n f g below same zero x lt = refl
 iterate-agree n f g below same (suc k) x lt = iterate-agree n f g below same k (f x) (below x lt) ∙ ap (iterate g k) (same x lt)
 
@@ -30,7 +31,8 @@ iterate-below n f perm zero x lt = lt
 iterate-below n f perm (suc k) x lt = iterate-below n f perm k (f x) (perm.below x lt)
 
 -- equal after k steps is equal before
-pub iterate-apart : (n : ℕ) (f : ℕ → ℕ) → Permutes n f → (k x y : ℕ) → x < n → y < n → iterate f k x ≡ iterate f k y → x ≡ y
+pub iterate-apart : (n : ℕ) (f : ℕ → ℕ) → Permutes n f → (k x y : ℕ) → x < n → y < n → iterate f k x ≡ iterate f k y
+    → x ≡ y
 iterate-apart n f perm zero x y ltx lty e = e
 iterate-apart n f perm (suc k) x y ltx lty e = perm.apart x y ltx lty (iterate-apart n f perm k (f x) (f y) (perm.below x ltx) (perm.below y lty) e)
 
@@ -81,7 +83,8 @@ pub Reaches-sym : (n : ℕ) (f : ℕ → ℕ) → Permutes n f → (x y : ℕ) �
 Reaches-sym n f perm x y lt r = subst (λ z. Reaches f z x) r.1 (iterate_reaches_back n f perm r.0 x lt)
 
 -- one step more from fewer than n steps is fewer than n steps
-within_step : (n : ℕ) (f : ℕ → ℕ) → Permutes n f → (x : ℕ) → x < n → (j : ℕ) → j < n → (i : ℕ) × (i < n) × (iterate f i x ≡ iterate f (suc j) x)
+within_step : (n : ℕ) (f : ℕ → ℕ) → Permutes n f → (x : ℕ) → x < n → (j : ℕ) → j < n
+    → (i : ℕ) × (i < n) × (iterate f i x ≡ iterate f (suc j) x)
 within_step n f perm x lt j ltj =
     ⊎_elim
     (λ l. (suc j, l, refl))
@@ -93,7 +96,8 @@ within_step n f perm x lt j ltj =
     (cases_lt (suc j) n)
 
 -- what is k steps on is fewer than n steps on
-within_steps : (n : ℕ) (f : ℕ → ℕ) → Permutes n f → (x : ℕ) → x < n → (k : ℕ) → (j : ℕ) × (j < n) × (iterate f j x ≡ iterate f k x)
+within_steps : (n : ℕ) (f : ℕ → ℕ) → Permutes n f → (x : ℕ) → x < n → (k : ℕ)
+    → (j : ℕ) × (j < n) × (iterate f j x ≡ iterate f k x)
 within_steps n f perm x lt zero = (0, omega arith, refl)
 within_steps n f perm x lt (suc k) =
     let w : (j : ℕ) × (j < n) × (iterate f j x ≡ iterate f k x) = within_steps n f perm x lt k in
@@ -101,11 +105,13 @@ within_steps n f perm x lt (suc k) =
     (more.0, more.1, more.2 ∙ iterate-after f w.0 x ∙ ap f w.2 ∙ sym (iterate-after f k x))
 
 -- what is reached is reached in fewer than n steps
-pub Reaches-within : (n : ℕ) (f : ℕ → ℕ) → Permutes n f → (x y : ℕ) → x < n → Reaches f x y → (k : ℕ) × (k < n) × (iterate f k x ≡ y)
+pub Reaches-within : (n : ℕ) (f : ℕ → ℕ) → Permutes n f → (x y : ℕ) → x < n → Reaches f x y
+    → (k : ℕ) × (k < n) × (iterate f k x ≡ y)
 Reaches-within n f perm x y lt r = let w = within_steps n f perm x lt r.0 in (w.0, w.1, w.2 ∙ r.1)
 
 -- a function that has one value at each number and its image respects the graph
-pub Respects-graph : {A : Type 0} (g : ℕ → A) (f : ℕ → ℕ) (n : ℕ) → ((x : ℕ) → x < n → g x ≡ g (f x)) → Respects g (graph f n)
+pub Respects-graph : {A : Type 0} (g : ℕ → A) (f : ℕ → ℕ) (n : ℕ) → ((x : ℕ) → x < n → g x ≡ g (f x))
+    → Respects g (graph f n)
 Respects-graph g f zero same = tt
 Respects-graph g f (suc n) same = (same n (lt-suc_self n), Respects-graph g f n (λ x lt. same x (omega arith)))
 
@@ -115,7 +121,8 @@ graph-respects g f zero x r lt = absurd (omega arith)
 graph-respects g f (suc n) x r lt = ⊎_elim (λ e. ap g e ∙ r.0 ∙ ap (λ (y : ℕ). g (f y)) (sym e)) (λ ne. graph-respects g f n x r.1 (omega arith)) (cases_eq x n)
 
 -- the pair at a place is a number below n and its image
-graph_place : (f : ℕ → ℕ) (n : ℕ) (e : ℕ × ℕ) (k : ℕ) → k < length (graph f n) → get_or (graph f n) k e ≡ e → (e.0 < n) × (f e.0 ≡ e.1)
+graph_place : (f : ℕ → ℕ) (n : ℕ) (e : ℕ × ℕ) (k : ℕ) → k < length (graph f n) → get_or (graph f n) k e ≡ e
+    → (e.0 < n) × (f e.0 ≡ e.1)
 graph_place f zero e k lt same = absurd (omega arith)
 graph_place f (suc n) e zero lt same = let at : n ≡ e.0 = ap (λ (y : ℕ × ℕ). y.0) same in (omega arith, ap f (sym at) ∙ ap (λ (y : ℕ × ℕ). y.1) same)
 graph_place f (suc n) e (suc k) lt same = let h : (e.0 < n) × (f e.0 ≡ e.1) = graph_place f n e k (omega arith) same in (omega (arith, h.0), h.1)
@@ -138,12 +145,14 @@ pub label_step : (f : ℕ → ℕ) (n x : ℕ) → x < n → labels (graph f n) 
 label_step f n x lt = graph-respects (labels (graph f n)) f n x (labels-respects (graph f n)) lt
 
 -- what has one value at each number and its image has it k steps on
-steps_keep : {A : Type 0} (g : ℕ → A) (n : ℕ) (f : ℕ → ℕ) → Permutes n f → ((x : ℕ) → x < n → g x ≡ g (f x)) → (k x : ℕ) → x < n → g x ≡ g (iterate f k x)
+steps_keep : {A : Type 0} (g : ℕ → A) (n : ℕ) (f : ℕ → ℕ) → Permutes n f → ((x : ℕ) → x < n → g x ≡ g (f x)) → (k x : ℕ)
+    → x < n → g x ≡ g (iterate f k x)
 steps_keep g n f perm same zero x lt = refl
 steps_keep g n f perm same (suc k) x lt = same x lt ∙ steps_keep g n f perm same k (f x) (perm.below x lt)
 
 -- what has one value at each number and its image has it along a walk
-pub Reaches-keeps : {A : Type 0} (g : ℕ → A) (n : ℕ) (f : ℕ → ℕ) → Permutes n f → ((x : ℕ) → x < n → g x ≡ g (f x)) → (x y : ℕ) → x < n → Reaches f x y → g x ≡ g y
+pub Reaches-keeps : {A : Type 0} (g : ℕ → A) (n : ℕ) (f : ℕ → ℕ) → Permutes n f → ((x : ℕ) → x < n → g x ≡ g (f x))
+    → (x y : ℕ) → x < n → Reaches f x y → g x ≡ g y
 Reaches-keeps g n f perm same x y lt r = steps_keep g n f perm same r.0 x lt ∙ ap g r.1
 
 -- equal, or below n and reached
@@ -180,15 +189,18 @@ pub label-reached : (n : ℕ) (f : ℕ → ℕ) → Permutes n f → (x : ℕ) �
 label-reached n f perm x lt = Reaches-sym n f perm x (labels (graph f n) x) lt (Reaches-label n f perm x lt)
 
 -- what is reached has the same label
-pub labels_reached : (n : ℕ) (f : ℕ → ℕ) → Permutes n f → (x y : ℕ) → x < n → Reaches f x y → labels (graph f n) x ≡ labels (graph f n) y
+pub labels_reached : (n : ℕ) (f : ℕ → ℕ) → Permutes n f → (x y : ℕ) → x < n → Reaches f x y
+    → labels (graph f n) x ≡ labels (graph f n) y
 labels_reached n f perm x y lt r = Reaches-keeps (labels (graph f n)) n f perm (label_step f n) x y lt r
 
 -- what has the same label is reached
-pub reached_labels : (n : ℕ) (f : ℕ → ℕ) → Permutes n f → (x y : ℕ) → x < n → y < n → labels (graph f n) x ≡ labels (graph f n) y → Reaches f x y
+pub reached_labels : (n : ℕ) (f : ℕ → ℕ) → Permutes n f → (x y : ℕ) → x < n → y < n
+    → labels (graph f n) x ≡ labels (graph f n) y → Reaches f x y
 reached_labels n f perm x y ltx lty e = Reaches-trans f x (labels (graph f n) x) y (Reaches-label n f perm x ltx) (subst (λ z. Reaches f z y) (sym e) (label-reached n f perm y lty))
 
 -- to reach is to have one label
-pub walk : (n : ℕ) (f : ℕ → ℕ) → Permutes n f → (x y : ℕ) → x < n → y < n → (labels (graph f n) x ≡ labels (graph f n) y) ↔ Reaches f x y
+pub walk : (n : ℕ) (f : ℕ → ℕ) → Permutes n f → (x y : ℕ) → x < n → y < n
+    → (labels (graph f n) x ≡ labels (graph f n) y) ↔ Reaches f x y
 walk n f perm x y ltx lty = (reached_labels n f perm x y ltx lty, labels_reached n f perm x y ltx)
 
 -- one number reaches another or does not
@@ -226,7 +238,8 @@ pub exchange_other : (a b x : ℕ) → (x ≡ a → ⊥) → (x ≡ b → ⊥) �
 exchange_other a b x na nb = rw (ne_eqb x a na, ne_eqb x b nb) refl
 
 -- what holds of b at a, of a at b, and elsewhere of the number itself holds of the exchange
-pub exchange_case : (P : ℕ → Type 0) (a b x : ℕ) → (x ≡ a → P b) → ((x ≡ a → ⊥) → x ≡ b → P a) → ((x ≡ a → ⊥) → (x ≡ b → ⊥) → P x) → P (exchange a b x)
+pub exchange_case : (P : ℕ → Type 0) (a b x : ℕ) → (x ≡ a → P b) → ((x ≡ a → ⊥) → x ≡ b → P a)
+    → ((x ≡ a → ⊥) → (x ≡ b → ⊥) → P x) → P (exchange a b x)
 exchange_case P a b x left right other =
     ⊎_elim
     (λ e. subst P (sym (exchange_left a b x e)) (left e))
@@ -261,7 +274,8 @@ Permutes-after n f g pf pg = record {
 }
 
 -- a permutation after an exchange is a permutation
-pub Permutes-exchange : (n : ℕ) (f : ℕ → ℕ) (a b : ℕ) → Permutes n f → a < n → b < n → Permutes n (λ x. f (exchange a b x))
+pub Permutes-exchange : (n : ℕ) (f : ℕ → ℕ) (a b : ℕ) → Permutes n f → a < n → b < n
+    → Permutes n (λ x. f (exchange a b x))
 Permutes-exchange n f a b perm lta ltb = Permutes-after n f (exchange a b) perm (exchange-Permutes n a b lta ltb)
 
 -- what agrees with a permutation below n is a permutation
@@ -276,7 +290,8 @@ pub Permutes-same : (n : ℕ) → Permutes n (λ x. x)
 Permutes-same n = record { below = λ x lt. lt; apart = λ x y ltx lty e. e }
 
 -- what another function undoes is a permutation
-pub Permutes-undone : (n : ℕ) (f g : ℕ → ℕ) → ((x : ℕ) → x < n → f x < n) → ((x : ℕ) → x < n → g (f x) ≡ x) → Permutes n f
+pub Permutes-undone : (n : ℕ) (f g : ℕ → ℕ) → ((x : ℕ) → x < n → f x < n) → ((x : ℕ) → x < n → g (f x) ≡ x)
+    → Permutes n f
 Permutes-undone n f g below undone = record { below = below; apart = λ x y ltx lty e. sym (undone x ltx) ∙ ap g e ∙ undone y lty }
 
 -- each number is the image of one

@@ -50,9 +50,11 @@ module _ (q p : ℕ → Bool) (v : ℕ) (ks : List Node) (fs : List Found) (z : 
     Q_never q p v ks (zip_sorted q p ks fs z ∙ a) (zip_sorted q p (reverse ks) (reverse fs) (zip_reverse q p ks fs z) ∙ b),
   )
 
-  line_or_torn : (b : Bool) (js : List Node) (gs : List Found) (front back : List Node) (ts : List (ℕ × Bool)) (t : Bool)
+  line_or_torn : (b : Bool) (js : List Node) (gs : List Found) (front back : List Node) (ts : List (ℕ × Bool))
+      (t : Bool)
       → AllZip (IsGiven q p) js gs → IsPermutation ks js
-      → IsLike (sorted q p) (λ may. (may v b ≡ true) × Grants may gs) (Q v ks ∷ []) (flat_line gs) → has_all q (Q v ks) ≡ false → has_all p (Q v ks) ≡ false
+      → IsLike (sorted q p) (λ may. (may v b ≡ true) × Grants may gs) (Q v ks ∷ []) (flat_line gs)
+      → has_all q (Q v ks) ≡ false → has_all p (Q v ks) ≡ false
       → reverse front ++ back ≡ flat_line gs → ts ≡ flat_ties (reverse gs) ++ (v, b) ∷ [] → t ≡ list_any is_torn gs
       → IsGiven q p (Q v ks) (cond t Found.Torn (Found.Line front back ts))
   line_or_torn b js gs front back ts true zz perm like nout nin e1 e2 e = (nout, nin, λ may xs r s. grants_torn may gs (sym e) ((like may xs).0 (r, s)).0.1)

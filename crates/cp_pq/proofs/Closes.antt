@@ -38,7 +38,9 @@ module _ (f g : Node → Bool) where
   sort_kinds (k ∷ ks) h = go (f k) (g k) (and_parts _ _ h).0 (sort_kinds ks (and_parts _ _ h).1)
     where
       go : (x y : Bool) → not (x && y) ≡ true → IsPermutation ks (filter f ks ++ (filter mixed_of ks ++ filter g ks))
-          → IsPermutation (k ∷ ks) (cond x (k ∷ filter f ks) (filter f ks) ++ (cond (not x && not y) (k ∷ filter mixed_of ks) (filter mixed_of ks) ++ cond y (k ∷ filter g ks) (filter g ks)))
+          → IsPermutation (k ∷ ks)
+          (cond x (k ∷ filter f ks) (filter f ks) ++ (cond (not x && not y) (k ∷ filter mixed_of ks)
+          (filter mixed_of ks) ++ cond y (k ∷ filter g ks) (filter g ks)))
       go true true c ih = absurd (false≢true c)
       go true false c ih = IsPermutation-cons k _ _ ih
       go false false c ih = IsPermutation-trans _ _ _ (IsPermutation-cons k _ _ ih) (IsPermutation-sym _ _ (IsPermutation-middle (filter f ks) k (filter mixed_of ks ++ filter g ks)))
@@ -173,7 +175,8 @@ module _ (q p : ℕ → Bool) (o : ℕ) (ks outs ins : List Node) (mixed : List 
 
   pub close_two : Opposite q p → mixed ≡ [] → (ins ≡ [] → ⊥) → (outs ≡ [] → ⊥)
       → (front back : List Node) (ties : List (ℕ × Bool)) → ties ≡ []
-      → reverse front ++ back ≡ group_of o outs ++ ([] ++ group_of o ins) → IsGiven q p (P o ks) (Found.Line front back ties)
+      → reverse front ++ back ≡ group_of o outs ++ ([] ++ group_of o ins)
+      → IsGiven q p (P o ks) (Found.Line front back ties)
   close_two opp m some_in some_out front back ties none e = (
     has_all_P q o ks ∙ false_unless _ (λ x. some_in (h.ins_are ∙ (none_second (has_all q) (has_all p) ks h.clear x).0)),
     has_all_P p o ks ∙ false_unless _ (λ x. some_out (h.outs_are ∙ (none_first (has_all q) (has_all p) ks h.clear x).0)),
@@ -183,7 +186,8 @@ module _ (q p : ℕ → Bool) (o : ℕ) (ks outs ins : List Node) (mixed : List 
 
   pub close_line : Opposite q p → (f b : List Node) (ties : List (ℕ × Bool)) → mixed ≡ Found.Line f b ties ∷ []
       → (front back : List Node)
-      → reverse front ++ back ≡ group_of o outs ++ ((reverse f ++ b) ++ group_of o ins) → IsGiven q p (P o ks) (Found.Line front back ties)
+      → reverse front ++ back ≡ group_of o outs ++ ((reverse f ++ b) ++ group_of o ins)
+      → IsGiven q p (P o ks) (Found.Line front back ties)
   close_line opp f b ties m front back e =
       let g = zip_one q p (filter (is_mixed q p) ks) (Found.Line f b ties) (subst (AllZip (IsGiven q p) (filter (is_mixed q p) ks)) m h.mixed_are) in
       let torn = torn_by (λ z. let x : g.0 ∷ [] ≡ [] = sym g.1 ∙ z in absurd cc) in (

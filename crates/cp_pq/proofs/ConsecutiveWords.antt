@@ -45,7 +45,8 @@ record Parted (set word : List ℕ) : Type 0 where
 
 -- a sorted word, from the inside out
 run_part : (set word : List ℕ) → sorted (inside set) (outside set) word ≡ true
-    → (run after : List ℕ) × (word ≡ run ++ after) × (list_all (inside set) run ≡ true) × (list_all (outside set) after ≡ true)
+    → (run after : List ℕ) × (word ≡ run ++ after) × (list_all (inside set) run ≡ true)
+    × (list_all (outside set) after ≡ true)
 run_part set [] s = ([], [], refl, refl, refl)
 run_part set (x ∷ word) s =
     ⊎_elim

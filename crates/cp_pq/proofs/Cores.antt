@@ -82,7 +82,8 @@ parted f [] = IsPermutation-refl []
 parted f (k ∷ ks) = go (f k) (parted f ks)
   where
     go : (b : Bool) → IsPermutation ks (filter f ks ++ filter (λ k. not (f k)) ks)
-        → IsPermutation (k ∷ ks) (cond b (k ∷ filter f ks) (filter f ks) ++ cond (not b) (k ∷ filter (λ k. not (f k)) ks) (filter (λ k. not (f k)) ks))
+        → IsPermutation (k ∷ ks) (cond b (k ∷ filter f ks) (filter f ks) ++ cond (not b)
+        (k ∷ filter (λ k. not (f k)) ks) (filter (λ k. not (f k)) ks))
     go true ih = IsPermutation-cons k _ _ ih
     go false ih = IsPermutation-trans _ _ _ (IsPermutation-cons k _ _ ih) (IsPermutation-sym _ _ (IsPermutation-middle (filter f ks) k (filter (λ k. not (f k)) ks)))
 
@@ -95,7 +96,9 @@ module _ (q p : ℕ → Bool) (opp : Opposite q p) where
     where
       go : (x y : Bool) → not (x && y) ≡ true
           → IsPermutation (filter (is_met q) ks) (filter (is_mixed q p) ks ++ filter (has_all p) ks)
-          → IsPermutation (cond (not x) (k ∷ filter (is_met q) ks) (filter (is_met q) ks)) (cond (not x && not y) (k ∷ filter (is_mixed q p) ks) (filter (is_mixed q p) ks) ++ cond y (k ∷ filter (has_all p) ks) (filter (has_all p) ks))
+          → IsPermutation (cond (not x) (k ∷ filter (is_met q) ks) (filter (is_met q) ks))
+          (cond (not x && not y) (k ∷ filter (is_mixed q p) ks)
+          (filter (is_mixed q p) ks) ++ cond y (k ∷ filter (has_all p) ks) (filter (has_all p) ks))
       go true true e ih = absurd (false≢true e)
       go true false e ih = ih
       go false true e ih = IsPermutation-trans _ _ _ (IsPermutation-cons k _ _ ih) (IsPermutation-sym _ _ (IsPermutation-middle (filter (is_mixed q p) ks) k (filter (has_all p) ks)))
@@ -110,7 +113,8 @@ module _ (q p : ℕ → Bool) (opp : Opposite q p) where
       go : (x y : Bool) → not (x && y) ≡ true
           → cond (not x && not y) (k ∷ filter (is_mixed q p) ks) (filter (is_mixed q p) ks) ≡ []
           → (filter (is_mixed q p) ks ≡ [] → filter (is_met q) ks ≡ filter (has_all p) ks)
-          → cond (not x) (k ∷ filter (is_met q) ks) (filter (is_met q) ks) ≡ cond y (k ∷ filter (has_all p) ks) (filter (has_all p) ks)
+          → cond (not x) (k ∷ filter (is_met q) ks) (filter (is_met q) ks) ≡ cond y (k ∷ filter (has_all p) ks)
+          (filter (has_all p) ks)
       go true true d f ih = absurd (false≢true d)
       go true false d f ih = ih f
       go false true d f ih = ap (λ z. k ∷ z) (ih f)
@@ -183,7 +187,8 @@ module _ (q p : ℕ → Bool) (opp : Opposite q p) (y o : ℕ) (ks outs ins : Li
       line : line_of f ++ (group_of o ins ++ reverse []) ≡ flat_line (f ∷ map Found.In (group_of o ins))
       line = ap (λ z. line_of f ++ z) (append-nil (group_of o ins) ∙ sym (flat_ins (group_of o ins)))
 
-      made : IsDone q p false y (λ may. Grants may (f ∷ map Found.In (group_of o ins))) (P o (filter (is_met q) ks)) (Q y (flat_line (f ∷ map Found.In (group_of o ins))))
+      made : IsDone q p false y (λ may. Grants may (f ∷ map Found.In (group_of o ins))) (P o (filter (is_met q) ks))
+          (Q y (flat_line (f ∷ map Found.In (group_of o ins))))
       made = subst (λ z. IsDone q p false y (λ may. Grants may (f ∷ map Found.In (group_of o ins))) (P o (filter (is_met q) ks)) (Q y z)) line
           (done_again q p false y (λ may. Grant may f × Unit {0}) (λ may. Grants may (f ∷ map Found.In (group_of o ins))) (P o (filter (is_met q) ks)) _
           (λ may. (λ x. (x.0, grants_ins may (group_of o ins)), λ x. (x.0, tt)))
@@ -191,7 +196,8 @@ module _ (q p : ℕ → Bool) (opp : Opposite q p) (y o : ℕ) (ks outs ins : Li
           (λ may. (λ x. x, λ x. x)) perm all_met full (middle_of q p opp h.0 f mixed h.2) (inl (refl, refl, λ may. tt)) (λ x. absurd cc) two))
 
       kept : list_any is_torn (f ∷ map Found.In (group_of o ins)) ≡ false
-          → Keeps (λ n. y < n) (P o (filter (is_met q) ks) ∷ []) (Q y (flat_line (f ∷ map Found.In (group_of o ins))) ∷ [])
+          → Keeps (λ n. y < n) (P o (filter (is_met q) ks) ∷ [])
+          (Q y (flat_line (f ∷ map Found.In (group_of o ins))) ∷ [])
       kept t =
           let k = one_keeps q p opp h.0 f h.2 (or_false (is_torn f) _ t).0 in
           let l1 = length_permutation _ _ perm in
@@ -231,10 +237,12 @@ module _ (q p : ℕ → Bool) (opp : Opposite q p) (y o : ℕ) (ks outs ins : Li
       turned_line (Found.Line front back ties) = reverse-append (reverse front) back ∙ ap (λ z. reverse back ++ z) (reverse-reverse front)
       turned_line Found.Torn = refl
 
-      flat_row : flat_line (f ∷ (map Found.In (group_of o ins) ++ turn_found g ∷ [])) ≡ line_of f ++ (group_of o ins ++ line_of (turn_found g))
+      flat_row : flat_line (f ∷ (map Found.In (group_of o ins) ++ turn_found g ∷ []))
+          ≡ line_of f ++ (group_of o ins ++ line_of (turn_found g))
       flat_row = ap (λ z. line_of f ++ z) (flat_map-append line_of (map Found.In (group_of o ins)) (turn_found g ∷ []) ∙ ap₂ (λ a b. a ++ b) (flat_ins (group_of o ins)) (append-nil (line_of (turn_found g))))
 
-      line : line_of f ++ (group_of o ins ++ reverse (line_of g)) ≡ flat_line (f ∷ (map Found.In (group_of o ins) ++ turn_found g ∷ []))
+      line : line_of f ++ (group_of o ins ++ reverse (line_of g))
+          ≡ flat_line (f ∷ (map Found.In (group_of o ins) ++ turn_found g ∷ []))
       line = ap (λ z. line_of f ++ (group_of o ins ++ z)) (turned_line g) ∙ sym flat_row
 
       grants_row : (may : ℕ → Bool → Bool) (js : List Node)
@@ -242,7 +250,8 @@ module _ (q p : ℕ → Bool) (opp : Opposite q p) (y o : ℕ) (ks outs ins : Li
       grants_row may [] = (λ x. (x, tt), λ x. x.0)
       grants_row may (j ∷ js) = let r = grants_row may js in (λ x. (tt, r.0 x), λ x. r.1 x.1)
 
-      made : IsDone q p false y (λ may. Grants may (f ∷ (map Found.In (group_of o ins) ++ turn_found g ∷ []))) (P o (filter (is_met q) ks)) (Q y (flat_line (f ∷ (map Found.In (group_of o ins) ++ turn_found g ∷ []))))
+      made : IsDone q p false y (λ may. Grants may (f ∷ (map Found.In (group_of o ins) ++ turn_found g ∷ [])))
+          (P o (filter (is_met q) ks)) (Q y (flat_line (f ∷ (map Found.In (group_of o ins) ++ turn_found g ∷ []))))
       made = subst (λ z. IsDone q p false y (λ may. Grants may (f ∷ (map Found.In (group_of o ins) ++ turn_found g ∷ []))) (P o (filter (is_met q) ks)) (Q y z)) line
           (done_again q p false y (λ may. Grant may f × Grant (turned may) g) (λ may. Grants may (f ∷ (map Found.In (group_of o ins) ++ turn_found g ∷ []))) (P o (filter (is_met q) ks)) _
           (λ may. let t = grant_turn g may in let r = grants_row may (group_of o ins) in (λ x. (x.0, r.0 (t.0 x.1)), λ x. (x.0, t.1 (r.1 x.1))))
@@ -250,7 +259,8 @@ module _ (q p : ℕ → Bool) (opp : Opposite q p) (y o : ℕ) (ks outs ins : Li
           (grant_twice g) perm all_met full (middle_of q p opp h.0 f both.0 h.3) (middle_of q p opp h.1 g second h.4) (λ x. absurd cc) two))
 
       kept : list_any is_torn (f ∷ (map Found.In (group_of o ins) ++ turn_found g ∷ [])) ≡ false
-          → Keeps (λ n. y < n) (P o (filter (is_met q) ks) ∷ []) (Q y (flat_line (f ∷ (map Found.In (group_of o ins) ++ turn_found g ∷ []))) ∷ [])
+          → Keeps (λ n. y < n) (P o (filter (is_met q) ks) ∷ [])
+          (Q y (flat_line (f ∷ (map Found.In (group_of o ins) ++ turn_found g ∷ []))) ∷ [])
       kept t =
           let ends = torn_ends (map Found.In (group_of o ins)) [] f (turn_found g) t in
           let k = one_keeps q p opp h.0 f h.3 ends.0 in

@@ -84,7 +84,8 @@ grown_more o n k g = record {
     are = pair_leaves o (n + 1) k
 
 -- the tree of a node without vars, with the root 0
-pub grown_formed : (n : ℕ) (k : Node) (eqs : List Equation) → IsGrown n k → eqs ≡ [] → IsWellFormed (make_tree 0 k 0 eqs)
+pub grown_formed : (n : ℕ) (k : Node) (eqs : List Equation) → IsGrown n k → eqs ≡ []
+    → IsWellFormed (make_tree 0 k 0 eqs)
 grown_formed n k eqs g e = record {
   branching = g.branching;
   distinct = (Lacks-from 0 (leaves k) (λ m. let h = (g.leaves_in 0 m).0 in omega (arith, h)), g.distinct);

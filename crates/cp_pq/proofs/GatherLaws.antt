@@ -53,7 +53,8 @@ module _ (q p : ℕ → Bool) (opp : Opposite q p) (total : ℕ) where
 
   pub closed_root : (label : Label) (ks : List Node) (before after : List Found) (place outer : Place)
       → count_all p ks ≤ total
-      → outer.frames ≡ place.frames ++ record { label = label; before = flat_line before; after = flat_line after } ∷ [] → outer.top ≡ place.top
+      → outer.frames ≡ place.frames ++ record { label = label; before = flat_line before; after = flat_line after } ∷ []
+      → outer.top ≡ place.top
       → IsGathered q p total ks (Row.Root before place after) → IsStep q p total (node_of label ks) (Step.Root outer)
   closed_root label ks before after place outer le frames top g =
       let b = ap (count_all p) g.3 ∙ count_append p g.0 (g.2 ∷ g.1) in
@@ -82,7 +83,8 @@ module _ (q p : ℕ → Bool) (opp : Opposite q p) (total : ℕ) where
   pub closed_top : (label : Label) (ks : List Node) (founds : List Found) (count : ℕ) (frames : List Frame) (top : Top)
       → 0 < total → total ≤ count → count_all p ks ≤ total → frames ≡ []
       → IsGathered q p total ks (Row.Open founds count)
-      → (2 ≤ length (filter (is_met q) ks) → IsTop q p (node_of label ks) top) → IsStep q p total (node_of label ks) (Step.Root (record { frames = frames; top = top }))
+      → (2 ≤ length (filter (is_met q) ks) → IsTop q p (node_of label ks) top)
+      → IsStep q p total (node_of label ks) (Step.Root (record { frames = frames; top = top }))
   closed_top label ks founds count frames top pos ge le none g t =
       let n = count_node p label ks in let c = g.1 in (
         omega (arith, n, c, ge, le),

@@ -67,7 +67,8 @@ pub all_split : (f : Node → Bool) (a b : List Node) → list_all f (a ++ b) �
     → (list_all f a ≡ true) × (list_all f b ≡ true)
 all_split f a b h = and_parts (list_all f a) (list_all f b) (sym (list_all-append f a b) ∙ h)
 
-pub all_join : (f : Node → Bool) (a b : List Node) → list_all f a ≡ true → list_all f b ≡ true → list_all f (a ++ b) ≡ true
+pub all_join : (f : Node → Bool) (a b : List Node) → list_all f a ≡ true → list_all f b ≡ true
+    → list_all f (a ++ b) ≡ true
 all_join f a b x y = list_all-append f a b ∙ and_from (list_all f a) (list_all f b) x y
 
 module _ (V : ℕ → Type 0) where

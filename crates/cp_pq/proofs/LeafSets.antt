@@ -60,7 +60,9 @@ one_more y ys (x ∷ xs) l = ⊎_elim
   where
     count : (a b c d : Bool) → a ≡ c → b ≡ d → (c && d) ≡ false
         → length (filter (inside (y ∷ ys)) xs) ≡ length (filter (λ z. eqb y z) xs) + length (filter (inside ys) xs)
-        → length (cond (a || b) (x ∷ filter (inside (y ∷ ys)) xs) (filter (inside (y ∷ ys)) xs)) ≡ length (cond a (x ∷ filter (λ z. eqb y z) xs) (filter (λ z. eqb y z) xs)) + length (cond b (x ∷ filter (inside ys) xs) (filter (inside ys) xs))
+        → length (cond (a || b) (x ∷ filter (inside (y ∷ ys)) xs) (filter (inside (y ∷ ys)) xs))
+        ≡ length (cond a (x ∷ filter (λ z. eqb y z) xs)
+        (filter (λ z. eqb y z) xs)) + length (cond b (x ∷ filter (inside ys) xs) (filter (inside ys) xs))
     count true true c d e f n ih = absurd (true≢false (ap₂ (λ u v. u && v) e f ∙ n))
     count true false c d e f n ih = omega (arith, ih)
     count false true c d e f n ih = omega (arith, ih)

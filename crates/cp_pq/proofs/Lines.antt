@@ -113,7 +113,8 @@ mixed_not_out x y h = (and_parts _ _ h).0
 
 pub kinds : (q p : ℕ → Bool) (a m b : List Node) → list_all (is_clear q p) (a ++ (m ++ b)) ≡ true
     → list_all (has_all q) a ≡ true → list_all (is_mixed q p) m ≡ true → list_all (has_all p) b ≡ true
-    → (filter (has_all q) (a ++ (m ++ b)) ≡ a) × (filter (is_mixed q p) (a ++ (m ++ b)) ≡ m) × (filter (has_all p) (a ++ (m ++ b)) ≡ b)
+    → (filter (has_all q) (a ++ (m ++ b)) ≡ a) × (filter (is_mixed q p) (a ++ (m ++ b)) ≡ m)
+    × (filter (has_all p) (a ++ (m ++ b)) ≡ b)
 kinds q p a m b clear out mixed full = (
   three (has_all q) ∙ ap₂ (λ x y. x ++ y) (filter_all (has_all q) a out) (ap₂ (λ x y. x ++ y) (filter_none (has_all q) m (all_weaker (is_mixed q p) (is_mixed q p) _ (λ k x y. (and_parts _ _ x).0) m mixed mixed)) (filter_none (has_all q) b (all_weaker (is_clear q p) (has_all p) _ (λ k x y. not_first _ _ x y) b c.2 full))) ∙ append-nil a,
   three (is_mixed q p) ∙ ap₂ (λ x y. x ++ y) (filter_none (is_mixed q p) a (all_weaker (is_clear q p) (has_all q) _ (λ k x y. mixed_out _ _ x y) a c.0 out)) (ap₂ (λ x y. x ++ y) (filter_all (is_mixed q p) m mixed) (filter_none (is_mixed q p) b (all_weaker (is_clear q p) (has_all p) _ (λ k x y. mixed_full _ _ x y) b c.2 full))) ∙ append-nil m,
@@ -149,7 +150,8 @@ P_line q p L opp o ks e m f line s may xs = (to, fro)
     clear_all : (turn : List Node) → IsPermutation ks turn → list_all (is_clear q p) turn ≡ true
     clear_all turn h = sym (list_all-IsPermutation (is_clear q p) ks turn h) ∙ s.clear
 
-    here : (filter (has_all q) (e ++ (m ++ f)) ≡ e) × (filter (is_mixed q p) (e ++ (m ++ f)) ≡ m) × (filter (has_all p) (e ++ (m ++ f)) ≡ f)
+    here : (filter (has_all q) (e ++ (m ++ f)) ≡ e) × (filter (is_mixed q p) (e ++ (m ++ f)) ≡ m)
+        × (filter (has_all p) (e ++ (m ++ f)) ≡ f)
     here = kinds q p e m f (clear_all (e ++ (m ++ f)) s.is) s.out (middle_mixed q p L m line s.middle).1 s.full
 
     to : ReadsAll may (P o ks ∷ []) xs × (sorted q p xs ≡ true)

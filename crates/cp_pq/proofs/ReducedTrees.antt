@@ -57,7 +57,8 @@ module _ (set : List ℕ) (root vars : ℕ) (body : Node) (eqs : List Equation) 
   never_at c = refused set root vars body eqs wf apart (never_filled q p (λ x. refl) place.frames at.0 body at.2 at.1 c)
 
   pub kept_at : (m new : Node) → new ∷ [] ≡ fill place.frames (m ∷ []) → IsChange q p vars at.0 (Change.Kept m)
-      → IsWellFormed (make_tree root new vars eqs) × IsReduced set (make_tree root body vars eqs) (make_tree root new vars eqs)
+      → IsWellFormed (make_tree root new vars eqs) × IsReduced set (make_tree root body vars eqs)
+      (make_tree root new vars eqs)
   kept_at m new e c =
       let k = keeps_whole any_bound m new e c.1 in (
         still_formed set root vars body eqs wf apart new any_bound vars eqs k tt wf.vars_below wf.equations_below,
@@ -67,7 +68,8 @@ module _ (set : List ℕ) (root vars : ℕ) (body : Node) (eqs : List Equation) 
   pub old_at : (m new : Node) (y : ℕ) (ties : List (ℕ × Bool)) (all : List Equation)
       → new ∷ [] ≡ fill place.frames (m ∷ []) → all ≡ eqs ++ tie_equations y ties
       → IsChange q p vars at.0 (Change.Old m y ties)
-      → IsWellFormed (make_tree root new vars all) × IsReduced set (make_tree root body vars eqs) (make_tree root new vars all)
+      → IsWellFormed (make_tree root new vars all) × IsReduced set (make_tree root body vars eqs)
+      (make_tree root new vars all)
   old_at m new y ties all e es c =
       let k = keeps_whole any_bound m new e c.1 in
       let lt = c.2 vars (below_filled vars place.frames at.0 body at.1 wf.vars_below) in
@@ -79,7 +81,8 @@ module _ (set : List ℕ) (root vars : ℕ) (body : Node) (eqs : List Equation) 
 
   pub new_at : (m new : Node) (ties : List (ℕ × Bool)) (all : List Equation) → new ∷ [] ≡ fill place.frames (m ∷ [])
       → all ≡ eqs ++ tie_equations vars ties → IsChange q p vars at.0 (Change.New m ties)
-      → IsWellFormed (make_tree root new (vars + 1) all) × IsReduced set (make_tree root body vars eqs) (make_tree root new (vars + 1) all)
+      → IsWellFormed (make_tree root new (vars + 1) all) × IsReduced set (make_tree root body vars eqs)
+      (make_tree root new (vars + 1) all)
   new_at m new ties all e es c =
       let k = keeps_whole (λ n. vars < n) m new e c.1 in
       let d = done_filled q p (λ x. refl) false vars (λ may. Licensed false may ties) place.frames at.0 m body new at.2 at.1 e c.0 in

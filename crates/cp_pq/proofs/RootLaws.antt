@@ -55,7 +55,8 @@ P_root q p opp old y L o ks e c m perm clear out met d = record {
     frame = P_frame q p opp old y L o (e ++ P o c ∷ []) e (P o c) m (IsPermutation-refl _) out d
 
 -- kids of a P-node in another order
-P_permuted : (q p : ℕ → Bool) (old : Bool) (y : ℕ) (L : (ℕ → Bool → Bool) → Type 0) (o : ℕ) (ks c : List Node) (m : Node)
+P_permuted : (q p : ℕ → Bool) (old : Bool) (y : ℕ) (L : (ℕ → Bool → Bool) → Type 0) (o : ℕ) (ks c : List Node)
+    (m : Node)
     → IsPermutation ks c → IsPermutation c ks → IsDone q p old y L (P o c) m → IsDone q p old y L (P o ks) m
 P_permuted q p old y L o ks c m there back d = record {
   to = λ may xs r t. let g = Reads_P may o ks xs r in d.to may xs (any_order o c g.0 xs (IsPermutation-trans _ _ _ back g.1) g.2) t;
@@ -96,7 +97,8 @@ module _ (q p : ℕ → Bool) (opp : Opposite q p) (vars : ℕ) where
   pub change_Q : (v : ℕ) (ks : List Node) (fs : List Found) (kids : List Node) (ties : List (ℕ × Bool))
       → AllZip (IsGiven q p) ks fs → 2 ≤ length (filter (is_met q) ks) → found_run fs ≡ true
       → list_any is_torn (turn_behind fs) ≡ false
-      → kids ≡ flat_line (turn_behind fs) → ties ≡ flat_ties (reverse (turn_behind fs)) ++ [] → IsChange q p vars (Q v ks) (Change.Old (Q v kids) v ties)
+      → kids ≡ flat_line (turn_behind fs) → ties ≡ flat_ties (reverse (turn_behind fs)) ++ []
+      → IsChange q p vars (Q v ks) (Change.Old (Q v kids) v ties)
   change_Q v ks fs kids ties z two run t e1 e2 =
       subst₂ (λ a b. IsChange q p vars (Q v ks) (Change.Old (Q v a) v b)) (sym e1) (sym e2) (
         done_again q p true v (λ may. Grants may (turn_behind fs)) (λ may. Licensed false may (flat_ties (reverse (turn_behind fs)) ++ [])) (Q v ks) (Q v (flat_line (turn_behind fs)))

@@ -30,8 +30,10 @@ pub like_nil : (test : List ℕ → Bool) → test [] ≡ true → IsLike test (
 like_nil test e may xs = (λ h. (tt, h.0), λ h. (h.1, ap test (ReadsAll_nil may xs h.1) ∙ e))
 
 -- a kid outside in front changes nothing
-pub like_front : (q : ℕ → Bool) (test : List ℕ → Bool) (L : (ℕ → Bool → Bool) → Type 0) (k : Node) (row line : List Node)
-    → ((u v : List ℕ) → list_all q u ≡ true → test (u ++ v) ≡ test v) → has_all q k ≡ true → IsLike test L row line → IsLike test L (k ∷ row) (k ∷ line)
+pub like_front : (q : ℕ → Bool) (test : List ℕ → Bool) (L : (ℕ → Bool → Bool) → Type 0) (k : Node)
+    (row line : List Node)
+    → ((u v : List ℕ) → list_all q u ≡ true → test (u ++ v) ≡ test v) → has_all q k ≡ true → IsLike test L row line
+    → IsLike test L (k ∷ row) (k ∷ line)
 like_front q test L k row line front out like may xs = (
   λ r. let h = ReadsAll_cons may k row xs r.0 in
       let g = (like may h.1).0 (h.4, sym (front h.0 h.1 (class_read q may k h.0 h.3 ∙ out)) ∙ ap test (sym h.2) ∙ r.1) in
@@ -43,7 +45,8 @@ like_front q test L k row line front out like may xs = (
 
 -- the first kid that is not outside is a line, and those behind it are inside
 pub sorted_here : (q p : ℕ → Bool) (L : (ℕ → Bool → Bool) → Type 0) (k : Node) (row line : List Node)
-    → has_all q k ≡ false → list_all (has_all p) row ≡ true → IsLike (sorted q p) L (k ∷ []) line → IsLike (sorted q p) L (k ∷ row) (line ++ row)
+    → has_all q k ≡ false → list_all (has_all p) row ≡ true → IsLike (sorted q p) L (k ∷ []) line
+    → IsLike (sorted q p) L (k ∷ row) (line ++ row)
 sorted_here q p L k row line out full like may xs = (
   λ r. let h = ReadsAll_cons may k row xs r.0 in
       let s = and_parts _ _ (sym (sorted_cut q p h.0 h.1 (class_read q may k h.0 h.3 ∙ out)) ∙ ap (sorted q p) (sym h.2) ∙ r.1) in
@@ -57,7 +60,8 @@ sorted_here q p L k row line out full like may xs = (
 
 -- the first kid that is not outside begins the run, which goes on in the row behind it
 pub run_here : (q p : ℕ → Bool) (L M : (ℕ → Bool → Bool) → Type 0) (k : Node) (row line rest : List Node)
-    → has_all q k ≡ false → list_all (has_all q) row ≡ false → IsLike (sorted q p) L (k ∷ []) line → IsLike (sorted p q) M row rest → IsLike (together q p) (λ may. L may × M may) (k ∷ row) (line ++ rest)
+    → has_all q k ≡ false → list_all (has_all q) row ≡ false → IsLike (sorted q p) L (k ∷ []) line
+    → IsLike (sorted p q) M row rest → IsLike (together q p) (λ may. L may × M may) (k ∷ row) (line ++ rest)
 run_here q p L M k row line rest out left like next may xs = (
   λ r. let h = ReadsAll_cons may k row xs r.0 in
       let t : together q p (h.0 ++ h.1) ≡ true = ap (together q p) (sym h.2) ∙ r.1 in

@@ -97,7 +97,8 @@ module _ (q p : ℕ → Bool) (opp : Opposite q p) where
 
   turn_rest : (k : Node) (ks : List Node) (f : Found) (fs : List Found) → IsGiven q p k f → has_all q k ≡ false
       → list_all (has_all q) ks ≡ false → AllZip (IsGiven q p) ks fs → found_leaving fs ≡ true
-      → IsLike (sorted q p) (λ may. Grant may f) (k ∷ []) (line_of f) → IsLike (together q p) (λ may. Grants may (f ∷ map turn_found fs)) (k ∷ ks) (flat_line (f ∷ map turn_found fs))
+      → IsLike (sorted q p) (λ may. Grant may f) (k ∷ []) (line_of f)
+      → IsLike (together q p) (λ may. Grants may (f ∷ map turn_found fs)) (k ∷ ks) (flat_line (f ∷ map turn_found fs))
   turn_rest k ks f fs g out rest z h like =
       run_here q p (λ may. Grant may f) (λ may. Grants may (map turn_found fs)) k ks (line_of f) (flat_line (map turn_found fs)) out rest like
       (zip_like p q opp_turn ks (map turn_found fs) (zip_turn ks fs z) (leaving_turned fs ∙ h))
@@ -121,7 +122,8 @@ module _ (q p : ℕ → Bool) (opp : Opposite q p) where
 
   keeps_rest : (k : Node) (ks : List Node) (f : Found) (fs : List Found) → IsGiven q p k f → AllZip (IsGiven q p) ks fs
       → list_any is_torn (f ∷ map turn_found fs) ≡ false
-      → Keeps any_bound (k ∷ ks) (flat_line (f ∷ map turn_found fs)) × (length (k ∷ ks) ≤ length (flat_line (f ∷ map turn_found fs)))
+      → Keeps any_bound (k ∷ ks)
+      (flat_line (f ∷ map turn_found fs)) × (length (k ∷ ks) ≤ length (flat_line (f ∷ map turn_found fs)))
   keeps_rest k ks f fs g z t =
       let both = or_parts (is_torn f) (list_any is_torn (map turn_found fs)) t in
       let zz : AllZip (IsGiven q p) (k ∷ []) (f ∷ []) = (g, tt) in

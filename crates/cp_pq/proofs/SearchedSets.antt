@@ -20,7 +20,9 @@ not_falling (x ∷ xs) h (suc i) (suc j) le lt = not_falling xs (rest_rises x xs
 
 -- what is found is in the set, and what is not is not
 pub searched_inside : (set : List ℕ) (x : ℕ) (r : Result ℕ ℕ)
-    → MatchResult r (λ i. (i < length set) × (get_or set i 0 ≡ x)) (λ i. (i ≤ length set) × ((k : ℕ) → k < i → get_or set k 0 < x) × ((k : ℕ) → i ≤ k → k < length set → x < get_or set k 0))
+    → MatchResult r (λ i. (i < length set) × (get_or set i 0 ≡ x))
+    (λ i. (i ≤ length set) × ((k : ℕ) → k < i → get_or set k 0 < x) × ((k : ℕ) → i ≤ k → k < length set
+    → x < get_or set k 0))
     → is_ok r ≡ inside set x
 searched_inside set x (Ok i) h = sym (list_any_at (λ y. eqb y x) set i 0 h.0 (eq-eqb (get_or set i 0) x h.1))
 searched_inside set x (Err i) h = ⊎_elim

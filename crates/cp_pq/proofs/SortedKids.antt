@@ -9,7 +9,8 @@ use Rattle.cp_pq.proofs.Zips.{zip_sorts}
 
 -- sorted from its end, a row is sorted
 pub sorted_by : (q p : ℕ → Bool) (ks outs ins : List Node) (mixed founds back : List Found) → back ≡ reverse founds
-    → outs ≡ flat_map out_node (reverse back) → ins ≡ flat_map in_node (reverse back) → mixed ≡ flat_map mixed_found (reverse back)
+    → outs ≡ flat_map out_node (reverse back) → ins ≡ flat_map in_node (reverse back)
+    → mixed ≡ flat_map mixed_found (reverse back)
     → AllZip (IsGiven q p) ks founds → Sorts q p ks outs ins mixed
 sorted_by q p ks outs ins mixed founds back e o i m z =
     let same : reverse back ≡ founds = ap reverse e ∙ reverse-reverse founds in

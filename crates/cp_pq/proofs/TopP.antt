@@ -85,7 +85,8 @@ module _ (q p : ℕ → Bool) (opp : Opposite q p) where
   -- the kids outside, and the others under one P-node of their own
   pub P_grouped : (o : ℕ) (ks e c : List Node) → IsPermutation ks (e ++ c) → list_all (is_clear q p) ks ≡ true
       → list_all (has_all q) e ≡ true → list_all (is_met q) c ≡ true → (may : ℕ → Bool → Bool) (xs : List ℕ)
-      → (Reads may (P o ks) xs × (together q p xs ≡ true)) ↔ (Reads may (P o (e ++ P o c ∷ [])) xs × (together q p xs ≡ true))
+      → (Reads may (P o ks) xs × (together q p xs ≡ true))
+      ↔ (Reads may (P o (e ++ P o c ∷ [])) xs × (together q p xs ≡ true))
   P_grouped o ks e c perm clear out met may xs = (
     λ r. let t = Reads_P may o ks xs r.0 in
         let turn_clear : list_all (is_clear q p) t.0 ≡ true = sym (list_all-IsPermutation (is_clear q p) ks t.0 t.1) ∙ clear in
@@ -348,7 +349,8 @@ module _ (q p : ℕ → Bool) (opp : Opposite q p) where
     abbrev line : List Node
     line = l1 ++ (group_of o f ++ reverse l2)
 
-    pub middle_done : IsDone q p false y (λ may. L may × M (turned may)) (P o c) (Q y (l1 ++ (group_of o f ++ reverse l2)))
+    pub middle_done : IsDone q p false y (λ may. L may × M (turned may)) (P o c)
+        (Q y (l1 ++ (group_of o f ++ reverse l2)))
     middle_done = record {
       to = λ may xs r t.
           let s = Reads_P may o c xs r in

@@ -98,8 +98,10 @@ module _ {A : Type 0} where
 -- kids outside round one kid: the set is together in the row where it is in the kid's reading
 row_to : (q p : ℕ → Bool) → Opposite q p → (old : Bool) (y : ℕ) (L : (ℕ → Bool → Bool) → Type 0) (k m : Node)
     → IsDone q p old y L k m
-    → (a b : List Node) → list_all (has_all q) a ≡ true → list_all (has_all q) b ≡ true → (may : ℕ → Bool → Bool) (xs : List ℕ) → ReadsAll may (a ++ k ∷ b) xs → together q p xs ≡ true
-    → (bit : Bool) × (old ≡ true → may y bit ≡ true) × L (by_bit bit may) × ((wide : ℕ → Bool → Bool) → Wider may wide → wide y bit ≡ true → ReadsAll wide (a ++ m ∷ b) xs)
+    → (a b : List Node) → list_all (has_all q) a ≡ true → list_all (has_all q) b ≡ true
+    → (may : ℕ → Bool → Bool) (xs : List ℕ) → ReadsAll may (a ++ k ∷ b) xs → together q p xs ≡ true
+    → (bit : Bool) × (old ≡ true → may y bit ≡ true) × L (by_bit bit may) × ((wide : ℕ → Bool → Bool) → Wider may wide
+    → wide y bit ≡ true → ReadsAll wide (a ++ m ∷ b) xs)
 row_to q p opp old y L k m d a b ea eb may xs r t =
     let c = ReadsAll_cut may a (k ∷ b) xs r in
     let e = ReadsAll_cons may k b c.1 c.4 in
@@ -115,7 +117,9 @@ row_to q p opp old y L k m d a b ea eb may xs r t =
 
 row_fro : (q p : ℕ → Bool) → Opposite q p → (old : Bool) (y : ℕ) (L : (ℕ → Bool → Bool) → Type 0) (k m : Node)
     → IsDone q p old y L k m
-    → (a b : List Node) → list_all (has_all q) a ≡ true → list_all (has_all q) b ≡ true → (may : ℕ → Bool → Bool) (xs : List ℕ) → ReadsAll may (a ++ m ∷ b) xs → ((bit : Bool) → may y bit ≡ true → L (by_bit bit may))
+    → (a b : List Node) → list_all (has_all q) a ≡ true → list_all (has_all q) b ≡ true
+    → (may : ℕ → Bool → Bool) (xs : List ℕ) → ReadsAll may (a ++ m ∷ b) xs
+    → ((bit : Bool) → may y bit ≡ true → L (by_bit bit may))
     → ReadsAll may (a ++ k ∷ b) xs × (together q p xs ≡ true)
 row_fro q p opp old y L k m d a b ea eb may xs r tie =
     let c = ReadsAll_cut may a (m ∷ b) xs r in

@@ -169,7 +169,8 @@ module _ (q p : ℕ → Bool) where
 
   both_at : (r : List Node) (x : Node) → list_all (is_clear q p) (r ++ x ∷ []) ≡ true
       → row_sorted q p (r ++ x ∷ []) ≡ true → row_sorted q p (x ∷ reverse r) ≡ true
-      → (list_all (has_all q) (r ++ x ∷ []) ≡ true) ⊎ ((list_all (has_all p) (r ++ x ∷ []) ≡ true) ⊎ (length (r ++ x ∷ []) ≤ 1))
+      → (list_all (has_all q) (r ++ x ∷ []) ≡ true) ⊎ ((list_all (has_all p) (r ++ x ∷ []) ≡ true)
+      ⊎ (length (r ++ x ∷ []) ≤ 1))
   both_at [] x c a b = inr (inr (omega arith))
   both_at (k ∷ r) x c a b =
       ⊎_elim

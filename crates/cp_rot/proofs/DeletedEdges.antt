@@ -52,11 +52,13 @@ module _ (r : System) (is : IsRotation r) (e : ℕ) (lt : e < edges r) where
   below = on_edges-below (suc left) (exchange e left) (λ x l. exchange-below (suc left) e left x (omega arith) (omega arith) l)
 
   -- with the last numbers for the edge
-  moved : Listed r.vertices (2 * suc left) (λ d. vertex_of r (renumbered r e d)) (λ v. map (renumbered r e) (list_of r v))
+  moved : Listed r.vertices (2 * suc left) (λ d. vertex_of r (renumbered r e d))
+      (λ v. map (renumbered r e) (list_of r v))
   moved = Listed-darts r.vertices (2 * suc left) (vertex_of r) (list_of r) whole (renumbered r e) twice below
 
   -- leaving out the edge is leaving out the last one
-  same_list : (v : ℕ) → but (2 * left) (but (2 * left + 1) (map (renumbered r e) (list_of r v))) ≡ map (renumbered r e) (without_edge e (list_of r v))
+  same_list : (v : ℕ) → but (2 * left) (but (2 * left + 1) (map (renumbered r e) (list_of r v))) ≡ map (renumbered r e)
+      (without_edge e (list_of r v))
   same_list v = sym (
       ap (map (renumbered r e)) (without_edge-but e (list_of r v))
       ∙ but-map (renumbered r e) twice (2 * e) (but (2 * e + 1) (list_of r v))
@@ -66,7 +68,8 @@ module _ (r : System) (is : IsRotation r) (e : ℕ) (lt : e < edges r) where
       (on_edges_odd (exchange e left) e ∙ ap (λ (x : ℕ). 2 * x + 1) (exchange_left e left e refl)))
 
   -- the functions of the result
-  pub Listed-deleted : Listed r.vertices (2 * left) (λ d. vertex_of r (renumbered r e d)) (λ v. map (renumbered r e) (without_edge e (list_of r v)))
+  pub Listed-deleted : Listed r.vertices (2 * left) (λ d. vertex_of r (renumbered r e d))
+      (λ v. map (renumbered r e) (without_edge e (list_of r v)))
   Listed-deleted = Listed-agree r.vertices (2 * left) (λ d. vertex_of r (renumbered r e d)) (λ d. vertex_of r (renumbered r e d)) (λ v. but (2 * left) (but (2 * left + 1) (map (renumbered r e) (list_of r v)))) (λ v. map (renumbered r e) (without_edge e (list_of r v))) (λ d l. refl) (λ v l. same_list v)
       (Listed-drop_edge r.vertices left (λ d. vertex_of r (renumbered r e d)) (λ v. map (renumbered r e) (list_of r v)) moved)
 
@@ -83,7 +86,8 @@ module _ (r : System) (is : IsRotation r) (e : ℕ) (lt : e < edges r) where
   deleted-edges = system-edges r.vertices left (λ y. vertex_of r (renumbered r e y)) (λ v. map (renumbered r e) (without_edge e (list_of r v)))
 
   -- what is behind its darts
-  pub deleted_next : (d : ℕ) → d < 2 * left → next (deleted r e) d ≡ drop_edge left (renamed_next (exchange e left) (exchange e left) (next r)) d
+  pub deleted_next : (d : ℕ) → d < 2 * left
+      → next (deleted r e) d ≡ drop_edge left (renamed_next (exchange e left) (exchange e left) (next r)) d
   deleted_next d l =
       system_next r.vertices left (λ y. vertex_of r (renumbered r e y)) (λ v. map (renumbered r e) (without_edge e (list_of r v))) Listed-deleted d l
       ∙ ap (λ xs. follow xs d) (sym (same_list (vertex_of r (renumbered r e d))))
@@ -93,7 +97,10 @@ module _ (r : System) (is : IsRotation r) (e : ℕ) (lt : e < edges r) where
       d (omega arith)
 
   -- its genus is zero where the functions say so
-  pub deleted_zero_by : HasGenusZero (deleted r e) ↔ (r.vertices + faces r.vertices left (renamed_at (λ x. x) (exchange e left) (vertex_of r)) (drop_edge left (renamed_next (exchange e left) (exchange e left) (next r))) ≡ left + 2 * components r.vertices left (renamed_at (λ x. x) (exchange e left) (vertex_of r)))
+  pub deleted_zero_by : HasGenusZero (deleted r e)
+      ↔ (r.vertices + faces r.vertices left (renamed_at (λ x. x) (exchange e left) (vertex_of r))
+      (drop_edge left (renamed_next (exchange e left) (exchange e left) (next r)))
+      ≡ left + 2 * components r.vertices left (renamed_at (λ x. x) (exchange e left) (vertex_of r)))
   deleted_zero_by = HasGenusZero_by (deleted r e) r.vertices left (renamed_at (λ x. x) (exchange e left) (vertex_of r)) (drop_edge left (renamed_next (exchange e left) (exchange e left) (next r))) IsRotation-deleted refl deleted-edges deleted_at deleted_next
 
   -- genus zero stays

@@ -27,7 +27,8 @@ pub ComponentCount-unique : (r : System) (c d : ℕ) → ComponentCount r c → 
 ComponentCount-unique r c d = IsCount-unique (IsLeastConnected (end_pairs r.at)) r.vertices c d
 
 -- the genus is zero exactly where the counts agree
-pub genus_decided : (r : System) (v n f c : ℕ) → v ≡ r.vertices → n ≡ darts r → FaceCount r f → ComponentCount r c → (eqb (v + f) (n / 2 + 2 * c) ≡ true) ↔ HasGenusZero r
+pub genus_decided : (r : System) (v n f c : ℕ) → v ≡ r.vertices → n ≡ darts r → FaceCount r f → ComponentCount r c
+    → (eqb (v + f) (n / 2 + 2 * c) ≡ true) ↔ HasGenusZero r
 genus_decided r v n f c ev en faces components = (
   λ t. record {
     faces = f;

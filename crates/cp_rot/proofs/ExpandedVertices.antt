@@ -30,7 +30,8 @@ any_lacks z [] l = refl
 any_lacks z (q ∷ xs) l = rw (ne_eqb q z l.0) (any_lacks z xs l.1)
 
 -- darts d and f at one vertex
-module _ (r : System) (is : IsRotation r) (d f : ℕ) (ltd : d < darts r) (ltf : f < darts r) (one : vertex_of r f ≡ vertex_of r d) where
+module _ (r : System) (is : IsRotation r) (d f : ℕ) (ltd : d < darts r) (ltf : f < darts r)
+    (one : vertex_of r f ≡ vertex_of r d) where
   -- the new vertex
   abbrev v : ℕ
   v = r.vertices
@@ -131,7 +132,8 @@ module _ (r : System) (is : IsRotation r) (d f : ℕ) (ltd : d < darts r) (ltf :
   lacks_second = let l = lacks_new y (omega arith) in (l.0, ((λ e. omega arith), l.1))
 
   -- f is d: the list with the second dart
-  law_same : f ≡ d → Distinct (d ∷ x ∷ y ∷ rest) × ((z : ℕ) → Has z (d ∷ x ∷ y ∷ rest) → follow (d ∷ x ∷ y ∷ rest) z ≡ put_edge (edges r) d f (next r) z)
+  law_same : f ≡ d → Distinct (d ∷ x ∷ y ∷ rest) × ((z : ℕ) → Has z (d ∷ x ∷ y ∷ rest)
+      → follow (d ∷ x ∷ y ∷ rest) z ≡ put_edge (edges r) d f (next r) z)
   law_same e =
       let dis : Distinct (d ∷ x ∷ y ∷ rest) = Distinct-insert x y (d ∷ []) rest with_first.0 lacks_second in
       (dis, λ z h. put_follow (put (next r) x d) x y (d ∷ []) rest dis with_first.1 z h ∙ ap (λ g. put (put (next r) x d) y g z) (sym (cond-true (eqb f d) x f (eq-eqb f d e))))
@@ -145,7 +147,9 @@ module _ (r : System) (is : IsRotation r) (d f : ℕ) (ltd : d < darts r) (ltf :
   rest_parts ne = around_item f rest (has_f_rest ne)
 
   -- f is another: the list with the second dart
-  law_other : (f ≡ d → ⊥) → Distinct (d ∷ x ∷ (before f rest ++ f ∷ y ∷ behind f rest)) × ((z : ℕ) → Has z (d ∷ x ∷ (before f rest ++ f ∷ y ∷ behind f rest)) → follow (d ∷ x ∷ (before f rest ++ f ∷ y ∷ behind f rest)) z ≡ put_edge (edges r) d f (next r) z)
+  law_other : (f ≡ d → ⊥) → Distinct (d ∷ x ∷ (before f rest ++ f ∷ y ∷ behind f rest)) × ((z : ℕ)
+      → Has z (d ∷ x ∷ (before f rest ++ f ∷ y ∷ behind f rest))
+      → follow (d ∷ x ∷ (before f rest ++ f ∷ y ∷ behind f rest)) z ≡ put_edge (edges r) d f (next r) z)
   law_other ne =
       let first = subst (λ m. Distinct (d ∷ x ∷ m) × ((z : ℕ) → Has z (d ∷ x ∷ m) → follow (d ∷ x ∷ m) z ≡ put (next r) x d z)) (rest_parts ne) with_first in
       let lacks = subst (λ m. Lacks y (d ∷ x ∷ m)) (rest_parts ne) lacks_second in
@@ -248,7 +252,8 @@ module _ (r : System) (is : IsRotation r) (d f : ℕ) (ltd : d < darts r) (ltf :
   list_other u nv nw = rw (ne_eqb u v nv, ne_eqb u w nw) refl
 
   -- what holds of the new darts, of the row and of the others holds of all darts
-  stand_cases : (P : ℕ → ℕ → Type 0) → P x w → P y v → ((z : ℕ) → z < x → Has z moved → P z v) → ((z : ℕ) → z < x → Lacks z moved → P z (vertex_of r z)) → (z : ℕ) → z < 2 * (edges r + 1) → P z (at z)
+  stand_cases : (P : ℕ → ℕ → Type 0) → P x w → P y v → ((z : ℕ) → z < x → Has z moved → P z v)
+      → ((z : ℕ) → z < x → Lacks z moved → P z (vertex_of r z)) → (z : ℕ) → z < 2 * (edges r + 1) → P z (at z)
   stand_cases P first second in_moved others z lt = ⊎_elim
       (λ old. ⊎_elim (λ h. subst (P z) (sym (at_row z old h)) (in_moved z old h)) (λ l. subst (P z) (sym (at_rest z old l)) (others z old l)) (has_cases z moved))
       (λ new. ⊎_elim
@@ -308,7 +313,8 @@ module _ (r : System) (is : IsRotation r) (d f : ℕ) (ltd : d < darts r) (ltf :
       put_other (put (next r) x d) y (cond (eqb f d) x f) z not_g (λ e. omega arith) ∙ put_other (next r) x d z not_d (λ e. omega arith)
 
   -- what is behind the darts
-  pub expanded_turn : (z : ℕ) → z < 2 * (edges r + 1) → turn at lists z ≡ put_edge (edges r) d f (next r) (exchange x y z)
+  pub expanded_turn : (z : ℕ) → z < 2 * (edges r + 1) → turn at lists z ≡ put_edge (edges r) d f (next r)
+      (exchange x y z)
   expanded_turn = stand_cases (λ z u. follow (lists u) z ≡ put_edge (edges r) d f (next r) (exchange x y z))
       (ap (λ m. follow m x) list_old ∙ sym split_law.behind_second ∙ looped_law.1 y second_in ∙ ap (put_edge (edges r) d f (next r)) (sym (exchange_left x y x refl)))
       (ap (λ m. follow m y) list_new ∙ moved_follow y (inl refl) ∙ sym split_law.behind_first ∙ looped_law.1 x (inr (inl refl)) ∙ ap (put_edge (edges r) d f (next r)) (sym (exchange_right x y y refl)))
@@ -357,10 +363,12 @@ module _ (r : System) (is : IsRotation r) (d f : ℕ) (ltd : d < darts r) (ltf :
           (λ l. ap (joined w v) (at_rest z lt l) ∙ joined_other w v (vertex_of r z) (λ e. let old = listed.placed z lt in omega arith))
           (has_cases z moved)
 
-      by_functions : HasGenusZero (expanded r d f) ↔ (r.vertices + 1 + faces (r.vertices + 1) (edges r + 1) at (turn at lists) ≡ edges r + 1 + 2 * components (r.vertices + 1) (edges r + 1) at)
+      by_functions : HasGenusZero (expanded r d f) ↔ (r.vertices + 1 + faces (r.vertices + 1)
+          (edges r + 1) at (turn at lists) ≡ edges r + 1 + 2 * components (r.vertices + 1) (edges r + 1) at)
       by_functions = system_zero (r.vertices + 1) (edges r + 1) at lists (turn at lists) Listed-expanded (λ z lt. refl)
 
-      same_faces : faces (r.vertices + 1) (edges r + 1) at (turn at lists) ≡ faces r.vertices (edges r) (vertex_of r) (next r)
+      same_faces : faces (r.vertices + 1) (edges r + 1) at (turn at lists) ≡ faces r.vertices (edges r) (vertex_of r)
+          (next r)
       same_faces = ap₂ (λ p q. faces p q at (turn at lists)) more_vertices more_edges
           ∙ faces-expanded v (edges r) d f w (vertex_of r) (next r) at (turn at lists) (Turns-system r is) turns ltd' ltf' refl one (λ z lt. expanded_turn z (omega arith)) stood at_first at_second
 

@@ -31,7 +31,8 @@ pub record FoundUpto (R : ℕ → ℕ → Type 0) (n i : ℕ) (marks : List Bool
   pub few : least ≤ i
 
 -- at the start nothing is marked
-pub FoundUpto-none : (R : ℕ → ℕ → Type 0) (n : ℕ) (marks : List Bool) → ((x : ℕ) → x < n → IsUnmarked marks x) → FoundUpto R n 0 marks 0
+pub FoundUpto-none : (R : ℕ → ℕ → Type 0) (n : ℕ) (marks : List Bool) → ((x : ℕ) → x < n → IsUnmarked marks x)
+    → FoundUpto R n 0 marks 0
 FoundUpto-none R n marks clear = record {
   marked = λ x lt. (λ is_in. absurd (marked_unmarked marks x is_in (clear x lt)), λ h. absurd (omega (arith, h.1)));
   counted = IsCount-none (IsLeast R);
@@ -39,20 +40,24 @@ FoundUpto-none R n marks clear = record {
 }
 
 -- where i is not marked, nothing that it is related to is
-pub fresh_class : (R : ℕ → ℕ → Type 0) (n i : ℕ) (marks : List Bool) (least : ℕ) → Relates R n → FoundUpto R n i marks least → i < n → IsUnmarked marks i → (x : ℕ) → x < n → R i x → IsUnmarked marks x
+pub fresh_class : (R : ℕ → ℕ → Type 0) (n i : ℕ) (marks : List Bool) (least : ℕ) → Relates R n
+    → FoundUpto R n i marks least → i < n → IsUnmarked marks i → (x : ℕ) → x < n → R i x → IsUnmarked marks x
 fresh_class R n i marks least rel found lt is_out x ltx r =
     unmarked_from marks x (λ is_in.
     let h = (found.marked x ltx).0 is_in in
     marked_unmarked marks i ((found.marked i lt).1 (h.0, h.1, rel.on h.0 x i h.2 (rel.back i x lt r))) is_out)
 
 -- with a marked number all that it is related to is marked
-pub marked_class : (R : ℕ → ℕ → Type 0) (n i : ℕ) (marks : List Bool) (least : ℕ) → Relates R n → FoundUpto R n i marks least → (x y : ℕ) → x < n → y < n → R x y → IsMarked marks x → IsMarked marks y
+pub marked_class : (R : ℕ → ℕ → Type 0) (n i : ℕ) (marks : List Bool) (least : ℕ) → Relates R n
+    → FoundUpto R n i marks least → (x y : ℕ) → x < n → y < n → R x y → IsMarked marks x → IsMarked marks y
 marked_class R n i marks least rel found x y ltx lty r is_in =
     let h = (found.marked x ltx).0 is_in in
     (found.marked y lty).1 (h.0, h.1, rel.on h.0 x y h.2 r)
 
 -- i was not marked: it is the least of its class, and its class gets marked
-pub FoundUpto-new : (R : ℕ → ℕ → Type 0) (n i : ℕ) (marks after : List Bool) (least : ℕ) → Relates R n → FoundUpto R n i marks least → i < n → IsUnmarked marks i → ((x : ℕ) → x < n → IsMarked after x ↔ (IsMarked marks x ⊎ R i x)) → FoundUpto R n (i + 1) after (least + 1)
+pub FoundUpto-new : (R : ℕ → ℕ → Type 0) (n i : ℕ) (marks after : List Bool) (least : ℕ) → Relates R n
+    → FoundUpto R n i marks least → i < n → IsUnmarked marks i
+    → ((x : ℕ) → x < n → IsMarked after x ↔ (IsMarked marks x ⊎ R i x)) → FoundUpto R n (i + 1) after (least + 1)
 FoundUpto-new R n i marks after least rel found lt is_out marked = record {
   marked = λ x ltx. (
     λ is_in. ⊎_elim
@@ -68,7 +73,8 @@ FoundUpto-new R n i marks after least rel found lt is_out marked = record {
 }
 
 -- i was marked: it is not the least of its class
-pub FoundUpto-old : (R : ℕ → ℕ → Type 0) (n i : ℕ) (marks : List Bool) (least : ℕ) → Relates R n → FoundUpto R n i marks least → i < n → IsMarked marks i → FoundUpto R n (i + 1) marks least
+pub FoundUpto-old : (R : ℕ → ℕ → Type 0) (n i : ℕ) (marks : List Bool) (least : ℕ) → Relates R n
+    → FoundUpto R n i marks least → i < n → IsMarked marks i → FoundUpto R n (i + 1) marks least
 FoundUpto-old R n i marks least rel found lt is_in =
     let h = (found.marked i lt).0 is_in in record {
       marked = λ x ltx. (
@@ -80,6 +86,7 @@ FoundUpto-old R n i marks least rel found lt is_in =
     }
 
 -- the same, where marks and number go by other names
-pub found_at : (R : ℕ → ℕ → Type 0) (n i : ℕ) {marks other : List Bool} {least least_other : ℕ} → other ≡ marks → least_other ≡ least → FoundUpto R n i marks least → FoundUpto R n i other least_other
+pub found_at : (R : ℕ → ℕ → Type 0) (n i : ℕ) {marks other : List Bool} {least least_other : ℕ} → other ≡ marks
+    → least_other ≡ least → FoundUpto R n i marks least → FoundUpto R n i other least_other
 found_at R n i {marks} {other} {least} {least_other} e f found =
     subst (λ m. FoundUpto R n i m least_other) (sym e) (subst (FoundUpto R n i marks) (sym f) found)

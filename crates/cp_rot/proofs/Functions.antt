@@ -41,11 +41,13 @@ abbrev pub components_of : System → ℕ
 components_of r = components r.vertices (edges r) (vertex_of r)
 
 -- along a dart and on, by the functions
-pub face_step-upto : (r : System) → IsRotation r → (d : ℕ) → d < darts r → face_step r d ≡ face_upto (next r) (edges r) d
+pub face_step-upto : (r : System) → IsRotation r → (d : ℕ) → d < darts r
+    → face_step r d ≡ face_upto (next r) (edges r) d
 face_step-upto r is d lt = sym (face_upto-twin (edges r) (next r) d (omega (arith, is.paired)))
 
 -- a vertex has an empty list where no dart stands
-pub bare-stands : (r : System) → IsRotation r → (v : ℕ) → v < r.vertices → (not (stands (vertex_of r) (2 * edges r) v) ≡ true) ↔ IsBare r v
+pub bare-stands : (r : System) → IsRotation r → (v : ℕ) → v < r.vertices
+    → (not (stands (vertex_of r) (2 * edges r) v) ≡ true) ↔ IsBare r v
 bare-stands r is v lt = (λ t. empty t (list_of r v) refl, λ e. ap not (stands_none (vertex_of r) (2 * edges r) v (λ d l h. none d l h e)))
   where
     none : (d : ℕ) → d < 2 * edges r → vertex_of r d ≡ v → list_of r v ≡ [] → ⊥
@@ -68,19 +70,22 @@ FaceCount-faces r is = record {
 }
 
 -- what has one value at the ends of each edge has it at the pairs of the system
-pub Respects-pairs : (r : System) → IsRotation r → {A : Type 0} (g : ℕ → A) → Respects g (ends_upto (vertex_of r) (edges r)) → Respects g (end_pairs r.at)
+pub Respects-pairs : (r : System) → IsRotation r → {A : Type 0} (g : ℕ → A)
+    → Respects g (ends_upto (vertex_of r) (edges r)) → Respects g (end_pairs r.at)
 Respects-pairs r is g same = Respects-from g (end_pairs r.at) (λ e c.
     let h = end_pair_at r.at e c.0 c.1 c.2 in
     ap g (sym h.1) ∙ ends-respects g (vertex_of r) (edges r) c.0 same (omega (arith, h.0, is.paired)) ∙ ap g h.2)
 
 -- and the other way round
-pub pairs-respects : (r : System) → IsRotation r → {A : Type 0} (g : ℕ → A) → Respects g (end_pairs r.at) → Respects g (ends_upto (vertex_of r) (edges r))
+pub pairs-respects : (r : System) → IsRotation r → {A : Type 0} (g : ℕ → A) → Respects g (end_pairs r.at)
+    → Respects g (ends_upto (vertex_of r) (edges r))
 pairs-respects r is g same = Respects-ends g (vertex_of r) (edges r) (λ k lt.
     let h = pair_of_edge r.at k (omega (arith, is.paired)) in
     Respects_at g (end_pairs r.at) (vertex_of r (2 * k), vertex_of r (2 * k + 1)) same (k, h.0, h.1 (vertex_of r (2 * k), vertex_of r (2 * k + 1))))
 
 -- the labels of the pairs of the system are those of the ends of its edges
-pub pair_labels : (r : System) → IsRotation r → (v : ℕ) → labels (end_pairs r.at) v ≡ labels (ends_upto (vertex_of r) (edges r)) v
+pub pair_labels : (r : System) → IsRotation r → (v : ℕ)
+    → labels (end_pairs r.at) v ≡ labels (ends_upto (vertex_of r) (edges r)) v
 pair_labels r is v = equal_labels (end_pairs r.at) (ends_upto (vertex_of r) (edges r))
     (Respects-pairs r is (labels (ends_upto (vertex_of r) (edges r))) (labels-respects (ends_upto (vertex_of r) (edges r))))
     (pairs-respects r is (labels (end_pairs r.at)) (labels-respects (end_pairs r.at))) v
@@ -114,13 +119,16 @@ HasGenusZero-from r is z = record {
 }
 
 -- two darts of one face have one label
-pub face_labels : (r : System) → IsRotation r → (x y : ℕ) → x < darts r → y < darts r → InOneFace r x y → labels (graph (face_upto (next r) (edges r)) (2 * edges r)) x ≡ labels (graph (face_upto (next r) (edges r)) (2 * edges r)) y
+pub face_labels : (r : System) → IsRotation r → (x y : ℕ) → x < darts r → y < darts r → InOneFace r x y
+    → labels (graph (face_upto (next r) (edges r)) (2 * edges r)) x
+    ≡ labels (graph (face_upto (next r) (edges r)) (2 * edges r)) y
 face_labels r is x y ltx lty reach =
     let same : graph (face_step r) (darts r) ≡ graph (face_upto (next r) (edges r)) (2 * edges r) = graph_agree (face_step r) (face_upto (next r) (edges r)) (darts r) (face_step-upto r is) ∙ ap (graph (face_upto (next r) (edges r))) is.paired in
     subst (λ es. labels es x ≡ labels es y) same ((walk (darts r) (face_step r) (face_step-Permutes r is) x y ltx lty).1 reach)
 
 -- Euler's formula with the genus, for each system
-pub genus_of : (r : System) → IsRotation r → (f c : ℕ) → FaceCount r f → ComponentCount r c → (g : ℕ) × (r.vertices + f + 2 * g ≡ edges r + 2 * c)
+pub genus_of : (r : System) → IsRotation r → (f c : ℕ) → FaceCount r f → ComponentCount r c
+    → (g : ℕ) × (r.vertices + f + 2 * g ≡ edges r + 2 * c)
 genus_of r is f c faces components =
     let h = euler_genus r.vertices (2 * edges r) (edges r) (vertex_of r) (next r) (Turns-system r is) (omega arith) in (
       h.0,

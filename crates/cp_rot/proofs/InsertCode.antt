@@ -36,11 +36,13 @@ inserted_other xs i a b {old} {one} lt ne h p =
     ∙ sym (with_behind-append a b (take i xs) (slice_index xs i ∷ [])) ∙ ap (with_behind a b) (sym (take_more xs i 0 lt))
 
 -- a list is the values of a function that tells its items
-pub values_are : {A : Type 0} (z : A) (xs : List A) (n : ℕ) (f : ℕ → A) → length xs ≡ n → ((i : ℕ) → i < n → slice_index_or xs i z ≡ f i) → xs ≡ values n f
+pub values_are : {A : Type 0} (z : A) (xs : List A) (n : ℕ) (f : ℕ → A) → length xs ≡ n
+    → ((i : ℕ) → i < n → slice_index_or xs i z ≡ f i) → xs ≡ values n f
 values_are z xs n f size told = ext_get_or z xs (values n f) (size ∙ sym (length-values n f)) (λ i lt. told i (omega arith) ∙ sym (values_at n f i z (omega arith)))
 
 -- two numbers behind a table of values
-pub values_two_more : (n m : ℕ) (f : ℕ → ℕ) {table at : List ℕ} {a b : ℕ} → m ≡ n + 1 + 1 → table ≡ values n f → a ≡ f n → b ≡ f (n + 1) → at ≡ (table ++ a ∷ []) ++ b ∷ [] → at ≡ values m f
+pub values_two_more : (n m : ℕ) (f : ℕ → ℕ) {table at : List ℕ} {a b : ℕ} → m ≡ n + 1 + 1 → table ≡ values n f → a ≡ f n
+    → b ≡ f (n + 1) → at ≡ (table ++ a ∷ []) ++ b ∷ [] → at ≡ values m f
 values_two_more n m f {table} {at} {a} {b} em e ea eb h =
     let first : table ++ a ∷ [] ≡ values (n + 1) f = values_more n f {ys = table ++ a ∷ []} e ea refl in
     values_more (n + 1) f first eb h ∙ ap (λ k. values k f) (sym em)
@@ -72,7 +74,10 @@ module _ (d f g : ℕ) (at : List ℕ) (lists : List (List ℕ)) (is : IsRotatio
   stand_second = cond-false (eqb (x + 1) x) (slice_index at d) (cond (eqb (x + 1) (x + 1)) (slice_index at f) (slice_index at (x + 1))) (ne_eqb (x + 1) x (λ e. omega arith)) ∙ cond-true (eqb (x + 1) (x + 1)) (slice_index at f) (slice_index at (x + 1)) (eq-eqb (x + 1) (x + 1) refl)
 
   -- the parts with an edge more make the system with it
-  pub edge_is : {at' : List ℕ} {lists' : List (List ℕ)} → g ≡ cond (eqb f d) (length at) f → at' ≡ (at ++ slice_index at d ∷ []) ++ slice_index at f ∷ [] → lists' ≡ values (length lists) (inserted_list lists d (length at) g (length at + 1)) → system_of at' lists' ≡ with_edge (system_of at lists) d f
+  pub edge_is : {at' : List ℕ} {lists' : List (List ℕ)} → g ≡ cond (eqb f d) (length at) f
+      → at' ≡ (at ++ slice_index at d ∷ []) ++ slice_index at f ∷ []
+      → lists' ≡ values (length lists) (inserted_list lists d (length at) g (length at + 1))
+      → system_of at' lists' ≡ with_edge (system_of at lists) d f
   edge_is {at'} {lists'} eg e_at e_lists =
       ap₂ system_of
       (values_two_more x (2 * (length at / 2 + 1)) stand (omega arith) (values_are 0 at x stand is.paired (λ i lt. sym (stand_old i lt))) (sym stand_first) (sym stand_second) e_at)
@@ -80,7 +85,8 @@ module _ (d f g : ℕ) (at : List ℕ) (lists : List (List ℕ)) (is : IsRotatio
       ∙ values_system (length lists) (length at / 2 + 1) stand (inserted_list lists d x (cond (eqb f d) x f) (x + 1))
 
 -- darts d and f at one vertex of a system in parts
-module _ (d f : ℕ) (at : List ℕ) (lists : List (List ℕ)) (is : IsRotation (system_of at lists)) (ltd : d < length at) (ltf : f < length at) (one : slice_index at f ≡ slice_index at d) where
+module _ (d f : ℕ) (at : List ℕ) (lists : List (List ℕ)) (is : IsRotation (system_of at lists)) (ltd : d < length at)
+    (ltf : f < length at) (one : slice_index at f ≡ slice_index at d) where
   -- the system
   abbrev r : System
   r = system_of at lists
@@ -104,13 +110,15 @@ module _ (d f : ℕ) (at : List ℕ) (lists : List (List ℕ)) (is : IsRotation 
       omega (arith, is.paired)
 
   -- the old darts stand as the table says
-  old_vertex : (i : ℕ) → i < 2 * (length at / 2) → expanded_vertex r d f i ≡ moved_at at (row_of d f rest) (length lists) i
+  old_vertex : (i : ℕ) → i < 2 * (length at / 2) → expanded_vertex r d f i ≡ moved_at at (row_of d f rest)
+      (length lists) i
   old_vertex i lt =
       cond-false (eqb i (2 * (length at / 2))) w (cond (eqb i (2 * (length at / 2) + 1)) (length lists) (moved_at at (row_of d f rest) (length lists) i)) (ne_eqb i (2 * (length at / 2)) (λ e. omega arith))
       ∙ cond-false (eqb i (2 * (length at / 2) + 1)) (length lists) (moved_at at (row_of d f rest) (length lists) i) (ne_eqb i (2 * (length at / 2) + 1) (λ e. omega arith))
 
   -- the vertices of the darts are those of the definition
-  vertices_are : {new row : List ℕ} → row ≡ row_of d f rest → HasMoved at row w (length lists) new → new ≡ values (2 * (edges r + 1)) (expanded_vertex r d f)
+  vertices_are : {new row : List ℕ} → row ≡ row_of d f rest → HasMoved at row w (length lists) new
+      → new ≡ values (2 * (edges r + 1)) (expanded_vertex r d f)
   vertices_are {new} {row} e moved =
       values_two_more (2 * edges r) (2 * (edges r + 1)) (expanded_vertex r d f) (omega arith)
       (values_are 0 moved.0 (2 * edges r) (expanded_vertex r d f) (moved.1.size ∙ is.paired)
@@ -118,13 +126,16 @@ module _ (d f : ℕ) (at : List ℕ) (lists : List (List ℕ)) (is : IsRotation 
       (sym (at_first r is d f ltd ltf one)) (sym (at_second r is d f ltd ltf one)) moved.2
 
   -- the lists are those of the definition
-  lists_are : {new : List (List ℕ)} {left moved row others : List ℕ} → others ≡ rest → row ≡ row_of d f rest → left ≡ d ∷ length at ∷ left_of d f others → moved ≡ (length at + 1) ∷ row → new ≡ set lists w left ++ moved ∷ [] → new ≡ values (length lists + 1) (expanded_list r d f)
+  lists_are : {new : List (List ℕ)} {left moved row others : List ℕ} → others ≡ rest → row ≡ row_of d f rest
+      → left ≡ d ∷ length at ∷ left_of d f others → moved ≡ (length at + 1) ∷ row → new ≡ set lists w left ++ moved ∷ []
+      → new ≡ values (length lists + 1) (expanded_list r d f)
   lists_are {new} {left} {moved} {row} {others} eo er el em e =
       values_more (length lists) (expanded_list r d f)
       (values_are [] (set lists w left) (length lists) (expanded_list r d f) (length-set lists w left) told)
       (em ∙ ap₂ (λ n xs. (n + 1) ∷ xs) is.paired er ∙ sym (list_new r is d f ltd ltf one)) e
     where
-      told : (i : ℕ) → i < length lists → slice_index_or (set lists w left) i [] ≡ expanded_list (system_of at lists) d f i
+      told : (i : ℕ) → i < length lists → slice_index_or (set lists w left) i []
+          ≡ expanded_list (system_of at lists) d f i
       told i lt = ⊎_elim
           (λ h. ap (λ q. slice_index_or (set lists w left) q []) h ∙ get_or-set_same lists w left [] (is.placed d ltd)
           ∙ el ∙ ap₂ (λ n xs. d ∷ n ∷ left_of d f xs) is.paired eo ∙ sym (list_old r is d f ltd ltf one) ∙ ap (expanded_list r d f) (sym h))
@@ -132,7 +143,10 @@ module _ (d f : ℕ) (at : List ℕ) (lists : List (List ℕ)) (is : IsRotation 
           (cases_eq i w)
 
   -- the parts make the expanded system
-  pub expanded_is : {new_at : List ℕ} {new_lists : List (List ℕ)} {left moved row others : List ℕ} → others ≡ rest → row ≡ row_of d f rest → left ≡ d ∷ length at ∷ left_of d f others → moved ≡ (length at + 1) ∷ row → HasMoved at row w (length lists) new_at → new_lists ≡ set lists w left ++ moved ∷ [] → system_of new_at new_lists ≡ expanded r d f
+  pub expanded_is : {new_at : List ℕ} {new_lists : List (List ℕ)} {left moved row others : List ℕ} → others ≡ rest
+      → row ≡ row_of d f rest → left ≡ d ∷ length at ∷ left_of d f others → moved ≡ (length at + 1) ∷ row
+      → HasMoved at row w (length lists) new_at → new_lists ≡ set lists w left ++ moved ∷ []
+      → system_of new_at new_lists ≡ expanded r d f
   expanded_is {new_at} {new_lists} {left} {moved} {row} {others} eo er el em e_at e_lists =
       ap₂ system_of (vertices_are er e_at) (lists_are eo er el em e_lists)
       ∙ values_system (length lists + 1) (edges r + 1) (expanded_vertex r d f) (expanded_list r d f)

@@ -22,7 +22,9 @@ pub follow_single : (b : ℕ) → follow (b ∷ []) b ≡ b
 follow_single b = rw (eq-eqb b b refl) refl
 
 -- with b directly behind a, where h tells what comes behind the items before
-pub put_follow : (h : ℕ → ℕ) (a b : ℕ) (us ws : List ℕ) → Distinct (us ++ a ∷ b ∷ ws) → ((z : ℕ) → Has z (us ++ a ∷ ws) → follow (us ++ a ∷ ws) z ≡ h z) → (z : ℕ) → Has z (us ++ a ∷ b ∷ ws) → follow (us ++ a ∷ b ∷ ws) z ≡ put h b a z
+pub put_follow : (h : ℕ → ℕ) (a b : ℕ) (us ws : List ℕ) → Distinct (us ++ a ∷ b ∷ ws)
+    → ((z : ℕ) → Has z (us ++ a ∷ ws) → follow (us ++ a ∷ ws) z ≡ h z) → (z : ℕ) → Has z (us ++ a ∷ b ∷ ws)
+    → follow (us ++ a ∷ b ∷ ws) z ≡ put h b a z
 put_follow h a b us ws dis same z has =
     ⊎_elim
     (λ e. ap (follow (us ++ a ∷ b ∷ ws)) e ∙ law.behind_first ∙ follow_single b ∙ sym (put_behind h b a z e))
@@ -47,12 +49,14 @@ with_behind_lacks a b [] l = refl
 with_behind_lacks a b (x ∷ xs) l = rw (ne_eqb x a l.0) (ap (λ ys. x ∷ ys) (with_behind_lacks a b xs l.1))
 
 -- behind an item between two parts
-pub with_behind_middle : (a b : ℕ) (us ws : List ℕ) → Lacks a us → Lacks a ws → with_behind a b (us ++ a ∷ ws) ≡ us ++ a ∷ b ∷ ws
+pub with_behind_middle : (a b : ℕ) (us ws : List ℕ) → Lacks a us → Lacks a ws
+    → with_behind a b (us ++ a ∷ ws) ≡ us ++ a ∷ b ∷ ws
 with_behind_middle a b [] ws lu lw = rw (eq-eqb a a refl) (ap (λ ys. a ∷ b ∷ ys) (with_behind_lacks a b ws lw))
 with_behind_middle a b (x ∷ us) ws lu lw = rw (ne_eqb x a lu.0) (ap (λ ys. x ∷ ys) (with_behind_middle a b us ws lu.1 lw))
 
 -- an item that is not there is put in, and all items stay distinct
-pub Distinct-insert : (a b : ℕ) (us ws : List ℕ) → Distinct (us ++ a ∷ ws) → Lacks b (us ++ a ∷ ws) → Distinct (us ++ a ∷ b ∷ ws)
+pub Distinct-insert : (a b : ℕ) (us ws : List ℕ) → Distinct (us ++ a ∷ ws) → Lacks b (us ++ a ∷ ws)
+    → Distinct (us ++ a ∷ b ∷ ws)
 Distinct-insert a b us ws dis l =
     let apart : Distinct ((us ++ a ∷ []) ++ ws) = subst Distinct (sym (append_assoc us (a ∷ []) ws)) dis in
     let lacks : Lacks b (ws ++ (us ++ a ∷ [])) = Lacks-from b (ws ++ (us ++ a ∷ [])) (λ h. has_lacks b (us ++ a ∷ ws) (subst (Has b) (append_assoc us (a ∷ []) ws) (Has-turn b ws (us ++ a ∷ []) h)) l) in
@@ -60,7 +64,8 @@ Distinct-insert a b us ws dis l =
     subst Distinct (append_assoc us (a ∷ []) (b ∷ ws)) (Distinct-turn (b ∷ ws) (us ++ a ∷ []) more)
 
 -- a list that holds a, with b put in behind it
-pub with_behind_parts : (a b : ℕ) (xs : List ℕ) → Distinct xs → Has a xs → with_behind a b xs ≡ before a xs ++ a ∷ b ∷ behind a xs
+pub with_behind_parts : (a b : ℕ) (xs : List ℕ) → Distinct xs → Has a xs
+    → with_behind a b xs ≡ before a xs ++ a ∷ b ∷ behind a xs
 with_behind_parts a b xs dis h =
     let out = Distinct-middle a (before a xs) (behind a xs) (subst Distinct (around_item a xs h) dis) in
     ap (with_behind a b) (around_item a xs h) ∙ with_behind_middle a b (before a xs) (behind a xs) out.0 out.1
@@ -155,7 +160,8 @@ module _ (v n d : ℕ) (at : ℕ → ℕ) (lists : ℕ → List ℕ) (l : Listed
       ap (λ xs. follow xs y) (list_other (at y) (l.placed y k) ne) ∙ sym (put_other (turn at lists) n d y (λ f. ne (ap at f)) not_new))
       (cases_eq (at y) u)
     where
-      same : (z : ℕ) → Has z (before d (lists u) ++ d ∷ behind d (lists u)) → follow (before d (lists u) ++ d ∷ behind d (lists u)) z ≡ turn at lists z
+      same : (z : ℕ) → Has z (before d (lists u) ++ d ∷ behind d (lists u))
+          → follow (before d (lists u) ++ d ∷ behind d (lists u)) z ≡ turn at lists z
       same z h =
           let old : Has z (lists u) = subst (Has z) (sym list_before) h in
           ap (λ xs. follow xs z) (sym list_before) ∙ ap (λ x. follow (lists x) z) (sym (l.item u z u_below old).1)
@@ -240,7 +246,8 @@ module _ (r : System) (is : IsRotation r) (d f : ℕ) (ltd : d < darts r) (ltf :
   IsRotation-with_edge = IsRotation-system r.vertices (edges r + 1) at (λ v. with_behind g y (with_behind d x (list_of r v))) Listed-with_edge
 
   -- what is behind its darts
-  pub with_edge_turn : (z : ℕ) → z < 2 * (edges r + 1) → turn at (λ v. with_behind g y (with_behind d x (list_of r v))) z ≡ put_edge (edges r) d f (next r) z
+  pub with_edge_turn : (z : ℕ) → z < 2 * (edges r + 1)
+      → turn at (λ v. with_behind g y (with_behind d x (list_of r v))) z ≡ put_edge (edges r) d f (next r) z
   with_edge_turn z lt =
       turn-put r.vertices y g at (λ v. with_behind d x (list_of r v)) one_dart' g_stands.0 (at_second ∙ sym g_stands.1) z (omega arith)
       ∙ put-agree (turn at (λ v. with_behind d x (list_of r v))) (put (next r) x d) y g z (λ ne. first_turn z (omega arith)) (first_turn g g_stands.0)

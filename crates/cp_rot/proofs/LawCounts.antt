@@ -27,7 +27,8 @@ pub components_are : (r : System) → IsRotation r → (c : ℕ) → ComponentCo
 components_are r is c count = ComponentCount-unique r c (components_of r) count (ComponentCount-components r is)
 
 -- a system with new numbers
-module _ (r s : System) (h back k undo : ℕ → ℕ) (is : IsRotation r) (is' : IsRotation s) (ren : IsRenamed r s h back k undo) where
+module _ (r s : System) (h back k undo : ℕ → ℕ) (is : IsRotation r) (is' : IsRotation s)
+    (ren : IsRenamed r s h back k undo) where
   -- is one by its functions
   renames : Renames r.vertices (edges r) h back k undo (vertex_of r) (next r) (vertex_of s) (next s)
   renames = record {
@@ -45,7 +46,8 @@ module _ (r s : System) (h back k undo : ℕ → ℕ) (is : IsRotation r) (is' :
   same_edges = ap (λ (n : ℕ). n / 2) ren.size
 
   -- it has as many faces and components
-  pub renamed_counts : (f c g b : ℕ) → FaceCount r f → ComponentCount r c → FaceCount s g → ComponentCount s b → (g ≡ f) × (b ≡ c)
+  pub renamed_counts : (f c g b : ℕ) → FaceCount r f → ComponentCount r c → FaceCount s g → ComponentCount s b
+      → (g ≡ f) × (b ≡ c)
   renamed_counts f c g b faces_r components_r faces_s components_s = (
     faces_are s is' g faces_s ∙ ap₂ (λ v e. faces v e (vertex_of s) (next s)) ren.vertices same_edges
         ∙ faces-renamed r.vertices (edges r) h back k undo (vertex_of r) (next r) (vertex_of s) (next s) (Turns-system r is) renames ∙ sym (faces_are r is f faces_r),
@@ -54,7 +56,8 @@ module _ (r s : System) (h back k undo : ℕ → ℕ) (is : IsRotation r) (is' :
   )
 
 -- two systems side by side
-module _ (r s t : System) (is_r : IsRotation r) (is_s : IsRotation s) (is_t : IsRotation t) (both : IsSideBySide r s t) where
+module _ (r s t : System) (is_r : IsRotation r) (is_s : IsRotation s) (is_t : IsRotation t)
+    (both : IsSideBySide r s t) where
   -- the edges add up
   edges_add : edges t ≡ edges r + edges s
   edges_add = omega (arith, both.size, is_r.paired, is_s.paired, is_t.paired)
@@ -72,7 +75,8 @@ module _ (r s t : System) (is_r : IsRotation r) (is_s : IsRotation s) (is_t : Is
   follows d lt = ap (λ n. next t (n + d)) (sym is_r.paired) ∙ both.follow_second d (omega (arith, is_s.paired)) ∙ ap (λ n. n + next s d) is_r.paired
 
   -- the numbers of faces and components add up
-  pub side_by_side_counts : (f c g b h a : ℕ) → FaceCount r f → ComponentCount r c → FaceCount s g → ComponentCount s b → FaceCount t h → ComponentCount t a → (h ≡ f + g) × (a ≡ c + b)
+  pub side_by_side_counts : (f c g b h a : ℕ) → FaceCount r f → ComponentCount r c → FaceCount s g → ComponentCount s b
+      → FaceCount t h → ComponentCount t a → (h ≡ f + g) × (a ≡ c + b)
   side_by_side_counts f c g b h a faces_r components_r faces_s components_s faces_t components_t = (
     faces_are t is_t h faces_t ∙ ap₂ (λ v e. faces v e (vertex_of t) (next t)) both.vertices edges_add
         ∙ faces-beside r.vertices (edges r) s.vertices (edges s) (vertex_of t) (next t) (vertex_of s) (next s) first (Turns-system s is_s) stand follows
@@ -87,7 +91,8 @@ module _ (r s t : System) (is_r : IsRotation r) (is_s : IsRotation s) (is_t : Is
   )
 
 -- an edge whose two darts stand side by side
-module _ (r : System) (is : IsRotation r) (e : ℕ) (lt : e < edges r) (side : (next r (2 * e) ≡ 2 * e + 1) ⊎ (next r (2 * e + 1) ≡ 2 * e)) where
+module _ (r : System) (is : IsRotation r) (e : ℕ) (lt : e < edges r)
+    (side : (next r (2 * e) ≡ 2 * e + 1) ⊎ (next r (2 * e + 1) ≡ 2 * e)) where
   -- the number of the others
   abbrev m : ℕ
   m = edges r - 1
@@ -101,7 +106,8 @@ module _ (r : System) (is : IsRotation r) (e : ℕ) (lt : e < edges r) (side : (
   behind = renamed_next (exchange e m) (exchange e m) (next r)
 
   -- the numbers are new numbers
-  numbers : Renames r.vertices (suc m) (λ x. x) (λ x. x) (on_edges (exchange e m)) (on_edges (exchange e m)) (vertex_of r) (next r) at behind
+  numbers : Renames r.vertices (suc m) (λ x. x) (λ x. x) (on_edges (exchange e m)) (on_edges (exchange e m))
+      (vertex_of r) (next r) at behind
   numbers = Renames-edges r.vertices (suc m) (exchange e m) (exchange e m) (vertex_of r) (next r) (whole_turns r is e lt) (Renumbers-exchange (suc m) e m (omega arith) (omega arith))
 
   -- it is a rotation
@@ -125,7 +131,8 @@ module _ (r : System) (is : IsRotation r) (e : ℕ) (lt : e < edges r) (side : (
   new_second = on_edges_odd (exchange e m) e ∙ ap (λ (x : ℕ). 2 * x + 1) (exchange_left e m e refl)
 
   -- the two darts lie in one face where they are on no edge
-  one_label : labels (graph (face_upto behind m) (2 * suc m)) (2 * m) ≡ labels (graph (face_upto behind m) (2 * suc m)) (2 * m + 1)
+  one_label : labels (graph (face_upto behind m) (2 * suc m)) (2 * m) ≡ labels (graph (face_upto behind m) (2 * suc m))
+      (2 * m + 1)
   one_label = ⊎_elim
       (λ h. label_step (face_upto behind m) (2 * suc m) (2 * m) (omega arith)
       ∙ ap (labels (graph (face_upto behind m) (2 * suc m))) (face_upto-past m behind (2 * m) (omega arith) ∙ ap (on_edges (exchange e m)) (ap (next r) old_first ∙ h) ∙ new_second))
@@ -134,7 +141,8 @@ module _ (r : System) (is : IsRotation r) (e : ℕ) (lt : e < edges r) (side : (
       side
 
   -- without it there is one face less, and there are as many components
-  pub loop_counts : (f c g b : ℕ) → FaceCount r f → ComponentCount r c → FaceCount (deleted r e) g → ComponentCount (deleted r e) b → (f ≡ g + 1) × (c ≡ b)
+  pub loop_counts : (f c g b : ℕ) → FaceCount r f → ComponentCount r c → FaceCount (deleted r e) g
+      → ComponentCount (deleted r e) b → (f ≡ g + 1) × (c ≡ b)
   loop_counts f c g b faces_r components_r faces_s components_s =
       let law = insert-faces r.vertices m at behind turns one_label in
       let whole : edges r ≡ suc m = omega arith in

@@ -23,7 +23,8 @@ values_at (suc n) f i z lt =
     (cases_eq i n)
 
 -- a loop's step: one value more
-pub values_more : {A : Type 0} (n : ℕ) (f : ℕ → A) {xs ys : List A} {x : A} → xs ≡ values n f → x ≡ f n → ys ≡ xs ++ x ∷ [] → ys ≡ values (n + 1) f
+pub values_more : {A : Type 0} (n : ℕ) (f : ℕ → A) {xs ys : List A} {x : A} → xs ≡ values n f → x ≡ f n
+    → ys ≡ xs ++ x ∷ [] → ys ≡ values (n + 1) f
 values_more n f {xs} {ys} {x} e g h =
     let more : suc n ≡ n + 1 = omega arith in
     h ∙ ap₂ (λ us y. us ++ y ∷ []) e g ∙ ap (λ m. values m f) more
@@ -60,7 +61,8 @@ head_or-map t z [] = refl
 head_or-map t z (x ∷ xs) = refl
 
 -- behind an image comes the image of what is behind
-next_from-map : (t : ℕ → ℕ) → Twice t → (first d : ℕ) (xs : List ℕ) → next_from (t first) (map t xs) (t d) ≡ t (next_from first xs d)
+next_from-map : (t : ℕ → ℕ) → Twice t → (first d : ℕ) (xs : List ℕ)
+    → next_from (t first) (map t xs) (t d) ≡ t (next_from first xs d)
 next_from-map t twice first d [] = refl
 next_from-map t twice first d (x ∷ xs) =
     ⊎_elim

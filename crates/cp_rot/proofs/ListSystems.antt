@@ -26,7 +26,8 @@ abbrev pub turn : (ℕ → ℕ) → (ℕ → List ℕ) → ℕ → ℕ
 turn at lists d = follow (lists (at d)) d
 
 -- the lists hold exactly the darts
-pub Listed-exact : (v n : ℕ) (at : ℕ → ℕ) (lists : ℕ → List ℕ) → Listed v n at lists → (x : ℕ) → x < v → Exactly n (λ d. eqb (at d) x) (lists x)
+pub Listed-exact : (v n : ℕ) (at : ℕ → ℕ) (lists : ℕ → List ℕ) → Listed v n at lists → (x : ℕ) → x < v
+    → Exactly n (λ d. eqb (at d) x) (lists x)
 Listed-exact v n at lists l x lt = Exactly-from n (λ d. eqb (at d) x) (lists x) (l.distinct x lt)
     (λ d h. let w = l.item x d lt h in (w.0, eq-eqb (at d) x w.1))
     (λ d ltd t. subst (λ y. Has d (lists y)) (eqb-true (at d) x t) (l.own d ltd))
@@ -45,11 +46,13 @@ Listed-system r is = record {
 }
 
 -- the same where the darts are counted by edges
-pub Listed-edges : (r : System) (e : ℕ) → IsRotation r → edges r ≡ e → Listed r.vertices (2 * e) (vertex_of r) (list_of r)
+pub Listed-edges : (r : System) (e : ℕ) → IsRotation r → edges r ≡ e
+    → Listed r.vertices (2 * e) (vertex_of r) (list_of r)
 Listed-edges r e is same = subst (λ n. Listed r.vertices n (vertex_of r) (list_of r)) (is.paired ∙ ap (λ (k : ℕ). 2 * k) same) (Listed-system r is)
 
 -- functions that agree give the same systems
-pub Listed-agree : (v n : ℕ) (at at' : ℕ → ℕ) (lists lists' : ℕ → List ℕ) → ((d : ℕ) → d < n → at d ≡ at' d) → ((x : ℕ) → x < v → lists x ≡ lists' x) → Listed v n at lists → Listed v n at' lists'
+pub Listed-agree : (v n : ℕ) (at at' : ℕ → ℕ) (lists lists' : ℕ → List ℕ) → ((d : ℕ) → d < n → at d ≡ at' d)
+    → ((x : ℕ) → x < v → lists x ≡ lists' x) → Listed v n at lists → Listed v n at' lists'
 Listed-agree v n at at' lists lists' same_at same_list l = record {
   placed = λ d lt. subst (λ y. y < v) (same_at d lt) (l.placed d lt);
   distinct = λ x lt. subst Distinct (same_list x lt) (l.distinct x lt);
@@ -58,15 +61,19 @@ Listed-agree v n at at' lists lists' same_at same_list l = record {
 }
 
 -- and the same darts behind darts
-pub turn-agree : (v n : ℕ) (at at' : ℕ → ℕ) (lists lists' : ℕ → List ℕ) → ((d : ℕ) → d < n → at d ≡ at' d) → ((x : ℕ) → x < v → lists x ≡ lists' x) → Listed v n at lists → (d : ℕ) → d < n → turn at lists d ≡ turn at' lists' d
+pub turn-agree : (v n : ℕ) (at at' : ℕ → ℕ) (lists lists' : ℕ → List ℕ) → ((d : ℕ) → d < n → at d ≡ at' d)
+    → ((x : ℕ) → x < v → lists x ≡ lists' x) → Listed v n at lists → (d : ℕ) → d < n
+    → turn at lists d ≡ turn at' lists' d
 turn-agree v n at at' lists lists' same_at same_list l d lt = ap (λ xs. follow xs d) (same_list (at d) (l.placed d lt) ∙ ap lists' (same_at d lt))
 
 -- a system of functions has the vertices of its darts
-pub system_at : (v e : ℕ) (at : ℕ → ℕ) (lists : ℕ → List ℕ) (d : ℕ) → d < 2 * e → vertex_of (system v e at lists) d ≡ at d
+pub system_at : (v e : ℕ) (at : ℕ → ℕ) (lists : ℕ → List ℕ) (d : ℕ) → d < 2 * e
+    → vertex_of (system v e at lists) d ≡ at d
 system_at v e at lists d lt = values_at (2 * e) at d 0 lt
 
 -- and the lists of its vertices
-pub system_list : (v e : ℕ) (at : ℕ → ℕ) (lists : ℕ → List ℕ) (x : ℕ) → x < v → list_of (system v e at lists) x ≡ lists x
+pub system_list : (v e : ℕ) (at : ℕ → ℕ) (lists : ℕ → List ℕ) (x : ℕ) → x < v
+    → list_of (system v e at lists) x ≡ lists x
 system_list v e at lists x lt = values_at v lists x [] lt
 
 -- it has e edges
@@ -74,7 +81,8 @@ pub system-edges : (v e : ℕ) (at : ℕ → ℕ) (lists : ℕ → List ℕ) →
 system-edges v e at lists = omega (arith, length-values (2 * e) at)
 
 -- it is a rotation system
-pub IsRotation-system : (v e : ℕ) (at : ℕ → ℕ) (lists : ℕ → List ℕ) → Listed v (2 * e) at lists → IsRotation (system v e at lists)
+pub IsRotation-system : (v e : ℕ) (at : ℕ → ℕ) (lists : ℕ → List ℕ) → Listed v (2 * e) at lists
+    → IsRotation (system v e at lists)
 IsRotation-system v e at lists l = record {
   paired = omega (arith, length-values (2 * e) at);
   placed = λ d lt. l'.placed d (omega (arith, lt, length-values (2 * e) at));
@@ -86,24 +94,30 @@ IsRotation-system v e at lists l = record {
     l' = Listed-agree v (2 * e) at (vertex_of (system v e at lists)) lists (list_of (system v e at lists)) (λ d lt. sym (system_at v e at lists d lt)) (λ x lt. sym (system_list v e at lists x lt)) l
 
 -- its dart behind a dart
-pub system_next : (v e : ℕ) (at : ℕ → ℕ) (lists : ℕ → List ℕ) → Listed v (2 * e) at lists → (d : ℕ) → d < 2 * e → next (system v e at lists) d ≡ turn at lists d
+pub system_next : (v e : ℕ) (at : ℕ → ℕ) (lists : ℕ → List ℕ) → Listed v (2 * e) at lists → (d : ℕ) → d < 2 * e
+    → next (system v e at lists) d ≡ turn at lists d
 system_next v e at lists l d lt =
     next-follow (system v e at lists) (IsRotation-system v e at lists l) d (omega (arith, length-values (2 * e) at))
     ∙ ap (λ xs. follow xs d) (ap (list_of (system v e at lists)) (system_at v e at lists d lt) ∙ system_list v e at lists (at d) (l.placed d lt))
 
 -- genus zero of a system, by functions that agree with its own
-pub HasGenusZero_by : (r : System) (v e : ℕ) (at next' : ℕ → ℕ) → IsRotation r → r.vertices ≡ v → edges r ≡ e → ((d : ℕ) → d < 2 * e → vertex_of r d ≡ at d) → ((d : ℕ) → d < 2 * e → next r d ≡ next' d) → HasGenusZero r ↔ (v + faces v e at next' ≡ e + 2 * components v e at)
+pub HasGenusZero_by : (r : System) (v e : ℕ) (at next' : ℕ → ℕ) → IsRotation r → r.vertices ≡ v → edges r ≡ e
+    → ((d : ℕ) → d < 2 * e → vertex_of r d ≡ at d) → ((d : ℕ) → d < 2 * e → next r d ≡ next' d)
+    → HasGenusZero r ↔ (v + faces v e at next' ≡ e + 2 * components v e at)
 HasGenusZero_by r v e at next' is same_vertices same_edges same_at same_next = (
   λ z. zero-agree v e (vertex_of r) (next r) at next' same_at same_next (subst₂ (λ w k. w + faces w k (vertex_of r) (next r) ≡ k + 2 * components w k (vertex_of r)) same_vertices same_edges (zero_counts r is z)),
   λ z. HasGenusZero-from r is (subst₂ (λ w k. w + faces w k (vertex_of r) (next r) ≡ k + 2 * components w k (vertex_of r)) (sym same_vertices) (sym same_edges) (zero-agree v e at next' (vertex_of r) (next r) (λ d lt. sym (same_at d lt)) (λ d lt. sym (same_next d lt)) z)),
 )
 
 -- genus zero of a system of functions
-pub system_zero : (v e : ℕ) (at : ℕ → ℕ) (lists : ℕ → List ℕ) (next' : ℕ → ℕ) → Listed v (2 * e) at lists → ((d : ℕ) → d < 2 * e → turn at lists d ≡ next' d) → HasGenusZero (system v e at lists) ↔ (v + faces v e at next' ≡ e + 2 * components v e at)
+pub system_zero : (v e : ℕ) (at : ℕ → ℕ) (lists : ℕ → List ℕ) (next' : ℕ → ℕ) → Listed v (2 * e) at lists
+    → ((d : ℕ) → d < 2 * e → turn at lists d ≡ next' d)
+    → HasGenusZero (system v e at lists) ↔ (v + faces v e at next' ≡ e + 2 * components v e at)
 system_zero v e at lists next' l same = HasGenusZero_by (system v e at lists) v e at next' (IsRotation-system v e at lists l) refl (system-edges v e at lists) (system_at v e at lists) (λ d lt. system_next v e at lists l d lt ∙ same d lt)
 
 -- darts with new numbers, where t undoes itself
-module _ (v n : ℕ) (at : ℕ → ℕ) (lists : ℕ → List ℕ) (l : Listed v n at lists) (t : ℕ → ℕ) (twice : Twice t) (below : (d : ℕ) → d < n → t d < n) where
+module _ (v n : ℕ) (at : ℕ → ℕ) (lists : ℕ → List ℕ) (l : Listed v n at lists) (t : ℕ → ℕ) (twice : Twice t)
+    (below : (d : ℕ) → d < n → t d < n) where
   -- vertices and lists are given
   pub Listed-darts : Listed v n (λ d. at (t d)) (λ x. map t (lists x))
   Listed-darts = record {
@@ -118,7 +132,8 @@ module _ (v n : ℕ) (at : ℕ → ℕ) (lists : ℕ → List ℕ) (l : Listed v
   turn-darts d lt = ap (follow (map t (lists (at (t d))))) (sym (twice d)) ∙ follow-map t twice (t d) (lists (at (t d))) (l.own (t d) (below d lt))
 
 -- vertices with new numbers, where t undoes itself
-module _ (v n : ℕ) (at : ℕ → ℕ) (lists : ℕ → List ℕ) (l : Listed v n at lists) (t : ℕ → ℕ) (twice : Twice t) (below : (x : ℕ) → x < v → t x < v) where
+module _ (v n : ℕ) (at : ℕ → ℕ) (lists : ℕ → List ℕ) (l : Listed v n at lists) (t : ℕ → ℕ) (twice : Twice t)
+    (below : (x : ℕ) → x < v → t x < v) where
   -- vertices and lists are given
   pub Listed-vertices : Listed v n (λ d. t (at d)) (λ x. lists (t x))
   Listed-vertices = record {
@@ -166,7 +181,8 @@ module _ (v e : ℕ) (at : ℕ → ℕ) (lists : ℕ → List ℕ) (l : Listed v
   Listed-drop_edge = Listed-but v (2 * e) at (λ x. but (2 * e + 1) (lists x)) first_left
 
   -- the darts behind darts
-  pub turn-drop_edge : (d : ℕ) → d < 2 * e → turn at (λ x. but (2 * e) (but (2 * e + 1) (lists x))) d ≡ drop_edge e (turn at lists) d
+  pub turn-drop_edge : (d : ℕ) → d < 2 * e → turn at (λ x. but (2 * e) (but (2 * e + 1) (lists x))) d
+      ≡ drop_edge e (turn at lists) d
   turn-drop_edge d lt =
       turn-but v (2 * e) at (λ x. but (2 * e + 1) (lists x)) first_left d lt
       ∙ ap₂ (λ (a b : ℕ). cond (eqb a (2 * e)) b a) (turn-but v (2 * e + 1) at lists counted d (omega arith)) (turn-but v (2 * e + 1) at lists counted (2 * e) (omega arith))

@@ -17,7 +17,8 @@ abbrev pub turned : ℕ → List ℕ → List ℕ
 turned b ys = (behind b ys ++ before b ys) ++ b ∷ []
 
 -- two lists without a common item, a in the first and b in the second
-module _ (a b : ℕ) (xs ys : List ℕ) (dx : Distinct xs) (dy : Distinct ys) (ha : Has a xs) (hb : Has b ys) (apart : (d : ℕ) → Has d xs → Lacks d ys) where
+module _ (a b : ℕ) (xs ys : List ℕ) (dx : Distinct xs) (dy : Distinct ys) (ha : Has a xs) (hb : Has b ys)
+    (apart : (d : ℕ) → Has d xs → Lacks d ys) where
   -- the first list up to a
   abbrev front : List ℕ
   front = before a xs ++ a ∷ []
@@ -107,7 +108,8 @@ module _ (a b : ℕ) (xs ys : List ℕ) (dx : Distinct xs) (dy : Distinct ys) (h
   spliced_in_second d h ne = merge_law.in_second d (to_turned d h) ne ∙ turned_follow d h
 
 -- vertex v, the last, made one with u, where dart a stands at u and dart b at v
-module _ (v n : ℕ) (at : ℕ → ℕ) (lists : ℕ → List ℕ) (l : Listed (suc v) n at lists) (a b u : ℕ) (lta : a < n) (ltb : b < n) (ea : at a ≡ u) (eb : at b ≡ v) (lt : u < v) where
+module _ (v n : ℕ) (at : ℕ → ℕ) (lists : ℕ → List ℕ) (l : Listed (suc v) n at lists) (a b u : ℕ) (lta : a < n)
+    (ltb : b < n) (ea : at a ≡ u) (eb : at b ≡ v) (lt : u < v) where
   -- the new lists
   abbrev pub new_list : ℕ → List ℕ
   new_list x = cond (eqb x u) (spliced a b (lists x) (lists v)) (lists x)
@@ -141,7 +143,9 @@ module _ (v n : ℕ) (at : ℕ → ℕ) (lists : ℕ → List ℕ) (l : Listed (
   list_other x ne = cond-false (eqb x u) (spliced a b (lists x) (lists v)) (lists x) (ne_eqb x u ne)
 
   -- a dart stood at v, at u, or at another vertex, where its list is the old one
-  stand_cases : (P : ℕ → List ℕ → Type 0) (d : ℕ) → (at d ≡ v → P u (spliced a b (lists u) (lists v))) → (at d ≡ u → P u (spliced a b (lists u) (lists v))) → ((at d ≡ u → ⊥) → P (at d) (lists (at d))) → P (joined u v (at d)) (new_list (joined u v (at d)))
+  stand_cases : (P : ℕ → List ℕ → Type 0) (d : ℕ) → (at d ≡ v → P u (spliced a b (lists u) (lists v)))
+      → (at d ≡ u → P u (spliced a b (lists u) (lists v))) → ((at d ≡ u → ⊥) → P (at d) (lists (at d)))
+      → P (joined u v (at d)) (new_list (joined u v (at d)))
   stand_cases P d last first other =
       ⊎_elim
       (λ e. subst (λ x. P x (new_list x)) (sym (joined_at u v (at d) e)) (subst (P u) (sym list_u) (last e)))

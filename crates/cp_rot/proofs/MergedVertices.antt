@@ -38,7 +38,8 @@ eqb-exchange u v w x = same_tests (eqb x (exchange w v u)) (eqb (exchange w v x)
     (λ t. eq-eqb x (exchange w v u) (sym (exchange-exchange w v x) ∙ ap (exchange w v) (eqb-true (exchange w v x) u t)))
 
 -- darts d and f at different vertices
-module _ (r : System) (is : IsRotation r) (d f : ℕ) (ltd : d < darts r) (ltf : f < darts r) (apart : vertex_of r d ≢ vertex_of r f) where
+module _ (r : System) (is : IsRotation r) (d f : ℕ) (ltd : d < darts r) (ltf : f < darts r)
+    (apart : vertex_of r d ≢ vertex_of r f) where
   -- the number of vertices that are left
   abbrev pub last : ℕ
   last = r.vertices - 1
@@ -113,11 +114,13 @@ module _ (r : System) (is : IsRotation r) (d f : ℕ) (ltd : d < darts r) (ltf :
       ∙ ap (λ z. cond (eqb (exchange w last x) u) (spliced d f (list_of r (exchange w last x)) (list_of r z)) (list_of r (exchange w last x))) (exchange_right w last last refl)
 
   -- the vertices are those of the definition
-  same_at : (y : ℕ) → joined u_after last (exchange w last (vertex_of r y)) ≡ renumbered_vertex r w (joined u w (vertex_of r y))
+  same_at : (y : ℕ) → joined u_after last (exchange w last (vertex_of r y))
+      ≡ renumbered_vertex r w (joined u w (vertex_of r y))
   same_at y = sym (exchange-joined u last w (vertex_of r y))
 
   -- the functions of the result
-  pub Listed-merged : Listed last (2 * edges r) (λ y. renumbered_vertex r w (joined u w (vertex_of r y))) (λ x. merged_list r d f (renumbered_vertex r w x))
+  pub Listed-merged : Listed last (2 * edges r) (λ y. renumbered_vertex r w (joined u w (vertex_of r y)))
+      (λ x. merged_list r d f (renumbered_vertex r w x))
   Listed-merged = Listed-agree last (2 * edges r) (λ y. joined u_after last (exchange w last (vertex_of r y))) (λ y. renumbered_vertex r w (joined u w (vertex_of r y))) lists_after (λ x. merged_list r d f (renumbered_vertex r w x)) (λ y l. same_at y) (λ x l. same_list x)
       (Listed-joined last (2 * edges r) (λ y. exchange w last (vertex_of r y)) (λ x. list_of r (exchange w last x)) moved d f u_after ltd' ltf' refl second u_after-below)
 
@@ -130,7 +133,8 @@ module _ (r : System) (is : IsRotation r) (d f : ℕ) (ltd : d < darts r) (ltf :
   merged-edges = system-edges last (edges r) (λ y. renumbered_vertex r w (joined u w (vertex_of r y))) (λ x. merged_list r d f (renumbered_vertex r w x))
 
   -- where its darts stand
-  pub merged_at : (y : ℕ) → y < 2 * edges r → vertex_of (merged r d f) y ≡ joined (exchange w last u) last (exchange w last (vertex_of r y))
+  pub merged_at : (y : ℕ) → y < 2 * edges r → vertex_of (merged r d f) y
+      ≡ joined (exchange w last u) last (exchange w last (vertex_of r y))
   merged_at y l = system_at last (edges r) (λ z. renumbered_vertex r w (joined u w (vertex_of r z))) (λ x. merged_list r d f (renumbered_vertex r w x)) y l ∙ sym (same_at y)
 
   -- what is behind its darts
@@ -144,11 +148,15 @@ module _ (r : System) (is : IsRotation r) (d f : ℕ) (ltd : d < darts r) (ltf :
       ∙ sym (next-follow r is (exchange d f y) (omega (arith, exchange-below (2 * edges r) d f y ltd' ltf' l, is.paired)))
 
   -- its genus is zero where the functions say so
-  merged_zero_by : HasGenusZero (merged r d f) ↔ (last + faces last (edges r) (λ y. joined (exchange w last u) last (exchange w last (vertex_of r y))) (λ y. next r (exchange d f y)) ≡ edges r + 2 * components last (edges r) (λ y. joined (exchange w last u) last (exchange w last (vertex_of r y))))
+  merged_zero_by : HasGenusZero (merged r d f) ↔ (last + faces last (edges r)
+      (λ y. joined (exchange w last u) last (exchange w last (vertex_of r y)))
+      (λ y. next r (exchange d f y)) ≡ edges r + 2 * components last (edges r)
+      (λ y. joined (exchange w last u) last (exchange w last (vertex_of r y))))
   merged_zero_by = HasGenusZero_by (merged r d f) last (edges r) (λ y. joined (exchange w last u) last (exchange w last (vertex_of r y))) (λ y. next r (exchange d f y)) IsRotation-merged refl merged-edges merged_at merged_next
 
   -- genus zero of the system, by its functions
-  zero_before : HasGenusZero r → suc last + faces (suc last) (edges r) (vertex_of r) (next r) ≡ edges r + 2 * components (suc last) (edges r) (vertex_of r)
+  zero_before : HasGenusZero r → suc last + faces (suc last) (edges r) (vertex_of r) (next r)
+      ≡ edges r + 2 * components (suc last) (edges r) (vertex_of r)
   zero_before z = subst (λ v. v + faces v (edges r) (vertex_of r) (next r) ≡ edges r + 2 * components v (edges r) (vertex_of r)) one_more (zero_counts r is z)
 
   -- within a face genus zero stays
@@ -162,7 +170,8 @@ module _ (r : System) (is : IsRotation r) (d f : ℕ) (ltd : d < darts r) (ltf :
       (λ e. two (connected_labels (end_pairs r.at) u w (pair_labels r is u ∙ e ∙ sym (pair_labels r is w)))) (zero_before z))
 
 -- an edge that is no loop
-module _ (r : System) (is : IsRotation r) (e : ℕ) (lt : e < edges r) (apart : vertex_of r (2 * e) ≢ vertex_of r (2 * e + 1)) where
+module _ (r : System) (is : IsRotation r) (e : ℕ) (lt : e < edges r)
+    (apart : vertex_of r (2 * e) ≢ vertex_of r (2 * e + 1)) where
   -- how many vertices and edges are left
   abbrev last_vertex : ℕ
   last_vertex = r.vertices - 1
@@ -224,14 +233,17 @@ module _ (r : System) (is : IsRotation r) (e : ℕ) (lt : e < edges r) (apart : 
   moved_below d l = on_edges-below (edges r) (exchange e last_edge) (λ x m. exchange-below (edges r) e last_edge x lt (omega arith) m) d l
 
   -- where its darts stand
-  contraction_at : (d : ℕ) → d < 2 * last_edge → vertex_of (contraction r e) d ≡ joined (exchange target last_vertex source) last_vertex (renamed_at (exchange target last_vertex) (exchange e last_edge) (vertex_of r) d)
+  contraction_at : (d : ℕ) → d < 2 * last_edge → vertex_of (contraction r e) d
+      ≡ joined (exchange target last_vertex source) last_vertex (renamed_at (exchange target last_vertex)
+      (exchange e last_edge) (vertex_of r) d)
   contraction_at d l =
       deleted_at one_vertex one_rotation e lt_one d (omega (arith, one_edges))
       ∙ ap (λ (n : ℕ). vertex_of one_vertex (on_edges (exchange e (n - 1)) d)) one_edges
       ∙ merged_at r is (2 * e) (2 * e + 1) lt_first lt_second apart (on_edges (exchange e last_edge) d) (moved_below d (omega arith))
 
   -- exchanging the darts of the edge before or after the edge has the last number
-  conjugated : (d : ℕ) → exchange (2 * e) (2 * e + 1) (on_edges (exchange e last_edge) d) ≡ on_edges (exchange e last_edge) (exchange (2 * last_edge) (2 * last_edge + 1) d)
+  conjugated : (d : ℕ) → exchange (2 * e) (2 * e + 1) (on_edges (exchange e last_edge) d)
+      ≡ on_edges (exchange e last_edge) (exchange (2 * last_edge) (2 * last_edge + 1) d)
   conjugated d =
       exchange_conjugate (on_edges (exchange e last_edge)) (2 * e) (2 * e + 1) d back_again
       ∙ ap₂ (λ a b. on_edges (exchange e last_edge) (exchange a b d))
@@ -239,7 +251,8 @@ module _ (r : System) (is : IsRotation r) (e : ℕ) (lt : e < edges r) (apart : 
       (on_edges_odd (exchange e last_edge) e ∙ ap (λ (x : ℕ). 2 * x + 1) (exchange_left e last_edge e refl))
 
   -- what is behind its darts
-  contraction_next : (d : ℕ) → d < 2 * last_edge → next (contraction r e) d ≡ contracted last_edge (renamed_next (exchange e last_edge) (exchange e last_edge) (next r)) d
+  contraction_next : (d : ℕ) → d < 2 * last_edge → next (contraction r e) d
+      ≡ contracted last_edge (renamed_next (exchange e last_edge) (exchange e last_edge) (next r)) d
   contraction_next d l =
       deleted_next one_vertex one_rotation e lt_one d (omega (arith, one_edges))
       ∙ ap (λ (n : ℕ). drop_edge (n - 1) (renamed_next (exchange e (n - 1)) (exchange e (n - 1)) (next one_vertex)) d) one_edges
@@ -265,11 +278,23 @@ module _ (r : System) (is : IsRotation r) (e : ℕ) (lt : e < edges r) (apart : 
       turns : Turns (suc last_vertex) (suc last_edge) (vertex_of r) (next r)
       turns = subst₂ (λ v n. Turns v n (vertex_of r) (next r)) one_more_vertex one_more_edge (Turns-system r is)
 
-      by_functions : HasGenusZero (contraction r e) ↔ (last_vertex + faces last_vertex last_edge (λ d. joined (exchange target last_vertex source) last_vertex (renamed_at (exchange target last_vertex) (exchange e last_edge) (vertex_of r) d)) (contracted last_edge (renamed_next (exchange e last_edge) (exchange e last_edge) (next r))) ≡ last_edge + 2 * components last_vertex last_edge (λ d. joined (exchange target last_vertex source) last_vertex (renamed_at (exchange target last_vertex) (exchange e last_edge) (vertex_of r) d)))
+      by_functions : HasGenusZero (contraction r e)
+          ↔
+          (last_vertex + faces last_vertex last_edge (λ d. joined (exchange target last_vertex source) last_vertex
+          (renamed_at (exchange target last_vertex) (exchange e last_edge) (vertex_of r) d))
+          (contracted last_edge (renamed_next (exchange e last_edge) (exchange e last_edge) (next r)))
+          ≡ last_edge + 2 * components last_vertex last_edge
+          (λ d. joined (exchange target last_vertex source) last_vertex (renamed_at (exchange target last_vertex)
+          (exchange e last_edge) (vertex_of r) d)))
       by_functions = HasGenusZero_by (contraction r e) last_vertex last_edge (λ d. joined (exchange target last_vertex source) last_vertex (renamed_at (exchange target last_vertex) (exchange e last_edge) (vertex_of r) d)) (contracted last_edge (renamed_next (exchange e last_edge) (exchange e last_edge) (next r))) IsRotation-contraction refl contraction-edges contraction_at contraction_next
 
-      same_faces : faces last_vertex last_edge (λ d. joined (exchange target last_vertex source) last_vertex (renamed_at (exchange target last_vertex) (exchange e last_edge) (vertex_of r) d)) (contracted last_edge (renamed_next (exchange e last_edge) (exchange e last_edge) (next r))) ≡ faces (suc last_vertex) (suc last_edge) (vertex_of r) (next r)
+      same_faces : faces last_vertex last_edge (λ d. joined (exchange target last_vertex source) last_vertex
+          (renamed_at (exchange target last_vertex) (exchange e last_edge) (vertex_of r) d))
+          (contracted last_edge (renamed_next (exchange e last_edge) (exchange e last_edge) (next r)))
+          ≡ faces (suc last_vertex) (suc last_edge) (vertex_of r) (next r)
       same_faces = faces-contracted_edge last_vertex last_edge e source target (vertex_of r) (next r) turns (omega arith) refl refl apart
 
-      same_components : components last_vertex last_edge (λ d. joined (exchange target last_vertex source) last_vertex (renamed_at (exchange target last_vertex) (exchange e last_edge) (vertex_of r) d)) ≡ components (suc last_vertex) (suc last_edge) (vertex_of r)
+      same_components : components last_vertex last_edge
+          (λ d. joined (exchange target last_vertex source) last_vertex (renamed_at (exchange target last_vertex)
+          (exchange e last_edge) (vertex_of r) d)) ≡ components (suc last_vertex) (suc last_edge) (vertex_of r)
       same_components = components-contracted_edge last_vertex last_edge e source target (vertex_of r) (next r) turns (omega arith) refl refl apart

@@ -10,7 +10,8 @@ use Rattle.cp_rot.proofs.Rotations.{in_list, item_stands, next_of_item}
 
 -- behind each of the first i items is written the item behind it; elsewhere the table is as before
 pub record Written (items : List ℕ) (i : ℕ) (before table : List ℕ) : Type 0 where
-  pub written : (j : ℕ) → j < i → slice_index table (slice_index items j) ≡ slice_index items (place_after (length items) j)
+  pub written : (j : ℕ) → j < i → slice_index table (slice_index items j)
+      ≡ slice_index items (place_after (length items) j)
   pub others : (d : ℕ) → ((j : ℕ) → j < i → slice_index items j ≢ d) → slice_index table d ≡ slice_index before d
 
 -- at the start nothing is written
@@ -21,7 +22,9 @@ Written-none items before = record {
 }
 
 -- the item behind the next one is written
-pub Written-more : (items before table : List ℕ) (i d after : ℕ) → EachOnce items → Written items i before table → i < length items → d ≡ slice_index items i → d < length table → after ≡ slice_index items (place_after (length items) i) → Written items (i + 1) before (set table d after)
+pub Written-more : (items before table : List ℕ) (i d after : ℕ) → EachOnce items → Written items i before table
+    → i < length items → d ≡ slice_index items i → d < length table
+    → after ≡ slice_index items (place_after (length items) i) → Written items (i + 1) before (set table d after)
 Written-more items before table i d after once w lt e within f = record {
   written = λ j ltj. ⊎_elim
       (λ g. ap (slice_index (set table d after)) (ap (slice_index items) g ∙ sym e) ∙ get_or-set_same table d after 0 within ∙ f ∙ ap (λ k. slice_index items (place_after (length items) k)) (sym g))
@@ -40,9 +43,12 @@ pub StoredUpto-none : (r : System) (table : List ℕ) → length table ≡ darts
 StoredUpto-none r table size = record { size = size; told = λ d lt none. absurd (omega arith) }
 
 -- the list of the next vertex is written, and nothing else
-pub StoredUpto-more : (r : System) → IsRotation r → (v : ℕ) (table after : List ℕ) → StoredUpto r v table → v < r.vertices → length after ≡ length table
-    → ((i : ℕ) → i < length (list_of r v) → slice_index after (slice_index (list_of r v) i) ≡ slice_index (list_of r v) (place_after (length (list_of r v)) i))
-    → ((d : ℕ) → ((i : ℕ) → i < length (list_of r v) → slice_index (list_of r v) i ≢ d) → slice_index after d ≡ slice_index table d)
+pub StoredUpto-more : (r : System) → IsRotation r → (v : ℕ) (table after : List ℕ) → StoredUpto r v table
+    → v < r.vertices → length after ≡ length table
+    → ((i : ℕ) → i < length (list_of r v) → slice_index after (slice_index (list_of r v) i) ≡ slice_index (list_of r v)
+    (place_after (length (list_of r v)) i))
+    → ((d : ℕ) → ((i : ℕ) → i < length (list_of r v) → slice_index (list_of r v) i ≢ d)
+    → slice_index after d ≡ slice_index table d)
     → StoredUpto r (v + 1) after
 StoredUpto-more r is v table after s ltv size written others = record {
   size = size ∙ s.size;
@@ -54,8 +60,10 @@ StoredUpto-more r is v table after s ltv size written others = record {
 }
 
 -- the same, where the list goes by another name
-pub StoredUpto-list : (r : System) → IsRotation r → (v : ℕ) (table after items : List ℕ) → StoredUpto r v table → v < r.vertices → length after ≡ length table → items ≡ list_of r v
-    → ((i : ℕ) → i < length items → slice_index after (slice_index items i) ≡ slice_index items (place_after (length items) i))
+pub StoredUpto-list : (r : System) → IsRotation r → (v : ℕ) (table after items : List ℕ) → StoredUpto r v table
+    → v < r.vertices → length after ≡ length table → items ≡ list_of r v
+    → ((i : ℕ) → i < length items → slice_index after (slice_index items i)
+    ≡ slice_index items (place_after (length items) i))
     → ((d : ℕ) → ((i : ℕ) → i < length items → slice_index items i ≢ d) → slice_index after d ≡ slice_index table d)
     → StoredUpto r (v + 1) after
 StoredUpto-list r is v table after items s ltv size e =

@@ -40,7 +40,8 @@ pub in_list : (r : System) → IsRotation r → (d : ℕ) → d < darts r → Co
 in_list r is d lt = (is.arranged (vertex_of r d) (is.placed d lt)).all d lt (eq-eqb (vertex_of r d) (vertex_of r d) refl)
 
 -- an item of the list of a vertex is a dart that stands there
-pub item_stands : (r : System) → IsRotation r → (v i : ℕ) → v < r.vertices → i < length (list_of r v) → (slice_index (list_of r v) i < darts r) × (vertex_of r (slice_index (list_of r v) i) ≡ v)
+pub item_stands : (r : System) → IsRotation r → (v i : ℕ) → v < r.vertices → i < length (list_of r v)
+    → (slice_index (list_of r v) i < darts r) × (vertex_of r (slice_index (list_of r v) i) ≡ v)
 item_stands r is v i ltv lti =
     let h = (is.arranged v ltv).each_passes i lti in
     (h.0, eqb-true (vertex_of r (slice_index (list_of r v) i)) v h.1)
@@ -50,17 +51,20 @@ abbrev pub place_in : System → ℕ → ℕ
 place_in r d = place (list_of r (vertex_of r d)) d
 
 -- a dart stands at its place
-pub at_place : (r : System) → IsRotation r → (d : ℕ) → d < darts r → (place_in r d < length (list_of r (vertex_of r d))) × (slice_index (list_of r (vertex_of r d)) (place_in r d) ≡ d)
+pub at_place : (r : System) → IsRotation r → (d : ℕ) → d < darts r
+    → (place_in r d < length (list_of r (vertex_of r d))) × (slice_index (list_of r (vertex_of r d)) (place_in r d) ≡ d)
 at_place r is d lt = place_at (list_of r (vertex_of r d)) d (in_list r is d lt)
 
 -- the dart behind a dart is a dart of the same vertex
-pub next_stands : (r : System) → IsRotation r → (d : ℕ) → d < darts r → (next r d < darts r) × (vertex_of r (next r d) ≡ vertex_of r d)
+pub next_stands : (r : System) → IsRotation r → (d : ℕ) → d < darts r
+    → (next r d < darts r) × (vertex_of r (next r d) ≡ vertex_of r d)
 next_stands r is d lt =
     let xs = list_of r (vertex_of r d) in
     item_stands r is (vertex_of r d) (place_after (length xs) (place_in r d)) (is.placed d lt) (place_after-below (length xs) (place_in r d) (at_place r is d lt).0)
 
 -- in one list of distinct items, two items with one item behind them are equal
-pub next_in-apart : (xs : List ℕ) (c d : ℕ) → EachOnce xs → Contains xs c → Contains xs d → next_in xs c ≡ next_in xs d → c ≡ d
+pub next_in-apart : (xs : List ℕ) (c d : ℕ) → EachOnce xs → Contains xs c → Contains xs d → next_in xs c ≡ next_in xs d
+    → c ≡ d
 next_in-apart xs c d once hc hd e =
     let pc = place_at xs c hc in
     let pd = place_at xs d hd in
@@ -82,7 +86,8 @@ face_step-Permutes r is = record {
 }
 
 -- the dart behind the item at place i stands at the place behind it
-pub next_of_item : (r : System) → IsRotation r → (v i : ℕ) → v < r.vertices → i < length (list_of r v) → next r (slice_index (list_of r v) i) ≡ slice_index (list_of r v) (place_after (length (list_of r v)) i)
+pub next_of_item : (r : System) → IsRotation r → (v i : ℕ) → v < r.vertices → i < length (list_of r v)
+    → next r (slice_index (list_of r v) i) ≡ slice_index (list_of r v) (place_after (length (list_of r v)) i)
 next_of_item r is v i ltv lti =
     ap (λ w. next_in (list_of r w) (slice_index (list_of r v) i)) (item_stands r is v i ltv lti).1
     ∙ ap (λ k. slice_index (list_of r v) (place_after (length (list_of r v)) k)) (place_is (list_of r v) i (slice_index (list_of r v) i) (is.arranged v ltv).each_once lti refl)

@@ -31,7 +31,8 @@ was_marked marks i x is_in =
     ⊎_elim inr (λ ne. inl (sym (get_or-set_other marks i x true false ne) ∙ is_in)) (cases_eq x i)
 
 -- a new mark leaves one number less unmarked
-pub unmarked_below-set : (n : ℕ) (marks : List Bool) (i : ℕ) → i < n → i < length marks → IsUnmarked marks i → unmarked_below n marks ≡ suc (unmarked_below n (set marks i true))
+pub unmarked_below-set : (n : ℕ) (marks : List Bool) (i : ℕ) → i < n → i < length marks → IsUnmarked marks i
+    → unmarked_below n marks ≡ suc (unmarked_below n (set marks i true))
 unmarked_below-set n marks i lt within is_out =
     count_without n free i lt (ap not is_out) ∙ ap suc (count_agree n (without free i) free_after (λ x ltx. agree x))
   where
@@ -68,7 +69,8 @@ Walked-start r d marks lt = record {
 }
 
 -- one step more
-pub Walked-more : (r : System) (d : ℕ) (before marks : List Bool) (x y : ℕ) → Walked r d before marks x → x < length marks → y ≡ face_step r x → y < darts r → Walked r d before (set marks x true) y
+pub Walked-more : (r : System) (d : ℕ) (before marks : List Bool) (x y : ℕ) → Walked r d before marks x
+    → x < length marks → y ≡ face_step r x → y < darts r → Walked r d before (set marks x true) y
 Walked-more r d before marks x y w within e lt = record {
   steps = suc w.steps;
   here = iterate-after (face_step r) w.steps d ∙ ap (face_step r) w.here ∙ sym e;
@@ -85,7 +87,8 @@ Walked-more r d before marks x y w within e lt = record {
 }
 
 -- where the step behind the last passed dart is passed already, all that is reached is passed
-pub passed_all : (f : ℕ → ℕ) (d steps : ℕ) → ((j : ℕ) × (j < steps) × (iterate f j d ≡ iterate f steps d)) → (k : ℕ) → (j : ℕ) × (j < steps) × (iterate f j d ≡ iterate f k d)
+pub passed_all : (f : ℕ → ℕ) (d steps : ℕ) → ((j : ℕ) × (j < steps) × (iterate f j d ≡ iterate f steps d)) → (k : ℕ)
+    → (j : ℕ) × (j < steps) × (iterate f j d ≡ iterate f k d)
 passed_all f d steps closing zero = (0, omega (arith, closing.1), refl)
 passed_all f d steps closing (suc k) =
     let p = passed_all f d steps closing k in
@@ -96,7 +99,9 @@ passed_all f d steps closing (suc k) =
     (cases_eq (suc p.0) steps)
 
 -- where the walk comes to a marked dart, it has passed the whole face
-pub Walked-end : (r : System) (d : ℕ) (before marks : List Bool) (x : ℕ) → Walked r d before marks x → IsMarked marks x → ((y : ℕ) → InOneFace r d y → IsUnmarked before y) → (y : ℕ) → IsMarked marks y ↔ (IsMarked before y ⊎ InOneFace r d y)
+pub Walked-end : (r : System) (d : ℕ) (before marks : List Bool) (x : ℕ) → Walked r d before marks x → IsMarked marks x
+    → ((y : ℕ) → InOneFace r d y → IsUnmarked before y) → (y : ℕ)
+    → IsMarked marks y ↔ (IsMarked before y ⊎ InOneFace r d y)
 Walked-end r d before marks x w is_in clear y = (
   λ m. ⊎_elim inl (λ h. inr (h.0, h.2)) (w.found y m),
   λ h. ⊎_elim (w.kept y) (λ reached. let p = passed_all (face_step r) d w.steps closing reached.0 in subst (IsMarked marks) (p.2 ∙ reached.1) (w.passed p.0 p.1)) h,
@@ -127,7 +132,8 @@ pub Missed-start : (r : System) (x y : ℕ) → x < darts r → Missed r x y 0 x
 Missed-start r x y lt = record { here = refl; missed = λ j none. absurd (omega arith); dart = lt }
 
 -- the dart in hand is not y, and one step is made
-pub Missed-more : (r : System) (x y steps z after : ℕ) → Missed r x y steps z → z ≢ y → after ≡ face_step r z → after < darts r → Missed r x y (steps + 1) after
+pub Missed-more : (r : System) (x y steps z after : ℕ) → Missed r x y steps z → z ≢ y → after ≡ face_step r z
+    → after < darts r → Missed r x y (steps + 1) after
 Missed-more r x y steps z after m ne e lt = record {
   here = ap (λ k. iterate (face_step r) k x) (let f : steps + 1 ≡ suc steps = omega arith in f) ∙ iterate-after (face_step r) steps x ∙ ap (face_step r) m.here ∙ sym e;
   missed = λ j ltj. ⊎_elim (λ f same. ne (sym m.here ∙ ap (λ k. iterate (face_step r) k x) (sym f) ∙ same)) (λ other. m.missed j (omega arith)) (cases_eq j steps);
@@ -141,13 +147,15 @@ Missed-round r x y steps m some reached =
     m.missed p.0 p.1 (p.2 ∙ reached.1)
 
 -- after as many steps as there are darts, the walk does not meet y any more
-pub Missed-all : (r : System) → IsRotation r → (x y z : ℕ) → x < darts r → Missed r x y (darts r) z → InOneFace r x y → ⊥
+pub Missed-all : (r : System) → IsRotation r → (x y z : ℕ) → x < darts r → Missed r x y (darts r) z → InOneFace r x y
+    → ⊥
 Missed-all r is x y z lt m reached =
     let h = Reaches-within (darts r) (face_step r) (face_step-Permutes r is) x y lt reached in
     m.missed h.0 h.1 h.2
 
 -- at the end the least darts are counted
-pub FoundUpto-faces : (r : System) (marks : List Bool) (least : ℕ) → FoundUpto (InOneFace r) (darts r) (darts r) marks least → IsCount (IsLeastOfOrbit (face_step r)) (darts r) least
+pub FoundUpto-faces : (r : System) (marks : List Bool) (least : ℕ)
+    → FoundUpto (InOneFace r) (darts r) (darts r) marks least → IsCount (IsLeastOfOrbit (face_step r)) (darts r) least
 FoundUpto-faces r marks least found = IsCount-same _ (IsLeastOfOrbit (face_step r)) (darts r) least
     (λ x lt. (λ is k. is (iterate (face_step r) k x) (k, refl), λ is y reached. subst (λ z. x ≤ z) reached.1 (is reached.0)))
     found.counted

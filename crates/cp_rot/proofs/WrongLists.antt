@@ -10,7 +10,9 @@ use Rattle.cp_rot.specs.Lists.{HasList}
 use Rattle.cp_rot.specs.FirstWrong.{IsRightList, IsFirstWrong}
 
 -- one dart more is counted at its vertex
-pub counted_more : (at counts : List ℕ) (i v w n : ℕ) → slice_index at i ≡ v → v < length counts → ((u : ℕ) → u < n → slice_index counts u ≡ count i (stands_at at u)) → w < n → v < n → slice_index (set counts v (slice_index counts v + 1)) w ≡ count (i + 1) (stands_at at w)
+pub counted_more : (at counts : List ℕ) (i v w n : ℕ) → slice_index at i ≡ v → v < length counts
+    → ((u : ℕ) → u < n → slice_index counts u ≡ count i (stands_at at u)) → w < n → v < n
+    → slice_index (set counts v (slice_index counts v + 1)) w ≡ count (i + 1) (stands_at at w)
 counted_more at counts i v w n e within counted lt ltv =
     let next : suc i ≡ i + 1 = omega arith in
     ⊎_elim
@@ -22,28 +24,33 @@ counted_more at counts i v w n e within counted lt ltv =
     (cases_eq w v)
 
 -- with a list for each vertex, and no more lists, all are right
-pub all_right : (vertices : ℕ) (at : List ℕ) (lists : List (List ℕ)) → ((i : ℕ) → i < vertices → HasList at lists i) → length lists ≤ vertices → (i : ℕ) → IsRightList vertices at lists i
+pub all_right : (vertices : ℕ) (at : List ℕ) (lists : List (List ℕ)) → ((i : ℕ) → i < vertices → HasList at lists i)
+    → length lists ≤ vertices → (i : ℕ) → IsRightList vertices at lists i
 all_right vertices at lists right le i = record {
   present = right i;
   expected = λ lt. omega arith;
 }
 
 -- a list without a vertex is the first wrong one, where each vertex has its list
-pub first_without_vertex : (vertices : ℕ) (at : List ℕ) (lists : List (List ℕ)) → ((i : ℕ) → i < vertices → HasList at lists i) → vertices < length lists → IsFirstWrong vertices at lists vertices
+pub first_without_vertex : (vertices : ℕ) (at : List ℕ) (lists : List (List ℕ))
+    → ((i : ℕ) → i < vertices → HasList at lists i) → vertices < length lists → IsFirstWrong vertices at lists vertices
 first_without_vertex vertices at lists right lt = record {
   wrong = λ is. omega (arith, is.expected lt);
   right_before = λ j ltj. record { present = λ k. right j ltj; expected = λ k. ltj };
 }
 
 -- the first vertex that has no list of exactly its darts is the first wrong one
-pub first_without_list : (vertices : ℕ) (at : List ℕ) (lists : List (List ℕ)) (v : ℕ) → v < vertices → (HasList at lists v → ⊥) → ((i : ℕ) → i < v → HasList at lists i) → IsFirstWrong vertices at lists v
+pub first_without_list : (vertices : ℕ) (at : List ℕ) (lists : List (List ℕ)) (v : ℕ) → v < vertices
+    → (HasList at lists v → ⊥) → ((i : ℕ) → i < v → HasList at lists i) → IsFirstWrong vertices at lists v
 first_without_list vertices at lists v lt wrong right = record {
   wrong = λ is. wrong (is.present lt);
   right_before = λ j ltj. record { present = λ k. right j ltj; expected = λ k. omega arith };
 }
 
 -- right lists of darts that come in pairs make a rotation system
-pub IsRotation-from : (vertices : ℕ) (at : List ℕ) (lists : List (List ℕ)) → length at ≡ 2 * (length at / 2) → ((d : ℕ) → d < length at → slice_index at d < vertices) → length lists ≡ vertices → ((i : ℕ) → IsRightList vertices at lists i) → IsRotation (system_of at lists)
+pub IsRotation-from : (vertices : ℕ) (at : List ℕ) (lists : List (List ℕ)) → length at ≡ 2 * (length at / 2)
+    → ((d : ℕ) → d < length at → slice_index at d < vertices) → length lists ≡ vertices
+    → ((i : ℕ) → IsRightList vertices at lists i) → IsRotation (system_of at lists)
 IsRotation-from vertices at lists even placed listed right = record {
   paired = even;
   placed = λ d lt. omega (arith, placed d lt);

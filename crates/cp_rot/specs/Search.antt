@@ -30,7 +30,8 @@ pub record IsPushed (r : System) (w n : ℕ) (marks : List Bool) (stack : List �
   pub room : height_after + unmarked r marks_after ≡ height + unmarked r marks
   pub higher : height ≤ height_after
   pub below : (i : ℕ) → i < height → slice_index stack_after i ≡ slice_index stack i
-  pub above : (i : ℕ) → i < height_after → (i < height) ⊎ ((j : ℕ) × (j < length (list_of r w)) × (slice_index stack_after i ≡ neighbour_at r w j))
+  pub above : (i : ℕ) → i < height_after
+      → (i < height) ⊎ ((j : ℕ) × (j < length (list_of r w)) × (slice_index stack_after i ≡ neighbour_at r w j))
 
 -- the search from v: what is marked beside the first marks is joined to v, and what a marked
 -- vertex that is not on the stack is joined to is marked
@@ -39,5 +40,6 @@ pub record Searching (r : System) (v : ℕ) (before marks : List Bool) (stack : 
   pub kept : (x : ℕ) → IsMarked before x → IsMarked marks x
   pub sound : (x : ℕ) → IsMarked marks x → IsMarked before x ⊎ Joined r v x
   pub stacked : (i : ℕ) → i < height → (slice_index stack i < r.vertices) × Joined r v (slice_index stack i)
-  pub spread : (d : ℕ) → d < darts r → IsMarked marks (vertex_of r d) → IsStacked stack height (vertex_of r d) ⊎ IsMarked marks (vertex_of r (twin d))
+  pub spread : (d : ℕ) → d < darts r → IsMarked marks (vertex_of r d)
+      → IsStacked stack height (vertex_of r d) ⊎ IsMarked marks (vertex_of r (twin d))
   pub room : height + unmarked r marks ≤ r.vertices

@@ -20,11 +20,13 @@ bare-more_vertices v m n at placed =
     ∙ ap (λ (k : ℕ). bare v n at + k) (count_all m (λ x. not (stands at n (v + x))) (λ x lt. not_from_false (stands at n (v + x)) (stands_none at n (v + x) (λ d l e. omega (arith, placed d l)))))
 
 -- each is a face
-pub faces-more_vertices : (v m e : ℕ) (at next : ℕ → ℕ) → ((d : ℕ) → d < 2 * e → at d < v) → faces (v + m) e at next ≡ faces v e at next + m
+pub faces-more_vertices : (v m e : ℕ) (at next : ℕ → ℕ) → ((d : ℕ) → d < 2 * e → at d < v)
+    → faces (v + m) e at next ≡ faces v e at next + m
 faces-more_vertices v m e at next placed = omega (arith, bare-more_vertices v m (2 * e) at placed)
 
 -- a number that no dart stands at or above is its own label
-pub label_outside : (v e : ℕ) (at : ℕ → ℕ) → ((d : ℕ) → d < 2 * e → at d < v) → (x : ℕ) → v ≤ x → labels (ends_upto at e) x ≡ x
+pub label_outside : (v e : ℕ) (at : ℕ → ℕ) → ((d : ℕ) → d < 2 * e → at d < v) → (x : ℕ) → v ≤ x
+    → labels (ends_upto at e) x ≡ x
 label_outside v e at placed x le =
     let same : g (labels (ends_upto at e) x) ≡ g x = labels-keeps g (ends_upto at e) (Respects-ends g at e (λ k lt. low (at (2 * k)) (placed (2 * k) (omega arith)) ∙ sym (low (at (2 * k + 1)) (placed (2 * k + 1) (omega arith))))) x in
     ⊎_elim
@@ -42,7 +44,8 @@ label_outside v e at placed x le =
     high y h = cond-false (ltb y v) 0 (suc y) (le-ltb y v h)
 
 -- each is a component
-pub components-more_vertices : (v m e : ℕ) (at : ℕ → ℕ) → ((d : ℕ) → d < 2 * e → at d < v) → components (v + m) e at ≡ components v e at + m
+pub components-more_vertices : (v m e : ℕ) (at : ℕ → ℕ) → ((d : ℕ) → d < 2 * e → at d < v)
+    → components (v + m) e at ≡ components v e at + m
 components-more_vertices v m e at placed =
     count_add v m (λ x. eqb (labels (ends_upto at e) x) x)
     ∙ ap (λ (k : ℕ). components v e at + k) (count_all m (λ x. eqb (labels (ends_upto at e) (v + x)) (v + x)) (λ x lt. eq-eqb (labels (ends_upto at e) (v + x)) (v + x) (label_outside v e at placed (v + x) (omega arith))))

@@ -33,7 +33,8 @@ meets_second b w e at = ⊎_elim
     (λ f. ap (λ x. x && is_other w (vertex_of b (2 * e + 1))) f)
     (cases_Bool (is_other w (vertex_of b (2 * e))))
 
-module _ (a b : System) (is_a : IsRotation a) (is_b : IsRotation b) (u w : ℕ) (pairs : List (ℕ × ℕ)) (partners : ArePartners a u b w pairs) where
+module _ (a b : System) (is_a : IsRotation a) (is_b : IsRotation b) (u w : ℕ) (pairs : List (ℕ × ℕ))
+    (partners : ArePartners a u b w pairs) where
   -- the number of a dart of b
   abbrev pub number : ℕ → ℕ
   number = second_dart a b w pairs
@@ -72,11 +73,13 @@ module _ (a b : System) (is_a : IsRotation a) (is_b : IsRotation b) (u w : ℕ) 
       (cases_eq (d % 2) 0)
 
   -- a joined dart has the number of a dart at u
-  pub joined_at : (d : ℕ) → d < darts b → vertex_of b (twin d) ≡ w → (number d < darts a) × (vertex_of a (number d) ≡ u) × (partner_of_first pairs (number d) ≡ twin d)
+  pub joined_at : (d : ℕ) → d < darts b → vertex_of b (twin d) ≡ w
+      → (number d < darts a) × (vertex_of a (number d) ≡ u) × (partner_of_first pairs (number d) ≡ twin d)
   joined_at d lt e = subst (λ x. (x < darts a) × (vertex_of a x ≡ u) × (partner_of_first pairs x ≡ twin d)) (sym (number_joined d e)) (partner_second a b u w pairs partners (twin d) (twin_b d lt) e)
 
   -- a kept dart has a number behind the darts of a
-  pub kept_at : (d : ℕ) → d < darts b → vertex_of b d ≢ w → vertex_of b (twin d) ≢ w → (darts a ≤ number d) × (number d < darts a + 2 * kept)
+  pub kept_at : (d : ℕ) → d < darts b → vertex_of b d ≢ w → vertex_of b (twin d) ≢ w
+      → (darts a ≤ number d) × (number d < darts a + 2 * kept)
   kept_at d lt nd nt =
       let here = number_kept d nt in
       (omega (arith, here, is_a.paired), omega (arith, here, is_a.paired, is_b.paired, count_before (edge_avoids b w) (d / 2) (edges b) (omega (arith, is_b.paired)) (avoids_dart d nd nt)))
@@ -86,7 +89,8 @@ module _ (a b : System) (is_a : IsRotation a) (is_b : IsRotation b) (u w : ℕ) 
   number-below d lt nd = ⊎_elim (λ e. omega (arith, (joined_at d lt e).0)) (λ nt. (kept_at d lt nd nt).1) (cases_eq (vertex_of b (twin d)) w)
 
   -- no two darts have one number
-  pub number-apart : (d f : ℕ) → d < darts b → f < darts b → vertex_of b d ≢ w → vertex_of b f ≢ w → number d ≡ number f → d ≡ f
+  pub number-apart : (d f : ℕ) → d < darts b → f < darts b → vertex_of b d ≢ w → vertex_of b f ≢ w → number d ≡ number f
+      → d ≡ f
   number-apart d f ltd ltf nd nf e = ⊎_elim
       (λ jd. ⊎_elim
       (λ jf. sym (twin-twin d) ∙ ap twin (sym (joined_at d ltd jd).2 ∙ ap (partner_of_first pairs) e ∙ (joined_at f ltf jf).2) ∙ twin-twin f)
@@ -110,7 +114,8 @@ module _ (a b : System) (is_a : IsRotation a) (is_b : IsRotation b) (u w : ℕ) 
       (cases_eq (vertex_of b (twin d)) w)
 
   -- each dart of the result is one of a, or has the number of one of b
-  pub origin : HasNoLoopAt b w → (x : ℕ) → x < darts a + 2 * kept → ((x < darts a) × (vertex_of a x ≢ u)) ⊎ ((d : ℕ) × (d < darts b) × (vertex_of b d ≢ w) × (number d ≡ x))
+  pub origin : HasNoLoopAt b w → (x : ℕ) → x < darts a + 2 * kept
+      → ((x < darts a) × (vertex_of a x ≢ u)) ⊎ ((d : ℕ) × (d < darts b) × (vertex_of b d ≢ w) × (number d ≡ x))
   origin no_loop x lt = ⊎_elim
       (λ low. ⊎_elim
       (λ at.
@@ -145,7 +150,8 @@ module _ (a b : System) (is_a : IsRotation a) (is_b : IsRotation b) (u w : ℕ) 
       (cases_lt x (darts a))
 
   -- the result
-  module _ (ltu : u < a.vertices) (ltw : w < b.vertices) (no_loop : HasNoLoopAt b w) (s : System) (glued : IsGlued a u b w pairs s) (even : darts s ≡ 2 * edges s) (lists : length s.lists ≡ s.vertices) where
+  module _ (ltu : u < a.vertices) (ltw : w < b.vertices) (no_loop : HasNoLoopAt b w) (s : System)
+      (glued : IsGlued a u b w pairs s) (even : darts s ≡ 2 * edges s) (lists : length s.lists ≡ s.vertices) where
     -- how many darts it has
     pub size : darts s ≡ darts a + 2 * kept
     size = omega (arith, even, glued.size, is_a.paired)
@@ -167,13 +173,16 @@ module _ (a b : System) (is_a : IsRotation a) (is_b : IsRotation b) (u w : ℕ) 
     second-below v lt ne = omega (arith, glued.vertices, count_other-below b.vertices w v ltw lt ne, ltu)
 
     -- the darts of a that stay stand in their lists
-    own_first : (d : ℕ) → d < darts a → vertex_of a d ≢ u → (vertex_of s d < s.vertices) × (list_of s (vertex_of s d) ≡ list_of a (vertex_of a d))
+    own_first : (d : ℕ) → d < darts a → vertex_of a d ≢ u
+        → (vertex_of s d < s.vertices) × (list_of s (vertex_of s d) ≡ list_of a (vertex_of a d))
     own_first d lt ne =
         let at = glued.first_stand d lt ne in
         (omega (arith, at, glued.vertices, first-below (vertex_of a d) (first.placed d lt) ne, ltw), ap (list_of s) at ∙ glued.first_lists (vertex_of a d) (first.placed d lt) ne)
 
     -- and those of b
-    own_second : (d : ℕ) → d < darts b → vertex_of b d ≢ w → (vertex_of s (number d) < s.vertices) × (list_of s (vertex_of s (number d)) ≡ map number (list_of b (vertex_of b d)))
+    own_second : (d : ℕ) → d < darts b → vertex_of b d ≢ w
+        → (vertex_of s (number d) < s.vertices) × (list_of s (vertex_of s (number d))
+        ≡ map number (list_of b (vertex_of b d)))
     own_second d lt ne =
         let at = glued.second_stand d lt ne in
         (omega (arith, at, second-below (vertex_of b d) (second.placed d lt) ne), ap (list_of s) at ∙ glued.second_lists (vertex_of b d) (second.placed d lt) ne)
@@ -183,11 +192,14 @@ module _ (a b : System) (is_a : IsRotation a) (is_b : IsRotation b) (u w : ℕ) 
     item_b v d lt ne h = let i = second.item v d lt h in (i.0, λ e. ne (sym i.1 ∙ e))
 
     -- the numbers of a list of b are different
-    apart_b : (v : ℕ) → v < b.vertices → v ≢ w → (x y : ℕ) → Has x (list_of b v) → Has y (list_of b v) → number x ≡ number y → x ≡ y
+    apart_b : (v : ℕ) → v < b.vertices → v ≢ w → (x y : ℕ) → Has x (list_of b v) → Has y (list_of b v)
+        → number x ≡ number y → x ≡ y
     apart_b v lt ne x y hx hy e = let ix = item_b v x lt ne hx in let iy = item_b v y lt ne hy in number-apart x y ix.0 iy.0 ix.1 iy.1 e
 
     -- each list of the result is one of a or one of b
-    each_list : (P : ℕ → List ℕ → Type 0) → ((v : ℕ) → v < a.vertices → v ≢ u → P (first_vertex u v) (list_of a v)) → ((v : ℕ) → v < b.vertices → v ≢ w → P (second_vertex a w v) (map number (list_of b v))) → (x : ℕ) → x < s.vertices → P x (list_of s x)
+    each_list : (P : ℕ → List ℕ → Type 0) → ((v : ℕ) → v < a.vertices → v ≢ u → P (first_vertex u v) (list_of a v))
+        → ((v : ℕ) → v < b.vertices → v ≢ w → P (second_vertex a w v) (map number (list_of b v))) → (x : ℕ)
+        → x < s.vertices → P x (list_of s x)
     each_list P one two x lt = ⊎_elim
         (λ low.
         let v : ℕ = old_vertex u x in
@@ -226,7 +238,10 @@ module _ (a b : System) (is_a : IsRotation a) (is_b : IsRotation b) (u w : ℕ) 
     IsRotation-glued = record { paired = even; placed = Listed-glued.placed; listed = lists; arranged = Listed-exact s.vertices (darts s) (vertex_of s) (list_of s) Listed-glued }
 
   -- the tables make the result
-  pub IsGlued-tables : (at : List ℕ) (numbers : List ℕ) (count : ℕ) (ls : List (List ℕ)) → u < a.vertices → w < b.vertices → AreNumbers a b w pairs numbers count → AreVertices a u b w pairs at → ls ≡ values (a.vertices + b.vertices - 2) (glued_list a u b w (slice_index numbers)) → IsGlued a u b w pairs (system_of at ls)
+  pub IsGlued-tables : (at : List ℕ) (numbers : List ℕ) (count : ℕ) (ls : List (List ℕ)) → u < a.vertices
+      → w < b.vertices → AreNumbers a b w pairs numbers count → AreVertices a u b w pairs at
+      → ls ≡ values (a.vertices + b.vertices - 2) (glued_list a u b w (slice_index numbers))
+      → IsGlued a u b w pairs (system_of at ls)
   IsGlued-tables at numbers count ls ltu ltw nums verts lists = record {
     vertices = omega (arith, total, ltu, ltw);
     size = omega (arith, verts.size, is_a.paired);
@@ -248,5 +263,6 @@ module _ (a b : System) (is_a : IsRotation a) (is_b : IsRotation b) (u w : ℕ) 
       total : length ls ≡ a.vertices + b.vertices - 2
       total = ap (λ zs. length zs) lists ∙ length-values (a.vertices + b.vertices - 2) (glued_list a u b w (slice_index numbers))
 
-      list_is : (x : ℕ) → x < a.vertices + b.vertices - 2 → list_of (system_of at ls) x ≡ glued_list a u b w (slice_index numbers) x
+      list_is : (x : ℕ) → x < a.vertices + b.vertices - 2
+          → list_of (system_of at ls) x ≡ glued_list a u b w (slice_index numbers) x
       list_is x lt = ap (λ zs. list_of (system_of at zs) x) lists ∙ values_at (a.vertices + b.vertices - 2) (glued_list a u b w (slice_index numbers)) x [] lt

@@ -81,7 +81,9 @@ pub Written-start : (place value : ℕ → ℕ) (passes : ℕ → Bool) (old : L
 Written-start place value passes old = record { size = refl; told = λ j lt. absurd (omega arith); others = λ x none. refl }
 
 -- one value more
-pub Written-more : (place value : ℕ → ℕ) (passes : ℕ → Bool) (i : ℕ) (old table : List ℕ) (p y : ℕ) → Written place value passes i old table → passes i ≡ true → p ≡ place i → y ≡ value i → p < length table → ((j : ℕ) → j < i → passes j ≡ true → place j ≢ place i) → Written place value passes (i + 1) old (set table p y)
+pub Written-more : (place value : ℕ → ℕ) (passes : ℕ → Bool) (i : ℕ) (old table : List ℕ) (p y : ℕ)
+    → Written place value passes i old table → passes i ≡ true → p ≡ place i → y ≡ value i → p < length table
+    → ((j : ℕ) → j < i → passes j ≡ true → place j ≢ place i) → Written place value passes (i + 1) old (set table p y)
 Written-more place value passes i old table p y w t ep ey within apart = record {
   size = length-set table p y ∙ w.size;
   told = λ j lt tj. ⊎_elim
@@ -92,7 +94,8 @@ Written-more place value passes i old table p y w t ep ey within apart = record 
 }
 
 -- a number that does not pass
-pub Written-skip : (place value : ℕ → ℕ) (passes : ℕ → Bool) (i : ℕ) (old table : List ℕ) → Written place value passes i old table → passes i ≡ false → Written place value passes (i + 1) old table
+pub Written-skip : (place value : ℕ → ℕ) (passes : ℕ → Bool) (i : ℕ) (old table : List ℕ)
+    → Written place value passes i old table → passes i ≡ false → Written place value passes (i + 1) old table
 Written-skip place value passes i old table w f = record {
   size = w.size;
   told = λ j lt tj. ⊎_elim (λ e. absurd (false≢true (sym f ∙ ap passes (sym e) ∙ tj))) (λ ne. w.told j (omega arith) tj) (cases_eq j i);
@@ -100,6 +103,7 @@ Written-skip place value passes i old table w f = record {
 }
 
 -- a loop's step: one item more with its new name
-pub map_more : (h : ℕ → ℕ) (xs : List ℕ) (i : ℕ) {ys zs : List ℕ} {y : ℕ} → ys ≡ map h (take i xs) → i < length xs → y ≡ h (slice_index xs i) → zs ≡ ys ++ y ∷ [] → zs ≡ map h (take (i + 1) xs)
+pub map_more : (h : ℕ → ℕ) (xs : List ℕ) (i : ℕ) {ys zs : List ℕ} {y : ℕ} → ys ≡ map h (take i xs) → i < length xs
+    → y ≡ h (slice_index xs i) → zs ≡ ys ++ y ∷ [] → zs ≡ map h (take (i + 1) xs)
 map_more h xs i {ys} {zs} {y} e lt ey ez =
     ez ∙ ap₂ (λ us v. us ++ v ∷ []) e ey ∙ sym (ap (map h) (take_more xs i 0 lt) ∙ map-append h (take i xs) (slice_index xs i ∷ []))

@@ -19,7 +19,8 @@ abbrev pub second_of : List (ℕ × ℕ) → ℕ → ℕ
 second_of pairs i = (get_or pairs i (0, 0)).1
 
 -- the partner of the first of a pair is its second
-pub partner-first : (pairs : List (ℕ × ℕ)) (i : ℕ) → Distinct (map (λ pair. pair.0) pairs) → i < length pairs → partner_of_first pairs (first_of pairs i) ≡ second_of pairs i
+pub partner-first : (pairs : List (ℕ × ℕ)) (i : ℕ) → Distinct (map (λ pair. pair.0) pairs) → i < length pairs
+    → partner_of_first pairs (first_of pairs i) ≡ second_of pairs i
 partner-first [] i dis lt = absurd (omega arith)
 partner-first (p ∷ pairs) zero dis lt = cond-true (eqb p.0 p.0) p.1 (partner_of_first pairs p.0) (eq-eqb p.0 p.0 refl)
 partner-first (p ∷ pairs) (suc i) dis lt =
@@ -29,7 +30,8 @@ partner-first (p ∷ pairs) (suc i) dis lt =
     ∙ partner-first pairs i dis.1 l
 
 -- the partner of the second of a pair is its first
-partner-second : (pairs : List (ℕ × ℕ)) (i : ℕ) → Distinct (map (λ pair. pair.1) pairs) → i < length pairs → partner_of_second pairs (second_of pairs i) ≡ first_of pairs i
+partner-second : (pairs : List (ℕ × ℕ)) (i : ℕ) → Distinct (map (λ pair. pair.1) pairs) → i < length pairs
+    → partner_of_second pairs (second_of pairs i) ≡ first_of pairs i
 partner-second [] i dis lt = absurd (omega arith)
 partner-second (p ∷ pairs) zero dis lt = cond-true (eqb p.1 p.1) p.0 (partner_of_second pairs p.1) (eq-eqb p.1 p.1 refl)
 partner-second (p ∷ pairs) (suc i) dis lt =
@@ -39,26 +41,30 @@ partner-second (p ∷ pairs) (suc i) dis lt =
     ∙ partner-second pairs i dis.1 l
 
 -- seconds that are listed exactly: each item is the second of a pair
-pub second_index : (n : ℕ) (p : ℕ → Bool) (pairs : List (ℕ × ℕ)) → Exactly n p (map (λ pair. pair.1) pairs) → (y : ℕ) → y < n → p y ≡ true → (i : ℕ) × (i < length pairs) × (second_of pairs i ≡ y)
+pub second_index : (n : ℕ) (p : ℕ → Bool) (pairs : List (ℕ × ℕ)) → Exactly n p (map (λ pair. pair.1) pairs) → (y : ℕ)
+    → y < n → p y ≡ true → (i : ℕ) × (i < length pairs) × (second_of pairs i ≡ y)
 second_index n p pairs exact y lt t =
     let c = place_of (map (λ pair. pair.1) pairs) y (exact.all y lt t) in
     let l : c.0 < length pairs = omega (arith, c.1, length-map pairs (λ (pair : ℕ × ℕ). pair.1)) in
     (c.0, l, sym (get_or-map {X = ℕ × ℕ} {Y = ℕ} (λ pair. pair.1) pairs c.0 (0, 0) 0 l) ∙ c.2)
 
 -- the second of each pair is listed
-pub second_passes : (n : ℕ) (p : ℕ → Bool) (pairs : List (ℕ × ℕ)) → Exactly n p (map (λ pair. pair.1) pairs) → (i : ℕ) → i < length pairs → (second_of pairs i < n) × (p (second_of pairs i) ≡ true)
+pub second_passes : (n : ℕ) (p : ℕ → Bool) (pairs : List (ℕ × ℕ)) → Exactly n p (map (λ pair. pair.1) pairs) → (i : ℕ)
+    → i < length pairs → (second_of pairs i < n) × (p (second_of pairs i) ≡ true)
 second_passes n p pairs exact i lt =
     let e = get_or-map {X = ℕ × ℕ} {Y = ℕ} (λ pair. pair.1) pairs i (0, 0) 0 lt in
     let w = exact.each_passes i (omega (arith, lt, length-map pairs (λ (pair : ℕ × ℕ). pair.1))) in
     (subst (λ y. y < n) e w.0, subst (λ y. p y ≡ true) e w.1)
 
 -- equal seconds are of one pair
-pub second_once : (n : ℕ) (p : ℕ → Bool) (pairs : List (ℕ × ℕ)) → Exactly n p (map (λ pair. pair.1) pairs) → (i j : ℕ) → i < length pairs → j < length pairs → second_of pairs i ≡ second_of pairs j → i ≡ j
+pub second_once : (n : ℕ) (p : ℕ → Bool) (pairs : List (ℕ × ℕ)) → Exactly n p (map (λ pair. pair.1) pairs) → (i j : ℕ)
+    → i < length pairs → j < length pairs → second_of pairs i ≡ second_of pairs j → i ≡ j
 second_once n p pairs exact i j lti ltj e = exact.each_once i j (omega (arith, lti, length-map pairs (λ (pair : ℕ × ℕ). pair.1))) (omega (arith, ltj, length-map pairs (λ (pair : ℕ × ℕ). pair.1)))
     (get_or-map {X = ℕ × ℕ} {Y = ℕ} (λ pair. pair.1) pairs i (0, 0) 0 lti ∙ e ∙ sym (get_or-map {X = ℕ × ℕ} {Y = ℕ} (λ pair. pair.1) pairs j (0, 0) 0 ltj))
 
 -- the partner of the second of a pair is its first
-pub second_partner : (n : ℕ) (p : ℕ → Bool) (pairs : List (ℕ × ℕ)) → Exactly n p (map (λ pair. pair.1) pairs) → (i : ℕ) → i < length pairs → partner_of_second pairs (second_of pairs i) ≡ first_of pairs i
+pub second_partner : (n : ℕ) (p : ℕ → Bool) (pairs : List (ℕ × ℕ)) → Exactly n p (map (λ pair. pair.1) pairs) → (i : ℕ)
+    → i < length pairs → partner_of_second pairs (second_of pairs i) ≡ first_of pairs i
 second_partner n p pairs exact i lt = partner-second pairs i (Exactly-Distinct n p (map (λ pair. pair.1) pairs) exact) lt
 
 -- the darts at the two vertices are partners
@@ -92,7 +98,9 @@ module _ (a b : System) (u w : ℕ) (pairs : List (ℕ × ℕ)) (partners : AreP
   partner_back i lt = second_partner (darts b) (λ d. eqb (vertex_of b d) w) pairs partners.second i lt
 
   -- the partner of a dart at u is a dart at w, whose partner it is
-  pub partner_first : (x : ℕ) → x < darts a → vertex_of a x ≡ u → (partner_of_first pairs x < darts b) × (vertex_of b (partner_of_first pairs x) ≡ w) × (partner_of_second pairs (partner_of_first pairs x) ≡ x)
+  pub partner_first : (x : ℕ) → x < darts a → vertex_of a x ≡ u
+      → (partner_of_first pairs x < darts b) × (vertex_of b (partner_of_first pairs x) ≡ w)
+      × (partner_of_second pairs (partner_of_first pairs x) ≡ x)
   partner_first x lt e =
       let i = first_index x lt e in
       let s = second_stands i.0 i.1 in
@@ -100,7 +108,9 @@ module _ (a b : System) (u w : ℕ) (pairs : List (ℕ × ℕ)) (partners : AreP
       (subst (λ y. y < darts b) (sym p) s.0, ap (vertex_of b) p ∙ s.1, ap (partner_of_second pairs) p ∙ partner_back i.0 i.1 ∙ i.2)
 
   -- the partner of a dart at w is a dart at u, whose partner it is
-  pub partner_second : (y : ℕ) → y < darts b → vertex_of b y ≡ w → (partner_of_second pairs y < darts a) × (vertex_of a (partner_of_second pairs y) ≡ u) × (partner_of_first pairs (partner_of_second pairs y) ≡ y)
+  pub partner_second : (y : ℕ) → y < darts b → vertex_of b y ≡ w
+      → (partner_of_second pairs y < darts a) × (vertex_of a (partner_of_second pairs y) ≡ u)
+      × (partner_of_first pairs (partner_of_second pairs y) ≡ y)
   partner_second y lt e =
       let i = second_index (darts b) (λ d. eqb (vertex_of b d) w) pairs partners.second y lt (eq-eqb (vertex_of b y) w e) in
       let s = first_stands i.0 i.1 in
@@ -113,7 +123,8 @@ passing zero p k = 0
 passing (suc n) p k = cond (p n && eqb (count n p) k) n (passing n p k)
 
 -- it passes, and k pass before it
-pub passing-is : (n : ℕ) (p : ℕ → Bool) (k : ℕ) → k < count n p → (passing n p k < n) × (p (passing n p k) ≡ true) × (count (passing n p k) p ≡ k)
+pub passing-is : (n : ℕ) (p : ℕ → Bool) (k : ℕ) → k < count n p
+    → (passing n p k < n) × (p (passing n p k) ≡ true) × (count (passing n p k) p ≡ k)
 unfolding passing
 passing-is zero p k lt = absurd (omega arith)
 passing-is (suc n) p k lt = ⊎_elim

@@ -12,7 +12,8 @@ use Rattle.cp_lists.proofs.TurnedLists.{turn-Has, Has-of_turn}
 use Rattle.cp_rotlaw.proofs.GluedPairs.{partner-first}
 
 -- the seconds of pairs are the partners of the firsts
-seconds_are : (pairs : List (ℕ × ℕ)) → Distinct (map (λ pair. pair.0) pairs) → map (λ pair. pair.1) pairs ≡ map (partner_of_first pairs) (map (λ pair. pair.0) pairs)
+seconds_are : (pairs : List (ℕ × ℕ)) → Distinct (map (λ pair. pair.0) pairs)
+    → map (λ pair. pair.1) pairs ≡ map (partner_of_first pairs) (map (λ pair. pair.0) pairs)
 seconds_are pairs distinct =
     let size : length (map (λ (pair : ℕ × ℕ). pair.1) pairs) ≡ length pairs = length-map pairs (λ (pair : ℕ × ℕ). pair.1) in
     let size_first : length (map (λ (pair : ℕ × ℕ). pair.0) pairs) ≡ length pairs = length-map pairs (λ (pair : ℕ × ℕ). pair.0) in
@@ -24,7 +25,9 @@ seconds_are pairs distinct =
     ∙ sym (get_or-map (partner_of_first pairs) (map (λ pair. pair.0) pairs) i 0 0 (omega (arith, size_first)) ∙ ap (partner_of_first pairs) (get_or-map {X = ℕ × ℕ} {Y = ℕ} (λ pair. pair.0) pairs i (0, 0) 0 l)))
 
 -- pairs whose firsts are the list of u and whose seconds are that of w in reverse, up to a turn
-module _ (a b : System) (is_a : IsRotation a) (is_b : IsRotation b) (u w : ℕ) (ltu : u < a.vertices) (ltw : w < b.vertices) (pairs : List (ℕ × ℕ)) (firsts : map (λ pair. pair.0) pairs ≡ list_of a u) (seconds : IsTurn (reverse (map (λ pair. pair.1) pairs)) (list_of b w)) where
+module _ (a b : System) (is_a : IsRotation a) (is_b : IsRotation b) (u w : ℕ) (ltu : u < a.vertices)
+    (ltw : w < b.vertices) (pairs : List (ℕ × ℕ)) (firsts : map (λ pair. pair.0) pairs ≡ list_of a u)
+    (seconds : IsTurn (reverse (map (λ pair. pair.1) pairs)) (list_of b w)) where
   -- the seconds are the darts at w
   exact_seconds : Exactly (darts b) (λ d. eqb (vertex_of b d) w) (map (λ pair. pair.1) pairs)
   exact_seconds =

@@ -26,7 +26,8 @@ use Rattle.cp_rotlaw.proofs.RestrictedSystems.{on_edges_half, on_edges_bit, on_e
 use Rattle.cp_rotlaw.proofs.SplitParts.{split_by_parts}
 
 -- a system with new numbers has genus zero where the old one has
-pub renamed-HasGenusZero : (r s : System) (h back k undo : ℕ → ℕ) → IsRotation r → IsRotation s → IsRenamed r s h back k undo → HasGenusZero r → HasGenusZero s
+pub renamed-HasGenusZero : (r s : System) (h back k undo : ℕ → ℕ) → IsRotation r → IsRotation s
+    → IsRenamed r s h back k undo → HasGenusZero r → HasGenusZero s
 renamed-HasGenusZero r s h back k undo is is' ren z =
     let same = renamed_counts r s h back k undo is is' ren (faces_of r) (components_of r) (faces_of s) (components_of s) (FaceCount-faces r is) (ComponentCount-components r is) (FaceCount-faces s is') (ComponentCount-components s is') in
     HasGenusZero-from s is' (omega (arith, zero_counts r is z, same.0, same.1, ren.vertices, ren.size))
@@ -51,7 +52,8 @@ all_kept r = record {
 }
 
 -- tests that agree on the edges keep the same
-restricted_agree : (r s : System) (k q : ℕ → Bool) (n o : ℕ → ℕ) → IsRotation r → ((e : ℕ) → e < edges r → k e ≡ q e) → IsRestricted r s k n o → IsRestricted r s q n o
+restricted_agree : (r s : System) (k q : ℕ → Bool) (n o : ℕ → ℕ) → IsRotation r → ((e : ℕ) → e < edges r → k e ≡ q e)
+    → IsRestricted r s k n o → IsRestricted r s q n o
 restricted_agree r s k q n o is same res = record {
   vertices = res.vertices;
   kept = λ e lt t. res.kept e lt (same e lt ∙ t);
@@ -68,7 +70,9 @@ both_true true b t = (refl, t)
 both_true false b t = absurd (false≢true t)
 
 -- some edges kept, and of those some
-restricted_chain : (r s t : System) (k q : ℕ → Bool) (n o m p : ℕ → ℕ) → IsRotation s → IsRotation t → IsRestricted r s k n o → IsRestricted s t q m p → IsRestricted r t (λ e. k e && q (n e)) (λ e. m (n e)) (λ e. o (p e))
+restricted_chain : (r s t : System) (k q : ℕ → Bool) (n o m p : ℕ → ℕ) → IsRotation s → IsRotation t
+    → IsRestricted r s k n o → IsRestricted s t q m p → IsRestricted r t (λ e. k e && q (n e)) (λ e. m (n e))
+    (λ e. o (p e))
 restricted_chain r s t k q n o m p is_s is_t one two = record {
   vertices = two.vertices ∙ one.vertices;
   kept = λ e lt both.
@@ -91,7 +95,8 @@ restricted_chain r s t k q n o m p is_s is_t one two = record {
 }
 
 -- all edges but one kept
-deleted_kept : (r : System) → IsRotation r → (e : ℕ) → e < edges r → IsRestricted r (deleted r e) (λ x. not (eqb x e)) (exchange e (edges r - 1)) (exchange e (edges r - 1))
+deleted_kept : (r : System) → IsRotation r → (e : ℕ) → e < edges r
+    → IsRestricted r (deleted r e) (λ x. not (eqb x e)) (exchange e (edges r - 1)) (exchange e (edges r - 1))
 deleted_kept r is e lt = record {
   vertices = refl;
   kept = λ x l t.
@@ -140,7 +145,8 @@ kept_same keeps n e t = ⊎_elim
     (cases_lt e n)
 
 -- edge n goes, and the last edge takes its number
-kept_without : (keeps : ℕ → Bool) (n m e : ℕ) → n ≤ m → e ≤ m → keeps n ≡ false → (not (eqb e n) && kept_upto keeps n (exchange n m e)) ≡ kept_upto keeps (suc n) e
+kept_without : (keeps : ℕ → Bool) (n m e : ℕ) → n ≤ m → e ≤ m → keeps n ≡ false
+    → (not (eqb e n) && kept_upto keeps n (exchange n m e)) ≡ kept_upto keeps (suc n) e
 kept_without keeps n m e le lt f = ⊎_elim
     (λ h. ap (λ b. not b && kept_upto keeps n (exchange n m e)) (eq-eqb e n h) ∙ sym (kept_low keeps (suc n) e (omega arith) ∙ ap keeps h ∙ f))
     (λ nh. ap (λ b. not b && kept_upto keeps n (exchange n m e)) (ne_eqb e n nh) ∙ ⊎_elim
@@ -150,7 +156,8 @@ kept_without keeps n m e le lt f = ⊎_elim
     (cases_eq e n)
 
 -- edges deleted one after another leave the edges that the test keeps
-restricted_upto : (n : ℕ) (keeps : ℕ → Bool) (r : System) → IsRotation r → n ≤ edges r → IsRotation (restricted n keeps r) × Restricts r (restricted n keeps r) (kept_upto keeps n)
+restricted_upto : (n : ℕ) (keeps : ℕ → Bool) (r : System) → IsRotation r → n ≤ edges r
+    → IsRotation (restricted n keeps r) × Restricts r (restricted n keeps r) (kept_upto keeps n)
 restricted_upto zero keeps r is le = (is, ((λ e. e), (λ e. e), restricted_agree r r (λ e. true) (kept_upto keeps zero) (λ e. e) (λ e. e) is (λ e lt. sym (kept_high keeps zero e (omega arith))) (all_kept r)))
 restricted_upto (suc n) keeps r is le = ⊎_elim
     (λ t.
@@ -173,7 +180,8 @@ restricted_upto (suc n) keeps r is le = ⊎_elim
     (cases_Bool (keeps n))
 
 -- there is a system with the edges alone that a test keeps
-pub restriction_exists : (r : System) (keeps : ℕ → Bool) → IsRotation r → IsRotation (restricted (edges r) keeps r) × Restricts r (restricted (edges r) keeps r) keeps
+pub restriction_exists : (r : System) (keeps : ℕ → Bool) → IsRotation r
+    → IsRotation (restricted (edges r) keeps r) × Restricts r (restricted (edges r) keeps r) keeps
 restriction_exists r keeps is =
     let w = restricted_upto (edges r) keeps r is (omega arith) in
     (w.0, (w.1.0, w.1.1, restricted_agree r (restricted (edges r) keeps r) (kept_upto keeps (edges r)) keeps w.1.0 w.1.1 is (λ e lt. kept_low keeps (edges r) e lt) w.1.2))
@@ -190,7 +198,8 @@ twin-on_edges p d = ⊎_elim
     (cases_eq (d % 2) 0)
 
 -- two systems restricted to the same edges
-module _ (r s t : System) (is : IsRotation r) (is_s : IsRotation s) (is_t : IsRotation t) (keeps : ℕ → Bool) (n o m q : ℕ → ℕ) (one : IsRestricted r s keeps n o) (two : IsRestricted r t keeps m q) where
+module _ (r s t : System) (is : IsRotation r) (is_s : IsRotation s) (is_t : IsRotation t) (keeps : ℕ → Bool)
+    (n o m q : ℕ → ℕ) (one : IsRestricted r s keeps n o) (two : IsRestricted r t keeps m q) where
   -- the number in t of an edge of s
   there : (e : ℕ) → e < edges s → (m (o e) < edges t) × (n (q (m (o e))) ≡ e)
   there e lt =
@@ -247,7 +256,8 @@ module _ (r s t : System) (is : IsRotation r) (is_s : IsRotation s) (is_t : IsRo
   }
 
 -- a system of genus zero restricted to some of its edges has genus zero
-pub restriction_zero : (r s : System) (keeps : ℕ → Bool) (number original : ℕ → ℕ) → IsRotation r → IsRotation s → IsRestricted r s keeps number original → HasGenusZero r → HasGenusZero s
+pub restriction_zero : (r s : System) (keeps : ℕ → Bool) (number original : ℕ → ℕ) → IsRotation r → IsRotation s
+    → IsRestricted r s keeps number original → HasGenusZero r → HasGenusZero s
 restriction_zero r s keeps number original is is' res z =
     let w = restriction_exists r keeps is in
     renamed-HasGenusZero (restricted (edges r) keeps r) s (λ x. x) (λ x. x) (on_edges (λ e. number (w.1.1 e))) (on_edges (λ e. w.1.0 (original e))) w.0 is'
@@ -255,7 +265,8 @@ restriction_zero r s keeps number original is is' res z =
     (restricted_zero (edges r) keeps r is (omega arith) z).1
 
 -- a vertex at which two sets of edges meet, split into one for each, keeps genus zero
-pub split_keeps_zero : (r : System) (u : ℕ) (takes : ℕ → Bool) → IsRotation r → u < r.vertices → MeetAt r u takes → HasGenusZero r → HasGenusZero (split_off r u takes)
+pub split_keeps_zero : (r : System) (u : ℕ) (takes : ℕ → Bool) → IsRotation r → u < r.vertices → MeetAt r u takes
+    → HasGenusZero r → HasGenusZero (split_off r u takes)
 split_keeps_zero r u takes is lt meet z =
     let a = restriction_exists r (λ e. not (takes e)) is in
     let b = restriction_exists r takes is in

@@ -22,7 +22,9 @@ use Rattle.cp_rotlaw.proofs.BareVertices.{Rotates-more, faces-more_vertices, com
 use Rattle.cp_lists.proofs.Choices.{same_size}
 
 -- a: the edges that are left; b: those that are taken
-module _ (r : System) (is : IsRotation r) (u : ℕ) (lt : u < r.vertices) (takes : ℕ → Bool) (meet : MeetAt r u takes) (a b : System) (is_a : IsRotation a) (is_b : IsRotation b) (na oa nb ob : ℕ → ℕ) (res_a : IsRestricted r a (λ e. not (takes e)) na oa) (res_b : IsRestricted r b takes nb ob) where
+module _ (r : System) (is : IsRotation r) (u : ℕ) (lt : u < r.vertices) (takes : ℕ → Bool) (meet : MeetAt r u takes)
+    (a b : System) (is_a : IsRotation a) (is_b : IsRotation b) (na oa nb ob : ℕ → ℕ)
+    (res_a : IsRestricted r a (λ e. not (takes e)) na oa) (res_b : IsRestricted r b takes nb ob) where
   -- how many vertices there are
   abbrev v : ℕ
   v = r.vertices
@@ -306,7 +308,8 @@ module _ (r : System) (is : IsRotation r) (u : ℕ) (lt : u < r.vertices) (takes
   placed = split_turns.placed
 
   -- the faces add up, beside the bare vertices
-  split_faces : faces (v + 1) (edges r) at behind + (v - 1) ≡ faces v ea (vertex_of a) (next a) + faces v eb (vertex_of b) (next b)
+  split_faces : faces (v + 1) (edges r) at behind + (v - 1) ≡ faces v ea (vertex_of a)
+      (next a) + faces v eb (vertex_of b) (next b)
   split_faces =
       let whole : v + 1 + (v - 1) ≡ v + v = omega arith in
       sym (faces-more_vertices (v + 1) (v - 1) (edges r) at behind placed)
@@ -317,7 +320,8 @@ module _ (r : System) (is : IsRotation r) (u : ℕ) (lt : u < r.vertices) (takes
       ∙ ap (λ (n : ℕ). n + faces v eb (vertex_of b) (next b)) (sym (faces_upto-agree v (2 * ea) ea (vertex_of a) (next a) at_new behind_new stand_low follow_low (omega arith)))
 
   -- the components add up, beside the bare vertices
-  split_components : components (v + 1) (edges r) at + (v - 1) ≡ components v ea (vertex_of a) + components v eb (vertex_of b)
+  split_components : components (v + 1)
+      (edges r) at + (v - 1) ≡ components v ea (vertex_of a) + components v eb (vertex_of b)
   split_components =
       let whole : v + 1 + (v - 1) ≡ v + v = omega arith in
       sym (components-more_vertices (v + 1) (v - 1) (edges r) at placed)
@@ -328,7 +332,8 @@ module _ (r : System) (is : IsRotation r) (u : ℕ) (lt : u < r.vertices) (takes
       ∙ ap (λ (n : ℕ). n + components v eb (vertex_of b)) (sym (components-agree v ea (vertex_of a) at_new stand_low))
 
   -- genus zero of the result, by its functions
-  split_zero : HasGenusZero (split_off r u takes) ↔ (v + 1 + faces (v + 1) (edges r) at behind ≡ edges r + 2 * components (v + 1) (edges r) at)
+  split_zero : HasGenusZero (split_off r u takes) ↔ (v + 1 + faces (v + 1) (edges r) at behind
+      ≡ edges r + 2 * components (v + 1) (edges r) at)
   split_zero = system_zero (v + 1) (edges r) at (lists_split r is u lt takes) behind (Listed-split r is u lt takes) (λ d l. refl)
 
   -- genus zero of a, by its functions

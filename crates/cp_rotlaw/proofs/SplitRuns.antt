@@ -24,7 +24,8 @@ use Rattle.cp_rotlaw.proofs.SplitVertices.{at_split, lists_split, split_moved, s
 use Rattle.cp_rotlaw.proofs.RestrictionLaws.{split_keeps_zero}
 
 -- the darts at u of the edges that are taken moved to a new vertex
-module _ (r : System) (is : IsRotation r) (u : ℕ) (lt : u < r.vertices) (takes : ℕ → Bool) (meet : MeetAt r u takes) where
+module _ (r : System) (is : IsRotation r) (u : ℕ) (lt : u < r.vertices) (takes : ℕ → Bool)
+    (meet : MeetAt r u takes) where
   -- how many vertices there were
   abbrev v : ℕ
   v = r.vertices
@@ -50,7 +51,8 @@ module _ (r : System) (is : IsRotation r) (u : ℕ) (lt : u < r.vertices) (takes
   new_turns = Listed-Rotates (v + 1) n at (lists_split r is u lt takes) (Listed-split r is u lt takes)
 
   -- genus zero of the result, by its functions
-  zero_split : HasGenusZero (split_off r u takes) → v + 1 + faces (v + 1) (edges r) at behind ≡ edges r + 2 * components (v + 1) (edges r) at
+  zero_split : HasGenusZero (split_off r u takes) → v + 1 + faces (v + 1) (edges r) at behind
+      ≡ edges r + 2 * components (v + 1) (edges r) at
   zero_split z = (system_zero (v + 1) (edges r) at (lists_split r is u lt takes) behind (Listed-split r is u lt takes) (λ d l. refl)).0 z
 
   -- the dart behind a dart elsewhere than at u is of its kind
@@ -58,7 +60,9 @@ module _ (r : System) (is : IsRotation r) (u : ℕ) (lt : u < r.vertices) (takes
   kind_elsewhere d l ne = meet (next r d) d (omega (arith, is.paired, old_turns.permutes.below d l)) (omega (arith, is.paired)) (old_turns.kept d l) (λ e. ne (sym (old_turns.kept d l) ∙ e))
 
   -- where one bare vertex more is all that is new
-  bare_only : ((d : ℕ) → d < n → behind d ≡ next r d) → faces (v + 1) (edges r) at (next r) ≡ faces (v + 1) (edges r) (vertex_of r) (next r) → components (v + 1) (edges r) at ≡ components (v + 1) (edges r) (vertex_of r) → HasGenusZero (split_off r u takes) → HasGenusZero r
+  bare_only : ((d : ℕ) → d < n → behind d ≡ next r d) → faces (v + 1) (edges r) at (next r) ≡ faces (v + 1) (edges r)
+      (vertex_of r) (next r) → components (v + 1) (edges r) at ≡ components (v + 1) (edges r) (vertex_of r)
+      → HasGenusZero (split_off r u takes) → HasGenusZero r
   bare_only same_behind same_faces same_components z =
       let s = zero_split z in
       let f : faces (v + 1) (edges r) at behind ≡ faces v (edges r) (vertex_of r) (next r) + 1 =
@@ -67,7 +71,8 @@ module _ (r : System) (is : IsRotation r) (u : ℕ) (lt : u < r.vertices) (takes
       HasGenusZero-from r is (omega arith)
 
   -- where no dart at u is taken
-  none_taken : ((d : ℕ) → d < n → vertex_of r d ≡ u → takes (d / 2) ≡ false) → HasGenusZero (split_off r u takes) → HasGenusZero r
+  none_taken : ((d : ℕ) → d < n → vertex_of r d ≡ u → takes (d / 2) ≡ false) → HasGenusZero (split_off r u takes)
+      → HasGenusZero r
   none_taken none = bare_only
       (λ d l. split_turn_same r is u lt takes meet d l (⊎_elim
       (λ e. none (next r d) (old_turns.permutes.below d l) (old_turns.kept d l ∙ e) ∙ sym (none d l e))
@@ -80,7 +85,8 @@ module _ (r : System) (is : IsRotation r) (u : ℕ) (lt : u < r.vertices) (takes
       same_at d l = ⊎_elim (λ e. split_left r is u lt takes d (none d l e)) (split_other r is u lt takes d) (cases_eq (vertex_of r d) u)
 
   -- where all darts at u are taken
-  all_taken : ((d : ℕ) → d < n → vertex_of r d ≡ u → takes (d / 2) ≡ true) → HasGenusZero (split_off r u takes) → HasGenusZero r
+  all_taken : ((d : ℕ) → d < n → vertex_of r d ≡ u → takes (d / 2) ≡ true) → HasGenusZero (split_off r u takes)
+      → HasGenusZero r
   all_taken all = bare_only
       (λ d l. split_turn_same r is u lt takes meet d l (⊎_elim
       (λ e. all (next r d) (old_turns.permutes.below d l) (old_turns.kept d l ∙ e) ∙ sym (all d l e))
@@ -100,11 +106,13 @@ module _ (r : System) (is : IsRotation r) (u : ℕ) (lt : u < r.vertices) (takes
       more : Turns (v + 1) (edges r) (vertex_of r) (next r)
       more = Rotates-more v (v + 1) n (vertex_of r) (next r) (omega arith) old_turns
 
-      numbers : Renames (v + 1) (edges r) (exchange u v) (exchange u v) (λ d. d) (λ d. d) (vertex_of r) (next r) (λ d. exchange u v (vertex_of r d)) (next r)
+      numbers : Renames (v + 1) (edges r) (exchange u v) (exchange u v) (λ d. d) (λ d. d) (vertex_of r) (next r)
+          (λ d. exchange u v (vertex_of r d)) (next r)
       numbers = Renames-vertices (v + 1) (edges r) (exchange u v) (exchange u v) (vertex_of r) (next r) more (Renumbers-exchange (v + 1) u v (omega arith) (omega arith))
 
   -- from a dart that is taken one that is not is reached over a last one
-  last_before : (k d : ℕ) → d < n → vertex_of r d ≡ u → takes (d / 2) ≡ true → ((a : ℕ) × (a < n) × (vertex_of r a ≡ u) × IsLastTaken r takes a) ⊎ (takes (iterate (next r) k d / 2) ≡ true)
+  last_before : (k d : ℕ) → d < n → vertex_of r d ≡ u → takes (d / 2) ≡ true
+      → ((a : ℕ) × (a < n) × (vertex_of r a ≡ u) × IsLastTaken r takes a) ⊎ (takes (iterate (next r) k d / 2) ≡ true)
   last_before zero d l e t = inr t
   last_before (suc k) d l e t = ⊎_elim
       (λ more. last_before k (next r d) (old_turns.permutes.below d l) (old_turns.kept d l ∙ e) more)
@@ -136,9 +144,11 @@ module _ (r : System) (is : IsRotation r) (u : ℕ) (lt : u < r.vertices) (takes
       false≢true (sym (ap₂ (λ a b. a || b) (ne_eqb u v (λ e. omega arith)) (of_taken_u r is u lt takes)) ∙ one ∙ or_left (eqb v v) (of_taken r is u lt takes v) (eq-eqb v v refl))
 
   -- where the darts at u that are taken are a run, and a is the last of them
-  module _ (run : IsRunAtVertex r u takes) (a : ℕ) (lta : a < n) (stands : vertex_of r a ≡ u) (last : IsLastTaken r takes a) where
+  module _ (run : IsRunAtVertex r u takes) (a : ℕ) (lta : a < n) (stands : vertex_of r a ≡ u)
+      (last : IsLastTaken r takes a) where
     -- behind it comes what came behind any dart that is the last of the others
-    after_run : (b : ℕ) → b < n → vertex_of r b ≡ u → takes (b / 2) ≡ false → takes (next r b / 2) ≡ true → behind a ≡ next r b
+    after_run : (b : ℕ) → b < n → vertex_of r b ≡ u → takes (b / 2) ≡ false → takes (next r b / 2) ≡ true
+        → behind a ≡ next r b
     after_run b ltb e f t =
         let w = Permutes-onto n behind new_turns.permutes (next r b) (old_turns.permutes.below b ltb) in
         let c : ℕ = w.0 in
@@ -155,7 +165,8 @@ module _ (r : System) (is : IsRotation r) (u : ℕ) (lt : u < r.vertices) (takes
         ap behind (sym is_a) ∙ w.2
 
     -- the last of the others
-    last_left : (b : ℕ) × (b < n) × (vertex_of r b ≡ u) × (takes (b / 2) ≡ false) × (takes (next r b / 2) ≡ true) × (behind b ≡ next r a)
+    last_left : (b : ℕ) × (b < n) × (vertex_of r b ≡ u) × (takes (b / 2) ≡ false) × (takes (next r b / 2) ≡ true)
+        × (behind b ≡ next r a)
     last_left =
         let w = Permutes-onto n behind new_turns.permutes (next r a) (old_turns.permutes.below a lta) in
         let b : ℕ = w.0 in
@@ -219,7 +230,8 @@ module _ (r : System) (is : IsRotation r) (u : ℕ) (lt : u < r.vertices) (takes
         (split_left r is u lt takes b last_left.3 ∙ last_left.2) (split_moved r is u lt takes a stands last.0) (λ e. omega arith) two_components s))
 
   -- a dart at u that a test passes, or none does
-  dart_at_u : (p : ℕ → Bool) → ((d : ℕ) × (d < n) × (vertex_of r d ≡ u) × (p d ≡ true)) ⊎ ((d : ℕ) → d < n → vertex_of r d ≡ u → p d ≡ false)
+  dart_at_u : (p : ℕ → Bool) → ((d : ℕ) × (d < n) × (vertex_of r d ≡ u) × (p d ≡ true)) ⊎ ((d : ℕ) → d < n
+      → vertex_of r d ≡ u → p d ≡ false)
   dart_at_u p = ⊎_elim
       (λ found. ⊎_elim
       (λ e. ⊎_elim (λ t. inl (found.0, found.1, e, t)) (λ f. absurd (false≢true (sym (ap₂ (λ a b. a && b) (eq-eqb (vertex_of r found.0) u e) f) ∙ found.2))) (cases_Bool (p found.0)))
@@ -251,7 +263,10 @@ module _ (r : System) (is : IsRotation r) (u : ℕ) (lt : u < r.vertices) (takes
       not_fails false e = absurd (false≢true (sym e))
 
 -- two sets of edges that meet at one vertex, the darts of one of them there in a run: genus zero is that of both parts
-pub run_by_parts : (r a b : System) → IsRotation r → IsRotation a → IsRotation b → (u : ℕ) → u < r.vertices → (takes : ℕ → Bool) → MeetAt r u takes → IsRunAtVertex r u takes → (na oa nb ob : ℕ → ℕ) → IsRestricted r a (λ e. not (takes e)) na oa → IsRestricted r b takes nb ob → HasGenusZero r ↔ (HasGenusZero a × HasGenusZero b)
+pub run_by_parts : (r a b : System) → IsRotation r → IsRotation a → IsRotation b → (u : ℕ) → u < r.vertices
+    → (takes : ℕ → Bool) → MeetAt r u takes → IsRunAtVertex r u takes → (na oa nb ob : ℕ → ℕ)
+    → IsRestricted r a (λ e. not (takes e)) na oa → IsRestricted r b takes nb ob
+    → HasGenusZero r ↔ (HasGenusZero a × HasGenusZero b)
 run_by_parts r a b is is_a is_b u lt takes meet run na oa nb ob res_a res_b =
     let split = run_zero r is u lt takes meet run in
     let parts = split_by_parts r is u lt takes meet a b is_a is_b na oa nb ob res_a res_b in

@@ -63,7 +63,8 @@ module _ (r : System) (is : IsRotation r) (u : ℕ) (lt : u < r.vertices) (takes
   split_list_other x nv nu = rw (ne_eqb x r.vertices nv, ne_eqb x u nu) refl
 
   -- what holds of darts that move, of those left at u and of those elsewhere holds of all
-  split_cases : (P : ℕ → Type 0) (d : ℕ) → (vertex_of r d ≡ u → taken d ≡ true → P r.vertices) → (vertex_of r d ≡ u → left d ≡ true → P u) → ((vertex_of r d ≡ u → ⊥) → P (vertex_of r d)) → P (at_split d)
+  split_cases : (P : ℕ → Type 0) (d : ℕ) → (vertex_of r d ≡ u → taken d ≡ true → P r.vertices)
+      → (vertex_of r d ≡ u → left d ≡ true → P u) → ((vertex_of r d ≡ u → ⊥) → P (vertex_of r d)) → P (at_split d)
   split_cases P d moved stays other = ⊎_elim
       (λ e. ⊎_elim
       (λ t. subst P (sym (split_moved d e t)) (moved e t))
@@ -121,7 +122,8 @@ module _ (r : System) (is : IsRotation r) (u : ℕ) (lt : u < r.vertices) (takes
   of_taken x = not (eqb x u) && stands taken_at (2 * edges r) x
 
   -- the vertex of a dart that is taken, elsewhere than at u
-  pub of_taken_yes : (d : ℕ) → d < 2 * edges r → takes (d / 2) ≡ true → (vertex_of r d ≡ u → ⊥) → of_taken (vertex_of r d) ≡ true
+  pub of_taken_yes : (d : ℕ) → d < 2 * edges r → takes (d / 2) ≡ true → (vertex_of r d ≡ u → ⊥)
+      → of_taken (vertex_of r d) ≡ true
   of_taken_yes d l t ne = rw (ne_eqb (vertex_of r d) u ne) (stands_at taken_at (2 * edges r) d (vertex_of r d) l (cond-true (takes (d / 2)) (vertex_of r d) r.vertices t))
 
   -- u itself
@@ -131,7 +133,8 @@ module _ (r : System) (is : IsRotation r) (u : ℕ) (lt : u < r.vertices) (takes
   -- where the edges that are taken and the others meet at u alone
   module _ (meet : MeetAt r u takes) where
     -- behind a dart that is left comes the next that is left
-    pub split_turn_left : (d : ℕ) → d < 2 * edges r → takes (d / 2) ≡ false → turn at_split lists_split d ≡ follow (filter left (list_of r (vertex_of r d))) d
+    pub split_turn_left : (d : ℕ) → d < 2 * edges r → takes (d / 2) ≡ false
+        → turn at_split lists_split d ≡ follow (filter left (list_of r (vertex_of r d))) d
     split_turn_left d l f =
         ap (λ x. follow (lists_split x) d) (split_left d f) ∙ ⊎_elim
         (λ e. ap (λ xs. follow xs d) (ap lists_split e ∙ split_list_left ∙ ap (λ x. filter left (list_of r x)) (sym e)))
@@ -143,7 +146,8 @@ module _ (r : System) (is : IsRotation r) (u : ℕ) (lt : u < r.vertices) (takes
         (cases_eq (vertex_of r d) u)
 
     -- behind a dart that is taken comes the next that is taken
-    pub split_turn_taken : (d : ℕ) → d < 2 * edges r → takes (d / 2) ≡ true → turn at_split lists_split d ≡ follow (filter taken (list_of r (vertex_of r d))) d
+    pub split_turn_taken : (d : ℕ) → d < 2 * edges r → takes (d / 2) ≡ true
+        → turn at_split lists_split d ≡ follow (filter taken (list_of r (vertex_of r d))) d
     split_turn_taken d l t = ⊎_elim
         (λ e. ap (λ x. follow (lists_split x) d) (split_moved d e t) ∙ ap (λ xs. follow xs d) (split_list_new ∙ ap (λ x. filter taken (list_of r x)) (sym e)))
         (λ ne. ap (λ x. follow (lists_split x) d) (split_other d ne) ∙ ap (λ xs. follow xs d) (
@@ -179,7 +183,8 @@ module _ (r : System) (is : IsRotation r) (u : ℕ) (lt : u < r.vertices) (takes
         (cases_Bool (taken d))
 
     -- where the dart behind a dart is of the same kind, it stays behind it
-    pub split_turn_same : (d : ℕ) → d < 2 * edges r → takes (next r d / 2) ≡ takes (d / 2) → turn at_split lists_split d ≡ next r d
+    pub split_turn_same : (d : ℕ) → d < 2 * edges r → takes (next r d / 2) ≡ takes (d / 2)
+        → turn at_split lists_split d ≡ next r d
     split_turn_same d l same =
         let behind : next r d ≡ follow (list_of r (vertex_of r d)) d = next-follow r is d (omega (arith, is.paired)) in
         ⊎_elim

@@ -19,7 +19,8 @@ use Rattle.cp_rotlaw.proofs.StarCode.{far_within, length-end_pairs}
 use Rattle.cp_rotlaw.proofs.StarSystems.{star_vertex-old, star_at_part, star_at_other, edge_part, edge_part_far, one_part, split_system, split-size, split_at}
 
 -- a dart of the pairs of ends starts where it stands, and ends where its twin stands
-pub pair_ends : (at : List ℕ) (d : ℕ) → length at ≡ 2 * (length at / 2) → d < length at → (start (end_pairs at) d ≡ slice_index at d) × (finish (end_pairs at) d ≡ slice_index at (twin d))
+pub pair_ends : (at : List ℕ) (d : ℕ) → length at ≡ 2 * (length at / 2) → d < length at
+    → (start (end_pairs at) d ≡ slice_index at d) × (finish (end_pairs at) d ≡ slice_index at (twin d))
 pair_ends at d paired lt =
     ⊎_elim
     (λ even.
@@ -32,10 +33,12 @@ pair_ends at d paired lt =
     (start_odd (end_pairs at) d odd ∙ ap (λ (p : ℕ × ℕ). p.1) pair ∙ ap (slice_index at) second, finish_odd (end_pairs at) d odd ∙ ap (λ (p : ℕ × ℕ). p.0) pair ∙ ap (slice_index at) first))
     (cases_eq (d % 2) 0)
   where
-    pair : slice_index_or (end_pairs at) (d / 2) (0, 0) ≡ (slice_index at (2 * (d / 2)), slice_index at (2 * (d / 2) + 1))
+    pair : slice_index_or (end_pairs at) (d / 2)
+        (0, 0) ≡ (slice_index at (2 * (d / 2)), slice_index at (2 * (d / 2) + 1))
     pair = (pair_of_edge at (d / 2) (omega arith)).1 (0, 0)
 
-module _ (r : System) (is : IsRotation r) (u : ℕ) (ltu : u < r.vertices) (parts : ℕ) (entered : List ℕ) (a : AreEntered r u parts entered) (more : ℕ) where
+module _ (r : System) (is : IsRotation r) (u : ℕ) (ltu : u < r.vertices) (parts : ℕ) (entered : List ℕ)
+    (a : AreEntered r u parts entered) (more : ℕ) where
   -- the edges before
   abbrev es : List (ℕ × ℕ)
   es = end_pairs r.at
@@ -85,7 +88,8 @@ module _ (r : System) (is : IsRotation r) (u : ℕ) (ltu : u < r.vertices) (part
       (cases_eq (vertex_of r c) u)
 
   -- darts of edges of one part stand together then if they did before
-  joined_there : (c d : ℕ) → vertex_of r c ≡ vertex_of r d → (vertex_of r d ≡ u → far_key r entered c ≡ far_key r entered d) → at c ≡ at d
+  joined_there : (c d : ℕ) → vertex_of r c ≡ vertex_of r d
+      → (vertex_of r d ≡ u → far_key r entered c ≡ far_key r entered d) → at c ≡ at d
   joined_there c d e same =
       ⊎_elim
       (λ d_at. star_at_part r u (part_of r entered) c (e ∙ d_at) ∙ ap (λ (k : ℕ). star_vertex r u (k - 1)) (same d_at) ∙ sym (star_at_part r u (part_of r entered) d d_at))
@@ -93,7 +97,8 @@ module _ (r : System) (is : IsRotation r) (u : ℕ) (ltu : u < r.vertices) (part
       (cases_eq (vertex_of r d) u)
 
   -- two edges of one block that meet at u are of one part
-  turn_there : (c d : ℕ) → c < darts r → d < darts r → vertex_of r (twin c) ≡ vertex_of r d → (c / 2 ≡ d / 2 → ⊥) → AreInOneBlock es (c / 2) (d / 2) → at (twin c) ≡ at d
+  turn_there : (c d : ℕ) → c < darts r → d < darts r → vertex_of r (twin c) ≡ vertex_of r d → (c / 2 ≡ d / 2 → ⊥)
+      → AreInOneBlock es (c / 2) (d / 2) → at (twin c) ≡ at d
   turn_there c d ltc ltd e differ block = joined_there (twin c) d e one
     where
       one : vertex_of r d ≡ u → far_key r entered (twin c) ≡ far_key r entered d
@@ -121,7 +126,8 @@ module _ (r : System) (is : IsRotation r) (u : ℕ) (ltu : u < r.vertices) (part
       low : (i : ℕ) → i < length ds → slice_index ds i < darts r
       low i lt = within_es (slice_index ds i) (cy.within i lt)
 
-      turn : (i j : ℕ) → i < length ds → j < length ds → finish es (slice_index ds i) ≡ start es (slice_index ds j) → (slice_index ds i / 2 ≡ slice_index ds j / 2 → ⊥) → at (twin (slice_index ds i)) ≡ at (slice_index ds j)
+      turn : (i j : ℕ) → i < length ds → j < length ds → finish es (slice_index ds i) ≡ start es (slice_index ds j)
+          → (slice_index ds i / 2 ≡ slice_index ds j / 2 → ⊥) → at (twin (slice_index ds i)) ≡ at (slice_index ds j)
       turn i j lti ltj e differ = turn_there (slice_index ds i) (slice_index ds j) (low i lti) (low j ltj) (sym (finish_es (slice_index ds i) (low i lti)) ∙ e ∙ start_es (slice_index ds j) (low j ltj)) differ (inr (ds, cy, (i, lti, refl), (j, ltj, refl)))
 
   -- a simple cycle of the result was one
@@ -139,10 +145,12 @@ module _ (r : System) (is : IsRotation r) (u : ℕ) (ltu : u < r.vertices) (part
       low : (i : ℕ) → i < length ds → slice_index ds i < darts r
       low i lt = within_es (slice_index ds i) (omega (arith, cy.within i lt, as_many))
 
-      meets : (i j : ℕ) → i < length ds → j < length ds → finish fs (slice_index ds i) ≡ start fs (slice_index ds j) → at (twin (slice_index ds i)) ≡ at (slice_index ds j)
+      meets : (i j : ℕ) → i < length ds → j < length ds → finish fs (slice_index ds i) ≡ start fs (slice_index ds j)
+          → at (twin (slice_index ds i)) ≡ at (slice_index ds j)
       meets i j lti ltj e = sym (finish_fs (slice_index ds i) (low i lti)) ∙ e ∙ start_fs (slice_index ds j) (low j ltj)
 
-      back : (i j : ℕ) → i < length ds → j < length ds → finish fs (slice_index ds i) ≡ start fs (slice_index ds j) → vertex_of r (twin (slice_index ds i)) ≡ vertex_of r (slice_index ds j)
+      back : (i j : ℕ) → i < length ds → j < length ds → finish fs (slice_index ds i) ≡ start fs (slice_index ds j)
+          → vertex_of r (twin (slice_index ds i)) ≡ vertex_of r (slice_index ds j)
       back i j lti ltj e = joined_back (twin (slice_index ds i)) (slice_index ds j) (far_within r is (slice_index ds i) (low i lti)).0 (low j ltj) (meets i j lti ltj e)
 
       part_at : ℕ → ℕ
@@ -158,7 +166,9 @@ module _ (r : System) (is : IsRotation r) (u : ℕ) (ltu : u < r.vertices) (part
       first : (i : ℕ) → i < length ds → part_at 0 ≡ part_at i
       first i lt = flat part_at 0 i (omega arith) (λ j le ltj. step j (omega arith))
 
-      together : (i j : ℕ) → i < length ds → j < length ds → vertex_of r (slice_index ds i) ≡ vertex_of r (slice_index ds j) → at (slice_index ds i) ≡ at (slice_index ds j)
+      together : (i j : ℕ) → i < length ds → j < length ds
+          → vertex_of r (slice_index ds i) ≡ vertex_of r (slice_index ds j)
+          → at (slice_index ds i) ≡ at (slice_index ds j)
       together i j lti ltj e = joined_there (slice_index ds i) (slice_index ds j) e
           (λ j_at. sym (edge_part_far r u parts entered a (slice_index ds i) (e ∙ j_at)) ∙ sym (first i lti) ∙ first j ltj ∙ edge_part_far r u parts entered a (slice_index ds j) j_at)
 

@@ -24,7 +24,8 @@ use Rattle.cp_rotlaw.proofs.PartPlaces.{ArePlaced-new, ArePlaced-old, ArePlaced-
 use Rattle.cp_rotlaw.specs.StarParts.{far_key, ArePlaced, AreEntered, part_of, star_row, AreRows}
 
 -- the other end of a dart is a vertex
-pub far_within : (r : System) → IsRotation r → (d : ℕ) → d < darts r → (twin d < darts r) × (vertex_of r (twin d) < r.vertices)
+pub far_within : (r : System) → IsRotation r → (d : ℕ) → d < darts r
+    → (twin d < darts r) × (vertex_of r (twin d) < r.vertices)
 far_within r is d lt = let below = twin-below (darts r) d is.paired lt in (below, is.placed (twin d) below)
 
 -- there are half as many pairs as items
@@ -34,7 +35,9 @@ length-end_pairs (s ∷ []) = refl
 length-end_pairs (s ∷ t ∷ at) = omega (arith, length-end_pairs at)
 
 -- a pair more
-pub pairs_more : (at : List ℕ) (e x y : ℕ) {ends more : List (ℕ × ℕ)} → e < length at / 2 → ends ≡ take e (end_pairs at) → x ≡ slice_index at (2 * e) → y ≡ slice_index at (2 * e + 1) → more ≡ ends ++ (x, y) ∷ [] → more ≡ take (e + 1) (end_pairs at)
+pub pairs_more : (at : List ℕ) (e x y : ℕ) {ends more : List (ℕ × ℕ)} → e < length at / 2 → ends ≡ take e (end_pairs at)
+    → x ≡ slice_index at (2 * e) → y ≡ slice_index at (2 * e + 1) → more ≡ ends ++ (x, y) ∷ []
+    → more ≡ take (e + 1) (end_pairs at)
 pairs_more at e x y {ends} {more} lt so_far first second is =
     let known = pair_of_edge at e (omega arith) in
     is ∙ ap₂ (λ (us : List (ℕ × ℕ)) (p : ℕ × ℕ). us ++ p ∷ []) so_far (ap₂ (λ (a b : ℕ). let p : ℕ × ℕ = (a, b) in p) first second ∙ sym (known.1 (0, 0)))
@@ -56,11 +59,14 @@ alone u es y c = eqb-true y u (Connected-closed (λ x. eqb x u) (without_vertex 
         ne_eqb e.0 u (avoided u e e.1 e.0 t (inr (refl, refl))) ∙ sym (ne_eqb e.1 u (avoided u e e.0 e.1 t (inl (refl, refl))))
 
 -- the rows of no darts are empty
-pub AreRows-none : (part : ℕ → ℕ) (xs : List ℕ) (parts : ℕ) (rows : List (List ℕ)) → length rows ≡ parts → ((i : ℕ) → slice_index_or rows i [] ≡ []) → AreRows part (take 0 xs) parts rows
+pub AreRows-none : (part : ℕ → ℕ) (xs : List ℕ) (parts : ℕ) (rows : List (List ℕ)) → length rows ≡ parts
+    → ((i : ℕ) → slice_index_or rows i [] ≡ []) → AreRows part (take 0 xs) parts rows
 AreRows-none part xs parts rows size empty = record { one_each = size; told = λ i lt. empty i }
 
 -- a dart is put at the end of the row of its part
-pub AreRows-more : (part : ℕ → ℕ) (xs : List ℕ) (parts k d : ℕ) (rows : List (List ℕ)) → AreRows part (take k xs) parts rows → k < length xs → d ≡ slice_index xs k → part d < parts → AreRows part (take (k + 1) xs) parts (set rows (part d) (slice_index_or rows (part d) [] ++ d ∷ []))
+pub AreRows-more : (part : ℕ → ℕ) (xs : List ℕ) (parts k d : ℕ) (rows : List (List ℕ))
+    → AreRows part (take k xs) parts rows → k < length xs → d ≡ slice_index xs k → part d < parts
+    → AreRows part (take (k + 1) xs) parts (set rows (part d) (slice_index_or rows (part d) [] ++ d ∷ []))
 AreRows-more part xs parts k d rows a lt is low = record {
   one_each = length-set rows (part d) (slice_index_or rows (part d) [] ++ d ∷ []) ∙ a.one_each;
   told = λ i lti. ⊎_elim
@@ -75,12 +81,15 @@ AreRows-more part xs parts k d rows a lt is low = record {
     append_nil [] = refl
     append_nil (y ∷ ys) = ap (λ (zs : List ℕ). y ∷ zs) (append_nil ys)
 
-    grown : (i : ℕ) (ys : List ℕ) → cond (eqb (part (get_or xs k 0)) i) (get_or xs k 0 ∷ []) [] ≡ ys → star_row part (take (k + 1) xs) i ≡ star_row part (take k xs) i ++ ys
+    grown : (i : ℕ) (ys : List ℕ) → cond (eqb (part (get_or xs k 0)) i) (get_or xs k 0 ∷ []) [] ≡ ys
+        → star_row part (take (k + 1) xs) i ≡ star_row part (take k xs) i ++ ys
     grown i ys e = filter_more (λ d. eqb (part d) i) xs k 0 lt ∙ ap (λ (zs : List ℕ). star_row part (take k xs) i ++ zs) e
 
 -- what the tables tell of the parts
-pub AreEntered-from : (r : System) (u : ℕ) (numbers places : List ℕ) (parts : ℕ) {entered : List ℕ} → IsRotation r → u < r.vertices → HasNoLoopAt r u → AreNumbered (Connected (without_vertex u (end_pairs r.at))) r.vertices numbers
-    → ArePlaced (stands_at r.at u) (far_key r numbers) (length numbers) (darts r) places parts → entered ≡ map (slice_index places) numbers → AreEntered r u parts entered
+pub AreEntered-from : (r : System) (u : ℕ) (numbers places : List ℕ) (parts : ℕ) {entered : List ℕ} → IsRotation r
+    → u < r.vertices → HasNoLoopAt r u → AreNumbered (Connected (without_vertex u (end_pairs r.at))) r.vertices numbers
+    → ArePlaced (stands_at r.at u) (far_key r numbers) (length numbers) (darts r) places parts
+    → entered ≡ map (slice_index places) numbers → AreEntered r u parts entered
 AreEntered-from r u numbers places parts {entered} is ltu no_loop are placed made = record {
   one_each = size;
   few = (parts-le (stands_at r.at u) (far_key r numbers) (length numbers) (darts r) places parts placed);
@@ -112,7 +121,8 @@ AreEntered-from r u numbers places parts {entered} is ltu no_loop are placed mad
         no_loop h.0 h.1 (eqb-true (vertex_of r h.0) u h.2) (alone u (end_pairs r.at) (vertex_of r (twin h.0)) (connected_by_number es r.vertices numbers are u (vertex_of r (twin h.0)) ltu (far_within r is h.0 h.1).1 (sym h.3)))
 
 -- there is a part where there is a dart
-pub some_part : (r : System) (u parts : ℕ) (entered : List ℕ) → IsRotation r → u < r.vertices → AreEntered r u parts entered → list_of r u ≢ [] → 0 < parts
+pub some_part : (r : System) (u parts : ℕ) (entered : List ℕ) → IsRotation r → u < r.vertices
+    → AreEntered r u parts entered → list_of r u ≢ [] → 0 < parts
 some_part r u parts entered is ltu a some = by_list (list_of r u) refl
   where
     by_list : (xs : List ℕ) → xs ≡ list_of r u → 0 < parts
@@ -122,32 +132,48 @@ some_part r u parts entered is ltu a some = by_list (list_of r u) refl
         omega (arith, a.seen (slice_index (list_of r u) 0) (record { within = d.0; stands = d.1 }), a.within (vertex_of r (twin (slice_index (list_of r u) 0))))
 
 -- the same as a program finds them: the dart does not stand at u
-pub placed_skip : (r : System) (u d v : ℕ) (numbers : List ℕ) {places moved : List ℕ} {parts more : ℕ} → ArePlaced (stands_at r.at u) (far_key r numbers) (length numbers) d places parts → v ≡ vertex_of r d → (v ≡ u → ⊥) → moved ≡ places → more ≡ parts → ArePlaced (stands_at r.at u) (far_key r numbers) (length numbers) (d + 1) moved more
+pub placed_skip : (r : System) (u d v : ℕ) (numbers : List ℕ) {places moved : List ℕ} {parts more : ℕ}
+    → ArePlaced (stands_at r.at u) (far_key r numbers) (length numbers) d places parts → v ≡ vertex_of r d → (v ≡ u → ⊥)
+    → moved ≡ places → more ≡ parts → ArePlaced (stands_at r.at u) (far_key r numbers) (length numbers)
+    (d + 1) moved more
 placed_skip r u d v numbers {places} {parts} a at ne e_places e_parts =
     subst₂ (λ (xs : List ℕ) (n : ℕ). ArePlaced (stands_at r.at u) (far_key r numbers) (length numbers) (d + 1) xs n) (sym e_places) (sym e_parts)
     (ArePlaced-skip (stands_at r.at u) (far_key r numbers) (length numbers) d places parts a (ne_eqb (vertex_of r d) u (λ e. ne (at ∙ e))))
 
 -- its part is known
-pub placed_old : (r : System) (u d v far key : ℕ) (numbers : List ℕ) {places moved : List ℕ} {parts more : ℕ} → ArePlaced (stands_at r.at u) (far_key r numbers) (length numbers) d places parts → v ≡ vertex_of r d → v ≡ u → far ≡ vertex_of r (twin d) → key ≡ slice_index numbers far → key < length numbers → (slice_index places key ≡ 0 → ⊥) → moved ≡ places → more ≡ parts → ArePlaced (stands_at r.at u) (far_key r numbers) (length numbers) (d + 1) moved more
+pub placed_old : (r : System) (u d v far key : ℕ) (numbers : List ℕ) {places moved : List ℕ} {parts more : ℕ}
+    → ArePlaced (stands_at r.at u) (far_key r numbers) (length numbers) d places parts → v ≡ vertex_of r d → v ≡ u
+    → far ≡ vertex_of r (twin d) → key ≡ slice_index numbers far → key < length numbers
+    → (slice_index places key ≡ 0 → ⊥) → moved ≡ places → more ≡ parts
+    → ArePlaced (stands_at r.at u) (far_key r numbers) (length numbers) (d + 1) moved more
 placed_old r u d v far key numbers {places} {parts} a at is far_at read low ne e_places e_parts =
     let key_is : key ≡ far_key r numbers d = read ∙ ap (slice_index numbers) far_at in
     subst₂ (λ (xs : List ℕ) (n : ℕ). ArePlaced (stands_at r.at u) (far_key r numbers) (length numbers) (d + 1) xs n) (sym e_places) (sym e_parts)
     (ArePlaced-old (stands_at r.at u) (far_key r numbers) (length numbers) d places parts a (eq-eqb (vertex_of r d) u (sym at ∙ is)) (subst (λ (k : ℕ). k < length numbers) key_is low) (subst (λ (k : ℕ). 0 < slice_index places k) key_is (omega arith)))
 
 -- its part is a new one
-pub placed_new : (r : System) (u d v far key : ℕ) (numbers : List ℕ) {places moved : List ℕ} {parts more : ℕ} → ArePlaced (stands_at r.at u) (far_key r numbers) (length numbers) d places parts → v ≡ vertex_of r d → v ≡ u → far ≡ vertex_of r (twin d) → key ≡ slice_index numbers far → key < length numbers → slice_index places key ≡ 0 → moved ≡ set places key (parts + 1) → more ≡ parts + 1 → ArePlaced (stands_at r.at u) (far_key r numbers) (length numbers) (d + 1) moved more
+pub placed_new : (r : System) (u d v far key : ℕ) (numbers : List ℕ) {places moved : List ℕ} {parts more : ℕ}
+    → ArePlaced (stands_at r.at u) (far_key r numbers) (length numbers) d places parts → v ≡ vertex_of r d → v ≡ u
+    → far ≡ vertex_of r (twin d) → key ≡ slice_index numbers far → key < length numbers → slice_index places key ≡ 0
+    → moved ≡ set places key (parts + 1) → more ≡ parts + 1
+    → ArePlaced (stands_at r.at u) (far_key r numbers) (length numbers) (d + 1) moved more
 placed_new r u d v far key numbers {places} {parts} a at is far_at read low none e_places e_parts =
     let key_is : key ≡ far_key r numbers d = read ∙ ap (slice_index numbers) far_at in
     subst₂ (λ (xs : List ℕ) (n : ℕ). ArePlaced (stands_at r.at u) (far_key r numbers) (length numbers) (d + 1) xs n) (ap (λ (k : ℕ). set places k (parts + 1)) (sym key_is) ∙ sym e_places) (sym e_parts)
     (ArePlaced-new (stands_at r.at u) (far_key r numbers) (length numbers) d places parts a (eq-eqb (vertex_of r d) u (sym at ∙ is)) (subst (λ (k : ℕ). k < length numbers) key_is low) (ap (slice_index places) (sym key_is) ∙ none))
 
 -- a dart of u is in one of the parts
-pub part_within : (r : System) (u parts : ℕ) (entered : List ℕ) → AreEntered r u parts entered → (d : ℕ) → IsDartOf r u d → part_of r entered d < parts
+pub part_within : (r : System) (u parts : ℕ) (entered : List ℕ) → AreEntered r u parts entered → (d : ℕ)
+    → IsDartOf r u d → part_of r entered d < parts
 part_within r u parts entered a d dart = omega (arith, a.seen d dart, a.within (vertex_of r (twin d)))
 
 -- the rows as a program finds them
-pub rows_more : (r : System) (u parts k d i : ℕ) (entered : List ℕ) {xs ys : List ℕ} {rows : List (List ℕ)} {row new : List ℕ} → IsRotation r → u < r.vertices → AreEntered r u parts entered → AreRows (part_of r entered) (take k (list_of r u)) parts rows
-    → xs ≡ ys → ys ≡ list_of r u → k < length xs → d ≡ slice_index xs k → i ≡ part_of r entered d → row ≡ get_or rows i row → new ≡ row ++ d ∷ [] → AreRows (part_of r entered) (take (k + 1) (list_of r u)) parts (set rows i new)
+pub rows_more : (r : System) (u parts k d i : ℕ) (entered : List ℕ)
+    {xs ys : List ℕ} {rows : List (List ℕ)} {row new : List ℕ} → IsRotation r → u < r.vertices
+    → AreEntered r u parts entered → AreRows (part_of r entered) (take k (list_of r u)) parts rows
+    → xs ≡ ys → ys ≡ list_of r u → k < length xs → d ≡ slice_index xs k → i ≡ part_of r entered d
+    → row ≡ get_or rows i row → new ≡ row ++ d ∷ [] → AreRows (part_of r entered)
+    (take (k + 1) (list_of r u)) parts (set rows i new)
 rows_more r u parts k d i entered {xs} {ys} {rows} {row} {new} is ltu a so_far xs_is ys_is lt d_is i_is read grown =
     subst (λ (zs : List ℕ). AreRows (part_of r entered) (take (k + 1) (list_of r u)) parts (set rows i zs)) (sym (grown ∙ ap (λ (zs : List ℕ). zs ++ d ∷ []) (read ∙ here)))
     (subst (λ (j : ℕ). AreRows (part_of r entered) (take (k + 1) (list_of r u)) parts (set rows j (get_or rows j [] ++ d ∷ []))) (sym i_is)

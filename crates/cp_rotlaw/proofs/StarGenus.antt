@@ -55,18 +55,22 @@ stays w u n t h = ⊎_elim (λ ne. rw (ne_eqb w u ne) refl) (λ f. untaken (eqb 
     untaken false c f = refl
 
 -- the list of the new vertex of a split
-new_list : (s : System) (u : ℕ) (t : ℕ → Bool) (x : ℕ) → x ≡ s.vertices → split_list s u t x ≡ filter (λ d. t (d / 2)) (list_of s u)
+new_list : (s : System) (u : ℕ) (t : ℕ → Bool) (x : ℕ) → x ≡ s.vertices
+    → split_list s u t x ≡ filter (λ d. t (d / 2)) (list_of s u)
 new_list s u t x e = rw (eq-eqb x s.vertices e) refl
 
 -- the list of the vertex that is split
-left_list : (s : System) (u : ℕ) (t : ℕ → Bool) (x : ℕ) → (x ≡ s.vertices → ⊥) → x ≡ u → split_list s u t x ≡ filter (λ d. not (t (d / 2))) (list_of s u)
+left_list : (s : System) (u : ℕ) (t : ℕ → Bool) (x : ℕ) → (x ≡ s.vertices → ⊥) → x ≡ u
+    → split_list s u t x ≡ filter (λ d. not (t (d / 2))) (list_of s u)
 left_list s u t x ne e = rw (ne_eqb x s.vertices ne, eq-eqb x u e) refl
 
 -- the other lists
-other_list : (s : System) (u : ℕ) (t : ℕ → Bool) (x : ℕ) → (x ≡ s.vertices → ⊥) → (x ≡ u → ⊥) → split_list s u t x ≡ list_of s x
+other_list : (s : System) (u : ℕ) (t : ℕ → Bool) (x : ℕ) → (x ≡ s.vertices → ⊥) → (x ≡ u → ⊥)
+    → split_list s u t x ≡ list_of s x
 other_list s u t x ne nu = rw (ne_eqb x s.vertices ne, ne_eqb x u nu) refl
 
-module _ (r : System) (is : IsRotation r) (u : ℕ) (ltu : u < r.vertices) (parts : ℕ) (entered : List ℕ) (a : AreEntered r u parts entered) where
+module _ (r : System) (is : IsRotation r) (u : ℕ) (ltu : u < r.vertices) (parts : ℕ) (entered : List ℕ)
+    (a : AreEntered r u parts entered) where
   -- the number of the vertex of dart d, where the parts above k are at u
   abbrev pub limited : ℕ → ℕ → ℕ
   limited k d = cond (ltb k (part_of r entered d)) 0 (part_of r entered d)
@@ -138,7 +142,8 @@ module _ (r : System) (is : IsRotation r) (u : ℕ) (ltu : u < r.vertices) (part
   listed d h = let w = (Listed-system r is).item u d ltu h in record { within = w.0; stands = w.1 }
 
   -- the list of the next vertex
-  row_taken : (k : ℕ) → filter (λ d. takes k (d / 2)) (star_row (limited k) (list_of r u) 0) ≡ star_row (limited (suc k)) (list_of r u) (suc k)
+  row_taken : (k : ℕ) → filter (λ d. takes k (d / 2)) (star_row (limited k) (list_of r u) 0)
+      ≡ star_row (limited (suc k)) (list_of r u) (suc k)
   row_taken k = filter_twice (λ d. eqb (limited k d) 0) (λ d. takes k (d / 2)) (list_of r u) ∙ filter_agree (λ d. eqb (limited k d) 0 && takes k (d / 2)) (λ d. eqb (limited (suc k) d) (suc k)) (list_of r u) agree
     where
       and_no : (b t : Bool) → t ≡ false → (b && t) ≡ false
@@ -155,7 +160,8 @@ module _ (r : System) (is : IsRotation r) (u : ℕ) (ltu : u < r.vertices) (part
           (cases_eq (part_of r entered d) (suc k))
 
   -- the list of u then
-  row_left : (k : ℕ) → filter (λ d. not (takes k (d / 2))) (star_row (limited k) (list_of r u) 0) ≡ star_row (limited (suc k)) (list_of r u) 0
+  row_left : (k : ℕ) → filter (λ d. not (takes k (d / 2))) (star_row (limited k) (list_of r u) 0)
+      ≡ star_row (limited (suc k)) (list_of r u) 0
   row_left k = filter_twice (λ d. eqb (limited k d) 0) (λ d. not (takes k (d / 2))) (list_of r u) ∙ filter_agree (λ d. eqb (limited k d) 0 && not (takes k (d / 2))) (λ d. eqb (limited (suc k) d) 0) (list_of r u) agree
     where
       and_false : (b : Bool) → (b && not true) ≡ false
@@ -173,7 +179,8 @@ module _ (r : System) (is : IsRotation r) (u : ℕ) (ltu : u < r.vertices) (part
           (cases_eq (part_of r entered d) (suc k))
 
   -- the other lists stay
-  row_same : (k i : ℕ) → 0 < i → i ≤ k → star_row (limited k) (list_of r u) i ≡ star_row (limited (suc k)) (list_of r u) i
+  row_same : (k i : ℕ) → 0 < i → i ≤ k → star_row (limited k) (list_of r u) i ≡ star_row (limited (suc k))
+      (list_of r u) i
   row_same k i some low = filter_agree (λ d. eqb (limited k d) i) (λ d. eqb (limited (suc k) d) i) (list_of r u) agree
     where
       agree : (d : ℕ) → Has d (list_of r u) → eqb (limited k d) i ≡ eqb (limited (suc k) d) i
@@ -182,7 +189,8 @@ module _ (r : System) (is : IsRotation r) (u : ℕ) (ltu : u < r.vertices) (part
           (λ other. ap (λ (x : ℕ). eqb x i) (limited_step k d other))
           (cases_eq (part_of r entered d) (suc k))
 
-  next_list : (k x : ℕ) → x < r.vertices + k + 1 → split_list (stage k) u (takes k) x ≡ star_lists r u (limited (suc k)) x
+  next_list : (k x : ℕ) → x < r.vertices + k + 1 → split_list (stage k) u (takes k) x
+      ≡ star_lists r u (limited (suc k)) x
   next_list k x lt =
       ⊎_elim
       (λ new. new_list (stage k) u (takes k) x new ∙ ap (filter (λ d. takes k (d / 2))) (stage_list_u k) ∙ row_taken k
@@ -231,7 +239,8 @@ module _ (r : System) (is : IsRotation r) (u : ℕ) (ltu : u < r.vertices) (part
       at_same : (d : ℕ) → d < 2 * edges r → star_at r u (limited (parts - 1)) d ≡ star_at r u (part_of r entered) d
       at_same d lt = ap (λ (i : ℕ). cond (eqb (vertex_of r d) u) (star_vertex r u i) (vertex_of r d)) (all d)
 
-      lists_same : (x : ℕ) → x < r.vertices + (parts - 1) → star_lists r u (limited (parts - 1)) x ≡ star_lists r u (part_of r entered) x
+      lists_same : (x : ℕ) → x < r.vertices + (parts - 1)
+          → star_lists r u (limited (parts - 1)) x ≡ star_lists r u (part_of r entered) x
       lists_same x lt = ap₂ (λ (ys zs : List ℕ). cond (eqb x u) ys (cond (ltb x r.vertices) (list_of r x) zs)) (row 0) (row (x + 1 - r.vertices))
 
   -- the edges of the next part and the others meet at u alone
@@ -246,7 +255,8 @@ module _ (r : System) (is : IsRotation r) (u : ℕ) (ltu : u < r.vertices) (part
       used : (d : ℕ) → vertex_of r d ≡ u → star_at r u (limited k) d ≢ u → limited k d ≡ part_of r entered d
       used d e away = ⊎_elim (λ lt. absurd (away (star_at_part r u (limited k) d e ∙ ap (star_vertex r u) (limited_high k d lt)))) (λ le. limited_low k d le) (cases_lt k (part_of r entered d))
 
-      equal : (d f : ℕ) → d < darts r → f < darts r → star_at r u (limited k) d ≡ star_at r u (limited k) f → star_at r u (limited k) d ≢ u → edge_part r entered (d / 2) ≡ edge_part r entered (f / 2)
+      equal : (d f : ℕ) → d < darts r → f < darts r → star_at r u (limited k) d ≡ star_at r u (limited k) f
+          → star_at r u (limited k) d ≢ u → edge_part r entered (d / 2) ≡ edge_part r entered (f / 2)
       equal d f ltd ltf at away =
           ⊎_elim
           (λ d_at. ⊎_elim
@@ -271,5 +281,6 @@ module _ (r : System) (is : IsRotation r) (u : ℕ) (ltu : u < r.vertices) (part
       subst (λ s. IsRotation s × (HasGenusZero r → HasGenusZero s)) (stage_next k) (IsRotation-split (stage k) h.0 u (omega arith) (takes k), λ z. split_keeps_zero (stage k) u (takes k) h.0 (omega arith) (stage_meet k) (h.1 z))
 
   -- so is the result
-  pub star_good : IsRotation (star_system r u (parts - 1) (part_of r entered)) × (HasGenusZero r → HasGenusZero (star_system r u (parts - 1) (part_of r entered)))
+  pub star_good : IsRotation (star_system r u (parts - 1) (part_of r entered)) × (HasGenusZero r
+      → HasGenusZero (star_system r u (parts - 1) (part_of r entered)))
   star_good = subst (λ s. IsRotation s × (HasGenusZero r → HasGenusZero s)) stage_last (stage_good (parts - 1))

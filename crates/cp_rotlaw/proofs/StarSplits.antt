@@ -19,7 +19,8 @@ pub record HasStar (r : System) (u : ℕ) (s : System) : Type 0 where
   pub blocks : HaveSameBlocks r s
 
 -- the system of the parts is
-pub HasStar-system : (r : System) (u parts : ℕ) (entered : List ℕ) → IsRotation r → u < r.vertices → 0 < parts → AreEntered r u parts entered → HasStar r u (star_system r u (parts - 1) (part_of r entered))
+pub HasStar-system : (r : System) (u parts : ℕ) (entered : List ℕ) → IsRotation r → u < r.vertices → 0 < parts
+    → AreEntered r u parts entered → HasStar r u (star_system r u (parts - 1) (part_of r entered))
 HasStar-system r u parts entered is ltu some a = record {
   rotation = (star_good r is u ltu parts entered a).0;
   split = star_split_is r u parts entered is ltu some a;
@@ -28,9 +29,13 @@ HasStar-system r u parts entered is ltu some a = record {
 }
 
 -- so is that of the tables, as the program reads them
-pub HasStar-made : (r : System) (u parts : ℕ) {entered first second at at_read : List ℕ} {rows rows_read lists lists_read : List (List ℕ)} → IsRotation r → u < r.vertices → list_of r u ≢ [] → AreEntered r u parts entered
+pub HasStar-made : (r : System) (u parts : ℕ)
+    {entered first second at at_read : List ℕ} {rows rows_read lists lists_read : List (List ℕ)} → IsRotation r
+    → u < r.vertices → list_of r u ≢ [] → AreEntered r u parts entered
     → first ≡ entered → second ≡ entered → rows_read ≡ rows → at_read ≡ at → lists_read ≡ lists
-    → at ≡ values (darts r) (star_at r u (part_of r first)) → AreRows (part_of r second) (list_of r u) parts rows → lists ≡ values (r.vertices + (length rows_read - 1)) (star_list r u rows_read) → HasStar r u (system_of at_read lists_read)
+    → at ≡ values (darts r) (star_at r u (part_of r first)) → AreRows (part_of r second) (list_of r u) parts rows
+    → lists ≡ values (r.vertices + (length rows_read - 1)) (star_list r u rows_read)
+    → HasStar r u (system_of at_read lists_read)
 HasStar-made r u parts {entered} {at_read = at_read} {rows = rows} {lists_read = lists_read} is ltu some a first_is second_is rows_is at_is lists_is e_at e_rows e_lists =
     subst (HasStar r u) (sym made) (HasStar-system r u parts entered is ltu (some_part r u parts entered is ltu a some) a)
   where

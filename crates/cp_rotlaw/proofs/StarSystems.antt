@@ -35,18 +35,22 @@ values_same zero f g h = refl
 values_same (suc n) f g h = ap₂ (λ xs x. xs ++ x ∷ []) (values_same n f g (λ i lt. h i (omega arith))) (h n (omega arith))
 
 -- a list is that of its items
-pub values_of : {A : Type 0} (n : ℕ) (f : ℕ → A) (xs : List A) → length xs ≡ n → ((i : ℕ) (z : A) → i < n → slice_index_or xs i z ≡ f i) → xs ≡ values n f
+pub values_of : {A : Type 0} (n : ℕ) (f : ℕ → A) (xs : List A) → length xs ≡ n
+    → ((i : ℕ) (z : A) → i < n → slice_index_or xs i z ≡ f i) → xs ≡ values n f
 values_of n f xs size h = same_lists xs (values n f) (size ∙ sym (length-values n f)) (λ k d lt. h k d (omega arith) ∙ sym (values_at n f k d (omega arith)))
 
 -- systems of functions that agree are the same
-pub system_same : (v w e : ℕ) (at at' : ℕ → ℕ) (lists lists' : ℕ → List ℕ) → v ≡ w → ((d : ℕ) → d < 2 * e → at d ≡ at' d) → ((x : ℕ) → x < v → lists x ≡ lists' x) → system v e at lists ≡ system w e at' lists'
+pub system_same : (v w e : ℕ) (at at' : ℕ → ℕ) (lists lists' : ℕ → List ℕ) → v ≡ w
+    → ((d : ℕ) → d < 2 * e → at d ≡ at' d) → ((x : ℕ) → x < v → lists x ≡ lists' x)
+    → system v e at lists ≡ system w e at' lists'
 system_same v w e at at' lists lists' same h k =
     ap (λ xs. let s : System = record { vertices = v; at = xs; lists = values v lists } in s) (values_same (2 * e) at at' h)
     ∙ ap (λ xs. let s : System = record { vertices = v; at = values (2 * e) at'; lists = xs } in s) (values_same v lists lists' k)
     ∙ ap (λ n. system n e at' lists') same
 
 -- the first part has the number u, and the others come behind all vertices
-pub star_vertex_cases : (r : System) (u i : ℕ) → ((i ≡ 0) × (star_vertex r u i ≡ u)) ⊎ ((0 < i) × (star_vertex r u i + 1 ≡ r.vertices + i))
+pub star_vertex_cases : (r : System) (u i : ℕ) → ((i ≡ 0) × (star_vertex r u i ≡ u))
+    ⊎ ((0 < i) × (star_vertex r u i + 1 ≡ r.vertices + i))
 star_vertex_cases r u zero = inl (refl, refl)
 star_vertex_cases r u (suc i) = inr (omega arith, omega arith)
 
@@ -67,11 +71,13 @@ pub star_vertex-below : (r : System) (u i more : ℕ) → u < r.vertices → i �
 star_vertex-below r u i more lt le = ⊎_elim (λ h. omega (arith, h.1)) (λ h. omega (arith, h.0, h.1)) (star_vertex_cases r u i)
 
 -- a dart of u stands at the vertex of its part
-pub star_at_part : (r : System) (u : ℕ) (part : ℕ → ℕ) (d : ℕ) → vertex_of r d ≡ u → star_at r u part d ≡ star_vertex r u (part d)
+pub star_at_part : (r : System) (u : ℕ) (part : ℕ → ℕ) (d : ℕ) → vertex_of r d ≡ u
+    → star_at r u part d ≡ star_vertex r u (part d)
 star_at_part r u part d e = rw (eq-eqb (vertex_of r d) u e) refl
 
 -- any other stays
-pub star_at_other : (r : System) (u : ℕ) (part : ℕ → ℕ) (d : ℕ) → (vertex_of r d ≡ u → ⊥) → star_at r u part d ≡ vertex_of r d
+pub star_at_other : (r : System) (u : ℕ) (part : ℕ → ℕ) (d : ℕ) → (vertex_of r d ≡ u → ⊥)
+    → star_at r u part d ≡ vertex_of r d
 star_at_other r u part d ne = rw (ne_eqb (vertex_of r d) u ne) refl
 
 -- the list of u
@@ -79,15 +85,18 @@ pub star_lists_first : (r : System) (u : ℕ) (part : ℕ → ℕ) → star_list
 star_lists_first r u part = rw (eq-eqb u u refl) refl
 
 -- the lists of the other old vertices
-pub star_lists_other : (r : System) (u : ℕ) (part : ℕ → ℕ) (v : ℕ) → v < r.vertices → (v ≡ u → ⊥) → star_lists r u part v ≡ list_of r v
+pub star_lists_other : (r : System) (u : ℕ) (part : ℕ → ℕ) (v : ℕ) → v < r.vertices → (v ≡ u → ⊥)
+    → star_lists r u part v ≡ list_of r v
 star_lists_other r u part v lt ne = rw (ne_eqb v u ne, lt-ltb v r.vertices lt) refl
 
 -- those of the new ones
-pub star_lists_new : (r : System) (u : ℕ) (part : ℕ → ℕ) (v : ℕ) → u < r.vertices → r.vertices ≤ v → star_lists r u part v ≡ star_row part (list_of r u) (v + 1 - r.vertices)
+pub star_lists_new : (r : System) (u : ℕ) (part : ℕ → ℕ) (v : ℕ) → u < r.vertices → r.vertices ≤ v
+    → star_lists r u part v ≡ star_row part (list_of r u) (v + 1 - r.vertices)
 star_lists_new r u part v ltu le = rw (ne_eqb v u (λ e. omega arith), le-ltb v r.vertices le) refl
 
 -- the vertex of a part has the darts of the part
-pub star_lists_part : (r : System) (u : ℕ) (part : ℕ → ℕ) (i : ℕ) → u < r.vertices → star_lists r u part (star_vertex r u i) ≡ star_row part (list_of r u) i
+pub star_lists_part : (r : System) (u : ℕ) (part : ℕ → ℕ) (i : ℕ) → u < r.vertices
+    → star_lists r u part (star_vertex r u i) ≡ star_row part (list_of r u) i
 star_lists_part r u part i ltu =
     ⊎_elim
     (λ h. ap (star_lists r u part) h.1 ∙ star_lists_first r u part ∙ ap (star_row part (list_of r u)) (sym h.0))
@@ -95,7 +104,10 @@ star_lists_part r u part i ltu =
     (star_vertex_cases r u i)
 
 -- what the program makes is that system
-pub made_star : (r : System) (u parts : ℕ) (part : ℕ → ℕ) {at : List ℕ} {lists rows : List (List ℕ)} → IsRotation r → u < r.vertices → 0 < parts → AreRows part (list_of r u) parts rows → at ≡ values (darts r) (star_at r u part) → lists ≡ values (r.vertices + (length rows - 1)) (star_list r u rows) → system_of at lists ≡ star_system r u (parts - 1) part
+pub made_star : (r : System) (u parts : ℕ) (part : ℕ → ℕ) {at : List ℕ} {lists rows : List (List ℕ)} → IsRotation r
+    → u < r.vertices → 0 < parts → AreRows part (list_of r u) parts rows → at ≡ values (darts r) (star_at r u part)
+    → lists ≡ values (r.vertices + (length rows - 1)) (star_list r u rows)
+    → system_of at lists ≡ star_system r u (parts - 1) part
 made_star r u parts part {at} {lists} {rows} is ltu some a e_at e_lists =
     let more : r.vertices + (length rows - 1) ≡ r.vertices + (parts - 1) = omega (arith, a.one_each) in
     ap₂ system_of (e_at ∙ ap (λ n. values n (star_at r u part)) is.paired) (e_lists ∙ ap (λ n. values n (star_list r u rows)) more ∙ values_same (r.vertices + (parts - 1)) (star_list r u rows) (star_lists r u part) lists_same)
@@ -108,7 +120,8 @@ made_star r u parts part {at} {lists} {rows} is ltu some a e_at e_lists =
         (cases_eq v u)
 
 -- it is split into the parts
-pub split_of : (r : System) (u parts : ℕ) (part : ℕ → ℕ) → IsRotation r → u < r.vertices → 0 < parts → IsSplitIntoParts r u parts part (star_system r u (parts - 1) part)
+pub split_of : (r : System) (u parts : ℕ) (part : ℕ → ℕ) → IsRotation r → u < r.vertices → 0 < parts
+    → IsSplitIntoParts r u parts part (star_system r u (parts - 1) part)
 split_of r u parts part is ltu some = record {
   vertices = omega arith;
   size = length-values (2 * edges r) (star_at r u part) ∙ sym is.paired;
@@ -118,7 +131,8 @@ split_of r u parts part is ltu some = record {
 }
 
 -- the parts are those that the edges enter
-pub AreParts-entered : (r : System) (u parts : ℕ) (entered : List ℕ) → IsRotation r → AreEntered r u parts entered → AreParts r u parts (part_of r entered)
+pub AreParts-entered : (r : System) (u parts : ℕ) (entered : List ℕ) → IsRotation r → AreEntered r u parts entered
+    → AreParts r u parts (part_of r entered)
 AreParts-entered r u parts entered is a = record {
   below = part_within r u parts entered a;
   same = λ d f dart_d dart_f. (
@@ -129,7 +143,9 @@ AreParts-entered r u parts entered is a = record {
 }
 
 -- the ends of an edge of which neither end is u are connected without u
-pub without_edge_of : (r : System) (u : ℕ) → IsRotation r → (d : ℕ) → d < darts r → (vertex_of r d ≡ u → ⊥) → (vertex_of r (twin d) ≡ u → ⊥) → Connected (without_vertex u (end_pairs r.at)) (vertex_of r d) (vertex_of r (twin d))
+pub without_edge_of : (r : System) (u : ℕ) → IsRotation r → (d : ℕ) → d < darts r → (vertex_of r d ≡ u → ⊥)
+    → (vertex_of r (twin d) ≡ u → ⊥) → Connected (without_vertex u (end_pairs r.at)) (vertex_of r d)
+    (vertex_of r (twin d))
 without_edge_of r u is d lt ne nf =
     ⊎_elim
     (λ even.
@@ -145,7 +161,8 @@ without_edge_of r u is d lt ne nf =
     pair : ℕ → ℕ × ℕ
     pair k = (vertex_of r (2 * k), vertex_of r (2 * k + 1))
 
-    contained : (k : ℕ) → 2 * k + 1 < darts r → (vertex_of r (2 * k) ≡ u → ⊥) → (vertex_of r (2 * k + 1) ≡ u → ⊥) → Contains (without_vertex u (end_pairs r.at)) (pair k)
+    contained : (k : ℕ) → 2 * k + 1 < darts r → (vertex_of r (2 * k) ≡ u → ⊥) → (vertex_of r (2 * k + 1) ≡ u → ⊥)
+        → Contains (without_vertex u (end_pairs r.at)) (pair k)
     contained k ltk one two =
         let p = pair_of_edge r.at k ltk in
         kept_of (avoids u) (end_pairs r.at) (pair k) (k, p.0, p.1 (pair k)) (avoids_of u (pair k) one two)
@@ -155,7 +172,9 @@ abbrev pub edge_part : System → List ℕ → ℕ → ℕ
 edge_part r entered e = max (slice_index entered (vertex_of r (2 * e))) (slice_index entered (vertex_of r (2 * e + 1)))
 
 -- it is told by the ends of either dart
-edge_part_dart : (r : System) (entered : List ℕ) (d : ℕ) → edge_part r entered (d / 2) ≡ max (slice_index entered (vertex_of r d)) (slice_index entered (vertex_of r (twin d)))
+edge_part_dart : (r : System) (entered : List ℕ) (d : ℕ)
+    → edge_part r entered (d / 2) ≡ max (slice_index entered (vertex_of r d))
+    (slice_index entered (vertex_of r (twin d)))
 edge_part_dart r entered d =
     ⊎_elim
     (λ even.
@@ -170,11 +189,14 @@ edge_part_dart r entered d =
     (cases_eq (d % 2) 0)
 
 -- at u it is told by the other end
-pub edge_part_far : (r : System) (u parts : ℕ) (entered : List ℕ) → AreEntered r u parts entered → (d : ℕ) → vertex_of r d ≡ u → edge_part r entered (d / 2) ≡ far_key r entered d
+pub edge_part_far : (r : System) (u parts : ℕ) (entered : List ℕ) → AreEntered r u parts entered → (d : ℕ)
+    → vertex_of r d ≡ u → edge_part r entered (d / 2) ≡ far_key r entered d
 edge_part_far r u parts entered a d e = omega (arith, edge_part_dart r entered d, ap (slice_index entered) e, a.away)
 
 -- elsewhere by the vertex
-pub edge_part_near : (r : System) (u parts : ℕ) (entered : List ℕ) → IsRotation r → AreEntered r u parts entered → (d : ℕ) → d < darts r → (vertex_of r d ≡ u → ⊥) → edge_part r entered (d / 2) ≡ slice_index entered (vertex_of r d)
+pub edge_part_near : (r : System) (u parts : ℕ) (entered : List ℕ) → IsRotation r → AreEntered r u parts entered
+    → (d : ℕ) → d < darts r → (vertex_of r d ≡ u → ⊥) → edge_part r entered (d / 2)
+    ≡ slice_index entered (vertex_of r d)
 edge_part_near r u parts entered is a d lt ne =
     ⊎_elim
     (λ e. omega (arith, edge_part_dart r entered d, ap (slice_index entered) e, a.away))
@@ -182,7 +204,8 @@ edge_part_near r u parts entered is a d lt ne =
     (cases_eq (vertex_of r (twin d)) u)
 
 -- marks of the vertices of the result: the number of its part is one less
-module _ (r : System) (is : IsRotation r) (u : ℕ) (ltu : u < r.vertices) (parts : ℕ) (entered : List ℕ) (a : AreEntered r u parts entered) where
+module _ (r : System) (is : IsRotation r) (u : ℕ) (ltu : u < r.vertices) (parts : ℕ) (entered : List ℕ)
+    (a : AreEntered r u parts entered) where
   -- one more than the number of the part that vertex x of the result is in, and 0 where it is in none
   pub mark : ℕ → ℕ
   mark x = cond (eqb x u) 1 (cond (ltb x r.vertices) (slice_index entered x) (x + 2 - r.vertices))
@@ -210,7 +233,9 @@ module _ (r : System) (is : IsRotation r) (u : ℕ) (ltu : u < r.vertices) (part
       (cases_eq (vertex_of r d) u)
 
   -- darts that stand at one vertex then are of edges of one part
-  pub one_part : (c d : ℕ) → c < darts r → d < darts r → star_at r u (part_of r entered) c ≡ star_at r u (part_of r entered) d → edge_part r entered (c / 2) ≡ edge_part r entered (d / 2)
+  pub one_part : (c d : ℕ) → c < darts r → d < darts r
+      → star_at r u (part_of r entered) c ≡ star_at r u (part_of r entered) d
+      → edge_part r entered (c / 2) ≡ edge_part r entered (d / 2)
   one_part c d ltc ltd e = sym (mark_dart c ltc) ∙ ap mark e ∙ mark_dart d ltd
 
   -- u split into the parts
@@ -241,7 +266,8 @@ module _ (r : System) (is : IsRotation r) (u : ℕ) (ltu : u < r.vertices) (part
       omega (arith, mark_part i, mark_part j, Connected-keeps mark es (star_vertex r u i) (star_vertex r u j) (Respects-from mark es (mark_pair more)) c)
 
 -- u is split by the components that its edges enter
-pub star_split_is : (r : System) (u parts : ℕ) (entered : List ℕ) → IsRotation r → u < r.vertices → 0 < parts → AreEntered r u parts entered → IsStarSplit r u (star_system r u (parts - 1) (part_of r entered))
+pub star_split_is : (r : System) (u parts : ℕ) (entered : List ℕ) → IsRotation r → u < r.vertices → 0 < parts
+    → AreEntered r u parts entered → IsStarSplit r u (star_system r u (parts - 1) (part_of r entered))
 star_split_is r u parts entered is ltu some a = record {
   parts = parts;
   part = part_of r entered;

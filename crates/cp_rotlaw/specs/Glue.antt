@@ -50,6 +50,8 @@ pub record IsGlued (a : System) (u : ℕ) (b : System) (w : ℕ) (pairs : List (
   pub vertices : s.vertices + 2 ≡ a.vertices + b.vertices
   pub size : edges s ≡ edges a + count (edges b) (edge_avoids b w)
   pub first_stand : (d : ℕ) → d < darts a → vertex_of a d ≢ u → vertex_of s d ≡ first_vertex u (vertex_of a d)
-  pub second_stand : (d : ℕ) → d < darts b → vertex_of b d ≢ w → vertex_of s (second_dart a b w pairs d) ≡ second_vertex a w (vertex_of b d)
+  pub second_stand : (d : ℕ) → d < darts b → vertex_of b d ≢ w
+      → vertex_of s (second_dart a b w pairs d) ≡ second_vertex a w (vertex_of b d)
   pub first_lists : (v : ℕ) → v < a.vertices → v ≢ u → list_of s (first_vertex u v) ≡ list_of a v
-  pub second_lists : (v : ℕ) → v < b.vertices → v ≢ w → list_of s (second_vertex a w v) ≡ map (second_dart a b w pairs) (list_of b v)
+  pub second_lists : (v : ℕ) → v < b.vertices → v ≢ w → list_of s (second_vertex a w v) ≡ map (second_dart a b w pairs)
+      (list_of b v)

@@ -24,4 +24,5 @@ pub record AreNumbers (a b : System) (w : ℕ) (pairs : List (ℕ × ℕ)) (numb
 pub record AreVertices (a : System) (u : ℕ) (b : System) (w : ℕ) (pairs : List (ℕ × ℕ)) (at : List ℕ) : Type 0 where
   pub size : length at ≡ darts a + 2 * count (edges b) (edge_avoids b w)
   pub first : (d : ℕ) → d < darts a → vertex_of a d ≢ u → slice_index at d ≡ first_vertex u (vertex_of a d)
-  pub second : (d : ℕ) → d < darts b → vertex_of b d ≢ w → slice_index at (second_dart a b w pairs d) ≡ second_vertex a w (vertex_of b d)
+  pub second : (d : ℕ) → d < darts b → vertex_of b d ≢ w
+      → slice_index at (second_dart a b w pairs d) ≡ second_vertex a w (vertex_of b d)

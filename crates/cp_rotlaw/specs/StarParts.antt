@@ -28,11 +28,13 @@ pub record AreEntered (r : System) (u parts : ℕ) (entered : List ℕ) : Type 0
   pub one_each : length entered ≡ r.vertices
   pub few : parts ≤ darts r
   pub away : slice_index entered u ≡ 0
-  pub kept : (x y : ℕ) → x < r.vertices → y < r.vertices → Connected (without_vertex u (end_pairs r.at)) x y → slice_index entered x ≡ slice_index entered y
+  pub kept : (x y : ℕ) → x < r.vertices → y < r.vertices → Connected (without_vertex u (end_pairs r.at)) x y
+      → slice_index entered x ≡ slice_index entered y
   pub seen : (d : ℕ) → IsDartOf r u d → 0 < far_key r entered d
   pub within : (x : ℕ) → slice_index entered x ≤ parts
   pub same : (d f : ℕ) → IsDartOf r u d → IsDartOf r u f → far_key r entered d ≡ far_key r entered f → EnterOne r u d f
-  pub least : (i : ℕ) → i < parts → (d : ℕ) × IsDartOf r u d × (far_key r entered d ≡ suc i) × ((f : ℕ) → IsDartOf r u f → i < far_key r entered f → d ≤ f)
+  pub least : (i : ℕ) → i < parts → (d : ℕ) × IsDartOf r u d × (far_key r entered d ≡ suc i) × ((f : ℕ) → IsDartOf r u f
+      → i < far_key r entered f → d ≤ f)
 
 -- the number of the part of dart d
 abbrev pub part_of : System → List ℕ → ℕ → ℕ

@@ -22,7 +22,8 @@ EnterOne r u d f = Connected (without_vertex u (end_pairs r.at)) (vertex_of r (t
 pub record AreParts (r : System) (u : ℕ) (parts : ℕ) (part : ℕ → ℕ) : Type 0 where
   pub below : (d : ℕ) → IsDartOf r u d → part d < parts
   pub same : (d f : ℕ) → IsDartOf r u d → IsDartOf r u f → (part d ≡ part f) ↔ EnterOne r u d f
-  pub least : (i : ℕ) → i < parts → (d : ℕ) × IsDartOf r u d × (part d ≡ i) × ((f : ℕ) → IsDartOf r u f → i ≤ part f → d / 2 ≤ f / 2)
+  pub least : (i : ℕ) → i < parts → (d : ℕ) × IsDartOf r u d × (part d ≡ i) × ((f : ℕ) → IsDartOf r u f → i ≤ part f
+      → d / 2 ≤ f / 2)
 
 -- the number of the vertex that part i gets: the first stays u, and the others come behind all vertices
 abbrev pub star_vertex : System → ℕ → ℕ → ℕ
@@ -33,7 +34,8 @@ star_vertex r u (suc i) = r.vertices + i
 pub record IsSplitIntoParts (r : System) (u : ℕ) (parts : ℕ) (part : ℕ → ℕ) (s : System) : Type 0 where
   pub vertices : s.vertices + 1 ≡ r.vertices + parts
   pub size : darts s ≡ darts r
-  pub stand : (d : ℕ) → d < darts r → vertex_of s d ≡ cond (vertex_of r d == u) (star_vertex r u (part d)) (vertex_of r d)
+  pub stand : (d : ℕ) → d < darts r → vertex_of s d ≡ cond (vertex_of r d == u) (star_vertex r u (part d))
+      (vertex_of r d)
   pub others : (v : ℕ) → v < r.vertices → v ≢ u → list_of s v ≡ list_of r v
   pub stars : (i : ℕ) → i < parts → list_of s (star_vertex r u i) ≡ filter (λ d. part d == i) (list_of r u)
 

@@ -77,13 +77,15 @@ take_one-length [] (y ∷ ys) e same = absurd (omega (arith, ap length same))
 take_one-length (x ∷ xs) ys e same = absurd (omega (arith, e))
 
 -- lists with one first item begin alike
-pub take_one-same : (xs ys : List ℕ) → 0 < length xs → 0 < length ys → slice_index xs 0 ≡ slice_index ys 0 → take 1 xs ≡ take 1 ys
+pub take_one-same : (xs ys : List ℕ) → 0 < length xs → 0 < length ys → slice_index xs 0 ≡ slice_index ys 0
+    → take 1 xs ≡ take 1 ys
 take_one-same [] ys lx ly e = absurd (omega (arith, lx))
 take_one-same (x ∷ xs) [] lx ly e = absurd (omega (arith, ly))
 take_one-same (x ∷ xs) (y ∷ ys) lx ly e = ap (λ z. z ∷ []) e
 
 -- lists that begin alike have one first item
-pub take_one-first : (xs ys : List ℕ) → 0 < length xs → 0 < length ys → take 1 xs ≡ take 1 ys → slice_index xs 0 ≡ slice_index ys 0
+pub take_one-first : (xs ys : List ℕ) → 0 < length xs → 0 < length ys → take 1 xs ≡ take 1 ys
+    → slice_index xs 0 ≡ slice_index ys 0
 take_one-first [] ys lx ly same = absurd (omega (arith, lx))
 take_one-first (x ∷ xs) [] lx ly same = absurd (omega (arith, ly))
 take_one-first (x ∷ xs) (y ∷ ys) lx ly same = ap (λ zs. slice_index zs 0) same

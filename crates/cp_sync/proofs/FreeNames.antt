@@ -32,7 +32,8 @@ pub TellLive-none : (size : ℕ) (table : List Bool) → length table ≡ size
 TellLive-none size table is none = record { one_each = is; each = none }
 
 -- with one live name more, where its place is in the table
-pub TellLive-marked : (live : List ℕ) (size : ℕ) (table : List Bool) (i n : ℕ) → i < length live → n ≡ slice_index_or live i n
+pub TellLive-marked : (live : List ℕ) (size : ℕ) (table : List Bool) (i n : ℕ) → i < length live
+    → n ≡ slice_index_or live i n
     → n < size
     → TellLive (take i live) size table
     → TellLive (take (i + 1) live) size (slice_set table n true)
@@ -53,7 +54,8 @@ TellLive-marked live size table i n lt is within so = record {
 }
 
 -- where it is not
-pub TellLive-passed : (live : List ℕ) (size : ℕ) (table : List Bool) (i n : ℕ) → i < length live → n ≡ slice_index_or live i n
+pub TellLive-passed : (live : List ℕ) (size : ℕ) (table : List Bool) (i n : ℕ) → i < length live
+    → n ≡ slice_index_or live i n
     → size ≤ n
     → TellLive (take i live) size table
     → TellLive (take (i + 1) live) size table
@@ -96,7 +98,8 @@ take_full n xs ys full = ⊎_elim
 -- the first n numbers that pass, up to one more number: it passes and there is room, it passes and there is none, or
 -- it does not pass
 module _ (p : ℕ → Bool) (n k : ℕ) (names : List ℕ) (so : names ≡ take n (filter p (range_with_len 0 k))) where
-  pub first_passing-more : length names < n → p k ≡ true → names ++ k ∷ [] ≡ take n (filter p (range_with_len 0 (k + 1)))
+  pub first_passing-more : length names < n → p k ≡ true
+      → names ++ k ∷ [] ≡ take n (filter p (range_with_len 0 (k + 1)))
   first_passing-more room t =
       ap (λ xs. xs ++ k ∷ []) so
       ∙ sym (take_room n (filter p (range_with_len 0 k)) k (omega (arith, room, ap length so)))
@@ -124,7 +127,8 @@ filter-range_agree p q a (suc n) agree =
     ∙ ap (λ zs. cond (q a) (a ∷ zs) zs) (filter-range_agree p q (a + 1) n (λ k le lt. agree k (omega (arith, le)) (omega (arith, lt))))
 
 -- what the table does not tell as live is new
-pub new_names-table : (live : List ℕ) (n size : ℕ) (table : List Bool) → size ≡ length live + n → TellLive live size table
+pub new_names-table : (live : List ℕ) (n size : ℕ) (table : List Bool) → size ≡ length live + n
+    → TellLive live size table
     → take n (filter (is_free table) (range_with_len 0 (length table))) ≡ new_names live n
 new_names-table live n size table is tells =
     ap (λ m. take n (filter (is_free table) (range_with_len 0 m))) (tells.one_each ∙ is)

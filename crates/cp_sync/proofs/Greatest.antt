@@ -11,7 +11,8 @@ use Rattle.cp_board.proofs.NamedLists.{rises_from, found_at, place_order}
 use Rattle.cp_sync.specs.Tables.{IsGreatestPlace}
 
 -- the greatest place has the greatest name
-pub IsGreatestName-from : (i : Synchronized) (b : ℕ) (d : Pipe) → IsSynchronized i → IsGreatestPlace i.pipes (length i.pipes) b → IsGreatestName i (slice_index_or i.pipes b d).name
+pub IsGreatestName-from : (i : Synchronized) (b : ℕ) (d : Pipe) → IsSynchronized i
+    → IsGreatestPlace i.pipes (length i.pipes) b → IsGreatestName i (slice_index_or i.pipes b d).name
 IsGreatestName-from i b d is g = (
   slice_index_or i.pipes b d,
   refl,

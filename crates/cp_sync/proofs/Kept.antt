@@ -27,7 +27,8 @@ kept_verts-append dropped kinds us vs =
 pub kept_verts-more : (dropped : List ℕ) (kinds vs : List Vert) (k : ℕ) (v : Vert) (out : List Vert) → k < length vs
     → v ≡ slice_index_or vs k v
     → has dropped v.name ≡ false
-    → (out ++ kept_verts dropped kinds (take k vs)) ++ with_kinds kinds v ∷ [] ≡ out ++ kept_verts dropped kinds (take (k + 1) vs)
+    → (out ++ kept_verts dropped kinds (take k vs)) ++ with_kinds kinds v ∷ []
+    ≡ out ++ kept_verts dropped kinds (take (k + 1) vs)
 kept_verts-more dropped kinds vs k v out lt is f =
     append_assoc out (kept_verts dropped kinds (take k vs)) (with_kinds kinds v ∷ [])
     ∙ ap (λ ws. out ++ ws)
@@ -87,7 +88,8 @@ kept_pipes-in_order dropped ps =
     filter_agree (λ (p : Pipe). not (has (by_name (λ (n : ℕ). n) dropped) p.name)) (λ (p : Pipe). not (has dropped p.name)) (λ p. ap not (has-by_number p.name dropped)) ps
 
 -- what is kept, where dropped names and kinds are given in their order
-kept_verts-given : (dropped : List ℕ) (kinds vs : List Vert) (d : List ℕ) (k : List Vert) → Distinct (names_of_verts kinds)
+kept_verts-given : (dropped : List ℕ) (kinds vs : List Vert) (d : List ℕ) (k : List Vert)
+    → Distinct (names_of_verts kinds)
     → d ≡ by_name (λ (n : ℕ). n) dropped
     → k ≡ verts_by_name kinds
     → kept_verts d k vs ≡ kept_verts dropped kinds vs
@@ -97,7 +99,8 @@ kept_verts-given dropped kinds vs d k once is_d is_k =
     ∙ kept_verts-in_order dropped kinds vs once
 
 -- the vertices of an instance and then new ones, kept one list after the other
-pub kept_verts-whole : (dropped : List ℕ) (kinds us vs : List Vert) (d e : List ℕ) (k l given out out_us out_vs : List Vert)
+pub kept_verts-whole : (dropped : List ℕ) (kinds us vs : List Vert) (d e : List ℕ)
+    (k l given out out_us out_vs : List Vert)
     → Distinct (names_of_verts kinds)
     → d ≡ by_name (λ (n : ℕ). n) dropped
     → e ≡ by_name (λ (n : ℕ). n) dropped

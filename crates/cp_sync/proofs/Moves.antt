@@ -28,7 +28,8 @@ pub names-moved : (m : EdgeMove) (es : List EdgeRow) → names_of_edges (map (mo
 names-moved m [] = refl
 names-moved m (e ∷ es) = ap (λ n. n ∷ names_of_edges (map (moved_end m) es)) (moved_end-name m e) ∙ ap (λ ns. e.name ∷ ns) (names-moved m es)
 
-pub names-after_moves : (ms : List EdgeMove) (es : List EdgeRow) → names_of_edges (after_moves ms es) ≡ names_of_edges es
+pub names-after_moves : (ms : List EdgeMove) (es : List EdgeRow)
+    → names_of_edges (after_moves ms es) ≡ names_of_edges es
 names-after_moves [] es = refl
 names-after_moves (m ∷ ms) es = names-after_moves ms (map (moved_end m) es) ∙ names-moved m es
 

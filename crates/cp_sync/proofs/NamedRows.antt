@@ -43,7 +43,8 @@ list_in-place (m ∷ ns) (l ∷ ls) (suc k) n e up lt at =
     ∙ ap (λ o. option_map_or (λ (x : ℕ × List ℕ). x.1) o []) (sym (cond-false (eqb m n) (Some (m, l)) (find (λ x. eqb x.0 n) (zip ns ls)) (ne_eqb m n (λ h. omega (arith, less, h)))))
 
 -- no row of greater names has the list exchanged
-pub with_list-none : (ns : List ℕ) (ls : List (List ℕ)) (n : ℕ) (l : List ℕ) → ((j : ℕ) → j < length ns → slice_index ns j ≢ n)
+pub with_list-none : (ns : List ℕ) (ls : List (List ℕ)) (n : ℕ) (l : List ℕ)
+    → ((j : ℕ) → j < length ns → slice_index ns j ≢ n)
     → with_list n l (zip ns ls) ≡ zip ns ls
 with_list-none [] ls n l none = refl
 with_list-none (m ∷ ns) [] n l none = refl
@@ -52,7 +53,8 @@ with_list-none (m ∷ ns) (k ∷ ls) n l none =
     ∙ ap (λ xs. (m, k) ∷ xs) (with_list-none ns ls n l (λ j lt. none (suc j) (omega (arith, lt))))
 
 -- the list at the place of a name is exchanged
-pub with_list-place : (ns : List ℕ) (ls : List (List ℕ)) (k n : ℕ) (l : List ℕ) → length ns ≡ length ls → IsStrictlyIncreasing ns
+pub with_list-place : (ns : List ℕ) (ls : List (List ℕ)) (k n : ℕ) (l : List ℕ) → length ns ≡ length ls
+    → IsStrictlyIncreasing ns
     → k < length ns → slice_index ns k ≡ n
     → zip ns (slice_set ls k l) ≡ with_list n l (zip ns ls)
 with_list-place [] ls k n l e up lt at = absurd (omega (arith, lt))

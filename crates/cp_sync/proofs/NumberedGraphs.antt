@@ -25,7 +25,8 @@ use Rattle.cp_sync.proofs.Places.{live_place, same_place, found_place}
 use Rattle.cp_sync.proofs.EqualOrders.{IsDistinct-rising, eqb_comm}
 
 -- the rank of one of rising names is its lower place
-pub rank-lower_place : (names : List ℕ) (n k : ℕ) → IsStrictlyIncreasing names → Contains names n → IsLowerPlace names n k
+pub rank-lower_place : (names : List ℕ) (n k : ℕ) → IsStrictlyIncreasing names → Contains names n
+    → IsLowerPlace names n k
     → k ≡ rank names n
 rank-lower_place names n k up live low =
     let here = live_place names n k up live low in
@@ -38,12 +39,14 @@ rank_one names m n live_m live_n e =
     sym (rank_at names m live_m).1 ∙ ap (slice_index names) e ∙ (rank_at names n live_n).1
 
 -- the rank of the name at a place is the place
-rank_there : (names : List ℕ) (k : ℕ) → IsStrictlyIncreasing names → k < length names → rank names (slice_index names k) ≡ k
+rank_there : (names : List ℕ) (k : ℕ) → IsStrictlyIncreasing names → k < length names
+    → rank names (slice_index names k) ≡ k
 rank_there names k up lt =
     let there = rank_at names (slice_index names k) (k, lt, get_or_default names k (slice_index names k) 0 lt) in
     same_place names up (rank names (slice_index names k)) k there.0 lt there.1
 
-module _ (g : NamedGraph) (live : (e : ℕ) → Contains g.edges e → Contains g.verts (g.ends e).0 × Contains g.verts (g.ends e).1) where
+module _ (g : NamedGraph)
+    (live : (e : ℕ) → Contains g.edges e → Contains g.verts (g.ends e).0 × Contains g.verts (g.ends e).1) where
   edge_at : (k : ℕ) → k < length g.edges → Contains g.edges (slice_index g.edges k)
   edge_at k lt = (k, lt, get_or_default g.edges k (slice_index g.edges k) 0 lt)
 
@@ -63,14 +66,16 @@ length-two_each : (f : ℕ → ℕ × ℕ) (es : List ℕ) → length (two_each 
 length-two_each f [] = refl
 length-two_each f (e ∷ es) = omega (arith, length-two_each f es)
 
-two_each-first : (f : ℕ → ℕ × ℕ) (es : List ℕ) (k : ℕ) → k < length es → slice_index (two_each f es) (2 * k) ≡ (f (slice_index es k)).0
+two_each-first : (f : ℕ → ℕ × ℕ) (es : List ℕ) (k : ℕ) → k < length es
+    → slice_index (two_each f es) (2 * k) ≡ (f (slice_index es k)).0
 two_each-first f [] k lt = absurd (omega (arith, lt))
 two_each-first f (e ∷ es) zero lt = refl
 two_each-first f (e ∷ es) (suc k) lt =
     ap (slice_index (two_each f (e ∷ es))) (let h : 2 * suc k ≡ suc (suc (2 * k)) = omega arith in h)
     ∙ two_each-first f es k (omega (arith, lt))
 
-two_each-second : (f : ℕ → ℕ × ℕ) (es : List ℕ) (k : ℕ) → k < length es → slice_index (two_each f es) (2 * k + 1) ≡ (f (slice_index es k)).1
+two_each-second : (f : ℕ → ℕ × ℕ) (es : List ℕ) (k : ℕ) → k < length es
+    → slice_index (two_each f es) (2 * k + 1) ≡ (f (slice_index es k)).1
 two_each-second f [] k lt = absurd (omega (arith, lt))
 two_each-second f (e ∷ es) zero lt = refl
 two_each-second f (e ∷ es) (suc k) lt =
@@ -166,7 +171,8 @@ module _
   halves x = ⊎_elim (λ (l : 2 * (x / 2) < x). inr (omega arith)) (λ (h : x ≤ 2 * (x / 2)). inl (omega arith)) (cases_lt (2 * (x / 2)) x)
 
   -- the darts of a vertex are exactly those of its list
-  exact : (n : ℕ) → Contains g.verts n → Exactly (length at) (λ d. slice_index at d == rank g.verts n) (map (dart g n) (s n))
+  exact : (n : ℕ) → Contains g.verts n → Exactly (length at) (λ d. slice_index at d == rank g.verts n)
+      (map (dart g n) (s n))
   exact n c = record {
     each_passes = λ i lt.
         let within : i < length (s n) = omega (arith, lt, length-map (s n) (dart g n)) in
@@ -228,7 +234,8 @@ module _
 
 -- the ends of a live edge of an instance are two different live vertices
 pub live_ends : (i : Synchronized) → IsSynchronized i → (e : ℕ) → Contains (edge_names i) e
-    → Contains (vert_names i) (ends_of i e).0 × Contains (vert_names i) (ends_of i e).1 × ((ends_of i e).0 ≢ (ends_of i e).1)
+    → Contains (vert_names i) (ends_of i e).0 × Contains (vert_names i)
+    (ends_of i e).1 × ((ends_of i e).0 ≢ (ends_of i e).1)
 live_ends i is e c =
     let row : EdgeRow = slice_index_or i.edges c.0 record { name = 0; a = 0; b = 0 } in
     let within : c.0 < length i.edges = omega (arith, c.1, length-map i.edges (λ (x : EdgeRow). x.name)) in

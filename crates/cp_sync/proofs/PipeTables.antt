@@ -25,7 +25,8 @@ or_right true b t = refl
 or_right false b t = t
 
 -- the name at a place
-name_at_place : (verts : List Vert) (k : ℕ) → k < length verts → slice_index (names_of_verts verts) k ≡ (vert_at verts k).name
+name_at_place : (verts : List Vert) (k : ℕ) → k < length verts
+    → slice_index (names_of_verts verts) k ≡ (vert_at verts k).name
 name_at_place verts k lt = get_or-map (λ (v : Vert). v.name) verts k record { name = 0; kind = P } 0 lt
 
 -- two places of one vertex are one
@@ -67,7 +68,8 @@ free_place verts at v k up low free =
 pub free_facts : (verts : List Vert) (at : List (Option ℕ)) (v k : ℕ) → IsStrictlyIncreasing (names_of_verts verts)
     → IsLowerPlace (names_of_verts verts) v k
     → IsFreeEnd verts at v
-    → (k < length verts) × ((vert_at verts k).name ≡ v) × ((vert_at verts k).kind ≡ P) × (slice_index_or at k None ≡ None)
+    → (k < length verts) × ((vert_at verts k).name ≡ v) × ((vert_at verts k).kind ≡ P)
+    × (slice_index_or at k None ≡ None)
 free_facts verts at v k up low free =
     let here = free_place verts at v k up low free in (
       here.0,
@@ -100,14 +102,18 @@ IsMarked-from verts p old mid new ka kb up live size low_a low_b is_mid is_new =
     mid_size : length mid ≡ length old
     mid_size = ap length is_mid ∙ length-set old ka (Some p.name)
 
-    second : (k : ℕ) → k ≡ kb → slice_index_or new k None ≡ cond (eqb p.a (vert_at verts k).name || eqb p.b (vert_at verts k).name) (Some p.name) (slice_index_or old k None)
+    second : (k : ℕ) → k ≡ kb
+        → slice_index_or new k None ≡ cond (eqb p.a (vert_at verts k).name || eqb p.b (vert_at verts k).name)
+        (Some p.name) (slice_index_or old k None)
     second k h = rw h
         (ap (λ l. slice_index_or l kb None) is_new
         ∙ get_or-set_same mid kb (Some p.name) None (omega (arith, at_b.0, size, mid_size))
         ∙ sym (cond-true (eqb p.a (vert_at verts kb).name || eqb p.b (vert_at verts kb).name) (Some p.name) (slice_index_or old kb None)
         (or_right (eqb p.a (vert_at verts kb).name) (eqb p.b (vert_at verts kb).name) (eq-eqb p.b (vert_at verts kb).name (sym at_b.1)))))
 
-    first : (k : ℕ) → k ≢ kb → k ≡ ka → slice_index_or new k None ≡ cond (eqb p.a (vert_at verts k).name || eqb p.b (vert_at verts k).name) (Some p.name) (slice_index_or old k None)
+    first : (k : ℕ) → k ≢ kb → k ≡ ka
+        → slice_index_or new k None ≡ cond (eqb p.a (vert_at verts k).name || eqb p.b (vert_at verts k).name)
+        (Some p.name) (slice_index_or old k None)
     first k no_b h =
         ap (λ l. slice_index_or l k None) is_new
         ∙ get_or-set_other mid kb k (Some p.name) None no_b
@@ -118,7 +124,9 @@ IsMarked-from verts p old mid new ka kb up live size low_a low_b is_mid is_new =
         ∙ sym (cond-true (eqb p.a (vert_at verts k).name || eqb p.b (vert_at verts k).name) (Some p.name) (slice_index_or old k None)
         (ap (λ b. b || eqb p.b (vert_at verts k).name) (eq-eqb p.a (vert_at verts k).name (sym at_a.1 ∙ ap (λ j. (vert_at verts j).name) (sym h)))))
 
-    neither : (k : ℕ) → k < length verts → k ≢ kb → k ≢ ka → slice_index_or new k None ≡ cond (eqb p.a (vert_at verts k).name || eqb p.b (vert_at verts k).name) (Some p.name) (slice_index_or old k None)
+    neither : (k : ℕ) → k < length verts → k ≢ kb → k ≢ ka
+        → slice_index_or new k None ≡ cond (eqb p.a (vert_at verts k).name || eqb p.b (vert_at verts k).name)
+        (Some p.name) (slice_index_or old k None)
     neither k lt no_b no_a =
         ap (λ l. slice_index_or l k None) is_new
         ∙ get_or-set_other mid kb k (Some p.name) None no_b
@@ -218,7 +226,8 @@ found_vertex (x ∷ xs) v kind e = ⊎_elim
     (suc rest.0, omega (arith, rest.1), rest.2, rest.3))
     (cases_eq x.name v)
 
-module _ (i : Synchronized) (at : List (Option ℕ)) (k : ℕ) (up : IsStrictlyIncreasing (vert_names i)) (so : ArePiped i.verts (take k i.pipes) at) where
+module _ (i : Synchronized) (at : List (Option ℕ)) (k : ℕ) (up : IsStrictlyIncreasing (vert_names i))
+    (so : ArePiped i.verts (take k i.pipes) at) where
   free_kind : (v : ℕ) → IsFreeEnd i.verts at v → kind_in i.verts v ≡ Some P
   free_kind v free =
       ap (option_map (λ (x : Vert). x.kind)) (found_place (λ (x : Vert). x.name) v i.verts free.place (vert_at i.verts free.place) up free.within

@@ -23,7 +23,8 @@ apart ps k lt once =
     (subst Distinct (sym (sym (flat_map-append ends (take (k + 1) ps) (drop (k + 1) ps)) ∙ ap (flat_map ends) (take-append-drop (k + 1) ps))) once))
 
 -- the fourth rule at each place
-pub pipe_ends_right : (i : Synchronized) → IsSynchronized i → AllBelow (λ k. Keeps i PipeEnds (PipeAt k)) (length i.pipes)
+pub pipe_ends_right : (i : Synchronized) → IsSynchronized i
+    → AllBelow (λ k. Keeps i PipeEnds (PipeAt k)) (length i.pipes)
 pipe_ends_right i is k lt = (
   is.ends_free k record { name = 0; a = 0; b = 0; pairs = [] } lt,
   (

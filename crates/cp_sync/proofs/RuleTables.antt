@@ -127,7 +127,8 @@ lists_rise i at up adjacent k lt =
     (sym (adjacent.each k (omega (arith, lt, adjacent.one_each)) ∙ names_at-graph i v up))
     (IsStrictlyIncreasing-filter (ends_at (graph i) v) (edge_names i) up)
 
-module _ (i : Synchronized) (at : List (List ℕ)) (up : IsStrictlyIncreasing (edge_names i)) (adjacent : AreAdjacent i.verts i.edges at) where
+module _ (i : Synchronized) (at : List (List ℕ)) (up : IsStrictlyIncreasing (edge_names i))
+    (adjacent : AreAdjacent i.verts i.edges at) where
   -- the list of the vertex at a place holds its edges in the graph
   pub at-graph : (k : ℕ) → k < length i.verts → slice_index_or at k [] ≡ edges_at (graph i) (vert_at i.verts k).name
   at-graph k lt = adjacent.each k lt ∙ names_at-graph i (vert_at i.verts k).name up

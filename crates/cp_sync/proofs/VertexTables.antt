@@ -74,7 +74,8 @@ IsPut-from verts e at mid new ka kb up live ne size low_a low_b is_mid is_new = 
     name_of : (k : ℕ) → k < length verts → slice_index names k ≡ (vert_at verts k).name
     name_of k lt = get_or-map (λ (v : Vert). v.name) verts k _ 0 lt
 
-    first : (k : ℕ) → k ≡ ka → slice_index_or new k [] ≡ slice_index_or at k [] ++ names_at (e ∷ []) (vert_at verts k).name
+    first : (k : ℕ) → k ≡ ka → slice_index_or new k [] ≡ slice_index_or at k [] ++ names_at (e ∷ [])
+        (vert_at verts k).name
     first k h = rw h
         (ap (λ l. slice_index_or l ka []) is_new
         ∙ get_or-set_other mid kb ka (slice_index_or mid kb [] ++ e.name ∷ []) [] apart
@@ -82,14 +83,16 @@ IsPut-from verts e at mid new ka kb up live ne size low_a low_b is_mid is_new = 
         ∙ get_or-set_same at ka (slice_index_or at ka [] ++ e.name ∷ []) [] (omega (arith, in_verts ka at_a.0, size))
         ∙ ap (λ l. slice_index_or at ka [] ++ l) (sym (names_at-end e (vert_at verts ka).name (inl (sym at_a.1 ∙ name_of ka (in_verts ka at_a.0))))))
 
-    second : (k : ℕ) → k ≡ kb → k ≢ ka → slice_index_or new k [] ≡ slice_index_or at k [] ++ names_at (e ∷ []) (vert_at verts k).name
+    second : (k : ℕ) → k ≡ kb → k ≢ ka → slice_index_or new k [] ≡ slice_index_or at k [] ++ names_at (e ∷ [])
+        (vert_at verts k).name
     second k h no_a = rw h
         (ap (λ l. slice_index_or l kb []) is_new
         ∙ get_or-set_same mid kb (slice_index_or mid kb [] ++ e.name ∷ []) [] (omega (arith, in_verts kb at_b.0, size, mid_size))
         ∙ ap (λ l. l ++ e.name ∷ []) (ap (λ l. slice_index_or l kb []) is_mid ∙ get_or-set_other at ka kb (slice_index_or at ka [] ++ e.name ∷ []) [] (λ g. apart (sym g)))
         ∙ ap (λ l. slice_index_or at kb [] ++ l) (sym (names_at-end e (vert_at verts kb).name (inr (sym at_b.1 ∙ name_of kb (in_verts kb at_b.0))))))
 
-    neither : (k : ℕ) → k < length verts → k ≢ ka → k ≢ kb → slice_index_or new k [] ≡ slice_index_or at k [] ++ names_at (e ∷ []) (vert_at verts k).name
+    neither : (k : ℕ) → k < length verts → k ≢ ka → k ≢ kb
+        → slice_index_or new k [] ≡ slice_index_or at k [] ++ names_at (e ∷ []) (vert_at verts k).name
     neither k lt no_a no_b =
         let in_names : k < length names = omega (arith, length-map verts (λ (v : Vert). v.name)) in
         ap (λ l. slice_index_or l k []) is_new
@@ -102,7 +105,8 @@ IsPut-from verts e at mid new ka kb up live ne size low_a low_b is_mid is_new = 
         (λ h. no_b (same_place names up k kb in_names at_b.0 (name_of k lt ∙ sym h ∙ sym at_b.1)))))
 
 -- empty lists are those of no edge
-pub AreAdjacent-empty : (verts : List Vert) (lists : List (List ℕ)) → AreEmpty (length verts) lists → AreAdjacent verts [] lists
+pub AreAdjacent-empty : (verts : List Vert) (lists : List (List ℕ)) → AreEmpty (length verts) lists
+    → AreAdjacent verts [] lists
 AreAdjacent-empty verts lists empty = record { one_each = empty.size; each = empty.each }
 
 -- with one edge more

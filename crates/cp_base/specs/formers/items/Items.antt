@@ -44,7 +44,8 @@ abbrev vector : Former {0}
 vector = via (vec.the_former this Global) Inside (λ X fields. fields.items) (λ X items. record { items = items }) (λ X fields. refl) (λ X items. refl)
 
 module _ (R R' : RattleType) (h : R.Denot → R'.Denot) where
-  pub the_places : Alike R R' h → Alike (contract.the_row R) (contract.the_row R') ((the_former this).map R.Denot R'.Denot h)
+  pub the_places : Alike R R' h → Alike (contract.the_row R) (contract.the_row R')
+      ((the_former this).map R.Denot R'.Denot h)
   the_places alike =
       let items_alike = vec.the_places global.the_row ghosts R R' h alike in
       let fields_alike = struct_places (inside.the_type R) (inside.the_type R') (vec.mapped h, tt) _ (λ fields. refl) refl (laid _ _ _ items_alike, tt) in
@@ -52,5 +53,6 @@ module _ (R R' : RattleType) (h : R.Denot → R'.Denot) where
       (invariant R.Denot) (invariant R'.Denot) (λ fields p q. refl) (λ fields p q. refl) (λ fields holds. holds) (λ fields holds. holds)
       (over (inside.the_row R)) (over (inside.the_row R')) fields_alike
 
-  pub the_codes_placed : Recodes R R' h → Recodes (contract.the_row R) (contract.the_row R') ((the_former this).map R.Denot R'.Denot h)
+  pub the_codes_placed : Recodes R R' h → Recodes (contract.the_row R) (contract.the_row R')
+      ((the_former this).map R.Denot R'.Denot h)
   the_codes_placed recodes items = sym (code_map R.coded.code R'.coded.code h (λ item. sym (recodes item)) items)

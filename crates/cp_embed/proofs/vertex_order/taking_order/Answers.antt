@@ -37,7 +37,8 @@ bipolar-requires-clause-each_has_edge c =
     c.edges_at.ensures.block.each_has_edge
 
 -- the other end of the first edge, in the code's own terms
-far_is : (block_ends ends : List (ℕ × ℕ)) (edges : List ℕ) (v far : ℕ) → ends ≡ block_ends → edges ≡ edges_at block_ends v
+far_is : (block_ends ends : List (ℕ × ℕ)) (edges : List ℕ) (v far : ℕ) → ends ≡ block_ends
+    → edges ≡ edges_at block_ends v
     → far ≡ other_end ends v (slice_index edges 0)
     → far ≡ other_end block_ends v (slice_index (edges_at block_ends v) 0)
 far_is block_ends ends edges v far ends_are edges_are is =

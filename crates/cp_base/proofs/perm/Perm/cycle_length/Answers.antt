@@ -5,11 +5,13 @@ use Rattle.cp_orbits.proofs.CycleLengths.{WalksCycle, WalksCycle-more, WalksCycl
 use Rattle.cp_base.proofs.perm.Perm.cycle_length.Goals as goal
 
 -- one step more
-step : (to : List ℕ) → IsPerm to → (i k at : ℕ) → i < length to → WalksCycle (slice_index to) i k at → (at ≡ i → ⊥) → WalksCycle (slice_index to) i (k + 1) (slice_index to at)
+step : (to : List ℕ) → IsPerm to → (i k at : ℕ) → i < length to → WalksCycle (slice_index to) i k at → (at ≡ i → ⊥)
+    → WalksCycle (slice_index to) i (k + 1) (slice_index to at)
 step to perm i k at lt walk elsewhere = subst (λ j. WalksCycle (slice_index to) i j (slice_index to at)) (sym (add-one k)) (WalksCycle-more (slice_index to) i k at walk elsewhere)
 
 -- so many steps fit, since there are as many numbers
-fewer : (to : List ℕ) → IsPerm to → (i k at : ℕ) → i < length to → WalksCycle (slice_index to) i k at → (at ≡ i → ⊥) → k < length to
+fewer : (to : List ℕ) → IsPerm to → (i k at : ℕ) → i < length to → WalksCycle (slice_index to) i k at → (at ≡ i → ⊥)
+    → k < length to
 fewer to perm i k at lt walk elsewhere = WalksCycle-lt (length to) (slice_index to) perm i k at lt walk elsewhere
 
 pub overflow_add-length : goal.overflow_add-length
