@@ -154,3 +154,23 @@ fn parallel_edges_have_a_pole(rt: HostRuntime) -> Result<(), Fail> {
     assert_eq!(rt; found.pole(), Some(0));
     Ok(())
 }
+
+#[test]
+fn k5_and_k33_have_no_tree(rt: HostRuntime) -> Result<(), Fail> {
+    let alloc = rt.alloc();
+    let k5 = embedded(
+        alloc,
+        5,
+        &[(0, 1), (0, 2), (0, 3), (0, 4), (1, 2), (1, 3), (1, 4), (2, 3), (2, 4), (3, 4)],
+        0,
+    );
+    assert!(rt; matches!(k5, Err(EmbedFault::NotPlanar)));
+    let k33 = embedded(
+        alloc,
+        6,
+        &[(0, 3), (0, 4), (0, 5), (1, 3), (1, 4), (1, 5), (2, 3), (2, 4), (2, 5)],
+        0,
+    );
+    assert!(rt; matches!(k33, Err(EmbedFault::NotPlanar)));
+    Ok(())
+}
