@@ -20,12 +20,14 @@ pub turned_turned : (may : ℕ → Bool → Bool) → Wider (turned (turned may)
 turned_turned may v b h = subst (λ z. may v z ≡ true) (not_not b) h
 
 mutual
+  -- a reading of a node from right to left is one by the turned licence
   pub mirror : (may : ℕ → Bool → Bool) (n : Node) (xs : List ℕ) → Reads may n xs → Reads (turned may) n (reverse xs)
   mirror may _ _ (leaf x) = leaf x
   mirror may _ _ (any_order o ks turn xs p all) = any_order o ks (reverse turn) (reverse xs) (IsPermutation-trans _ _ _ p (IsPermutation-reverse turn)) (mirror_all may turn xs all)
   mirror may _ _ (forward v ks xs m all) = backward v ks (reverse xs) m (mirror_all may ks xs all)
   mirror may _ _ (backward v ks xs m all) = forward v ks (reverse xs) m (subst (λ z. ReadsAll (turned may) z (reverse xs)) (reverse-reverse ks) (mirror_all may (reverse ks) xs all))
 
+  -- and so for a row
   pub mirror_all : (may : ℕ → Bool → Bool) (ks : List Node) (xs : List ℕ) → ReadsAll may ks xs
       → ReadsAll (turned may) (reverse ks) (reverse xs)
   mirror_all may _ _ none = none

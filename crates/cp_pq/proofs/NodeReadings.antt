@@ -57,6 +57,7 @@ mutual
       let g = and_parts (nat_lt v m) (list_all (has_vars_below m) ks) (sym (below_Q m v ks) ∙ h) in
       backward v ks xs (w v true (ltb-true v m g.0) e) (read_all_below m may wide w (reverse ks) xs all (sym (list_all-IsPermutation (has_vars_below m) ks (reverse ks) (IsPermutation-reverse ks)) ∙ g.1))
 
+  -- and so for a row
   pub read_all_below : (m : ℕ) (may wide : ℕ → Bool → Bool) → WiderBelow m may wide → (ks : List Node) (xs : List ℕ)
       → ReadsAll may ks xs → list_all (has_vars_below m) ks ≡ true → ReadsAll wide ks xs
   read_all_below m may wide w _ _ none h = none

@@ -92,18 +92,21 @@ unfolding all_leaves
 IsPermutation-all_leaves ks js p = IsPermutation-flat_map leaves ks js p
 
 mutual
+  -- a reading of a node has the leaves of the node, each as often
   pub read_leaves : (may : ℕ → Bool → Bool) (n : Node) (xs : List ℕ) → Reads may n xs → IsPermutation (leaves n) xs
   read_leaves may _ _ (leaf x) = IsPermutation-same _ _ (leaves_Leaf x)
   read_leaves may _ _ (any_order o ks turn xs p all) = IsPermutation-trans _ _ _ (IsPermutation-same _ _ (leaves_P o ks)) (IsPermutation-trans _ _ _ (IsPermutation-all_leaves ks turn p) (read_all_leaves may turn xs all))
   read_leaves may _ _ (forward v ks xs m all) = IsPermutation-trans _ _ _ (IsPermutation-same _ _ (leaves_Q v ks)) (read_all_leaves may ks xs all)
   read_leaves may _ _ (backward v ks xs m all) = IsPermutation-trans _ _ _ (IsPermutation-same _ _ (leaves_Q v ks)) (IsPermutation-trans _ _ _ (IsPermutation-all_leaves ks (reverse ks) (IsPermutation-reverse ks)) (read_all_leaves may (reverse ks) xs all))
 
+  -- and so for a row
   pub read_all_leaves : (may : ℕ → Bool → Bool) (ks : List Node) (xs : List ℕ) → ReadsAll may ks xs
       → IsPermutation (all_leaves ks) xs
   read_all_leaves may _ _ none = IsPermutation-same _ _ all_leaves_nil
   read_all_leaves may _ _ (more k ks xs ys a b) = IsPermutation-trans _ _ _ (IsPermutation-same _ _ (all_leaves_cons k ks)) (IsPermutation-append _ _ _ _ (read_leaves may k xs a) (read_all_leaves may ks ys b))
 
 mutual
+  -- a wider licence allows the readings of a node that a licence allows
   pub read_wider : (may wide : ℕ → Bool → Bool) → Wider may wide → (n : Node) (xs : List ℕ) → Reads may n xs
       → Reads wide n xs
   read_wider may wide w _ _ (leaf x) = leaf x
@@ -111,6 +114,7 @@ mutual
   read_wider may wide w _ _ (forward v ks xs m all) = forward v ks xs (w v false m) (read_all_wider may wide w ks xs all)
   read_wider may wide w _ _ (backward v ks xs m all) = backward v ks xs (w v true m) (read_all_wider may wide w (reverse ks) xs all)
 
+  -- and so for a row
   pub read_all_wider : (may wide : ℕ → Bool → Bool) → Wider may wide → (ks : List Node) (xs : List ℕ)
       → ReadsAll may ks xs → ReadsAll wide ks xs
   read_all_wider may wide w _ _ none = none
