@@ -69,6 +69,7 @@ module _ (place : ℕ → ℕ) where
   rises_left [] ys h = tt
   rises_left (x ∷ xs) ys h = (λ z has. h.0 z (Has-append_left z xs ys has), rises_left xs ys h.1)
 
+  -- and the part behind it
   rises_right : (xs ys : List ℕ) → Rises place (xs ++ ys) → Rises place ys
   rises_right [] ys h = h
   rises_right (x ∷ xs) ys h = rises_right xs ys h.1

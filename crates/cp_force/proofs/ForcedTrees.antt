@@ -173,6 +173,7 @@ module _ (row : List ℕ) (some : row ≢ []) (var : ℕ) (ties : List (ℕ × B
     abbrev new : PQTree
     new = make_tree root m vars (equations ++ tie_equations var ties)
 
+    -- the reduced tree, by its parts, is the old one reduced by the set
     reduced_to : IsReduced set old (make_tree root n vars equations)
     reduced_to = subst (IsReduced set old) red_is reduced
 

@@ -21,9 +21,11 @@ use Rattle.cp_force.proofs.PermutedRows.{zip_permuted, zip_reversed}
 out_Leaf : (x : ℕ) → out-Branch (branch.Leaf x) ≡ Branch-F.Leaf x
 out_Leaf x = ap out-Branch (sym (branch.rolls-Leaf x)) ∙ out-roll-Branch (Branch-F.Leaf x)
 
+-- the layer of a P-node
 out_P : (ks : List Branch) → out-Branch (branch.P ks) ≡ Branch-F.P ks
 out_P ks = ap out-Branch (sym (branch.rolls-P ks)) ∙ out-roll-Branch (Branch-F.P ks)
 
+-- the layer of a Q-node
 out_Q : (ks : List Branch) → out-Branch (branch.Q ks) ≡ Branch-F.Q ks
 out_Q ks = ap out-Branch (sym (branch.rolls-Q ks)) ∙ out-roll-Branch (Branch-F.Q ks)
 
@@ -31,18 +33,23 @@ out_Q ks = ap out-Branch (sym (branch.rolls-Q ks)) ∙ out-roll-Branch (Branch-F
 same_Leaf : (x y : ℕ) → branch.Leaf x ≡ branch.Leaf y → x ≡ y
 same_Leaf x y e = let h : Branch-F.Leaf x ≡ Branch-F.Leaf y = sym (out_Leaf x) ∙ ap out-Branch e ∙ out_Leaf y in cc
 
+-- equal P-nodes have the same kids
 same_P : (ks js : List Branch) → branch.P ks ≡ branch.P js → ks ≡ js
 same_P ks js e = let h : Branch-F.P ks ≡ Branch-F.P js = sym (out_P ks) ∙ ap out-Branch e ∙ out_P js in cc
 
+-- equal Q-nodes have the same kids
 same_Q : (ks js : List Branch) → branch.Q ks ≡ branch.Q js → ks ≡ js
 same_Q ks js e = let h : Branch-F.Q ks ≡ Branch-F.Q js = sym (out_Q ks) ∙ ap out-Branch e ∙ out_Q js in cc
 
+-- a leaf is no P-node
 leaf_no_P : (x : ℕ) (ks : List Branch) → branch.Leaf x ≡ branch.P ks → ⊥
 leaf_no_P x ks e = let h : Branch-F.Leaf x ≡ Branch-F.P ks = sym (out_Leaf x) ∙ ap out-Branch e ∙ out_P ks in cc
 
+-- and no Q-node
 leaf_no_Q : (x : ℕ) (ks : List Branch) → branch.Leaf x ≡ branch.Q ks → ⊥
 leaf_no_Q x ks e = let h : Branch-F.Leaf x ≡ Branch-F.Q ks = sym (out_Leaf x) ∙ ap out-Branch e ∙ out_Q ks in cc
 
+-- a P-node is no Q-node
 P_no_Q : (ks js : List Branch) → branch.P ks ≡ branch.Q js → ⊥
 P_no_Q ks js e = let h : Branch-F.P ks ≡ Branch-F.Q js = sym (out_P ks) ∙ ap out-Branch e ∙ out_Q js in cc
 

@@ -78,9 +78,11 @@ module _ (xs order : List ℕ) (h : is_star_order xs order ≡ true) where
   first : (are_apart (0 ∷ xs) ≡ true) × ((are_apart order && (is_some order && list_all (inside xs) order)) ≡ true)
   first = and_parts (are_apart (0 ∷ xs)) (are_apart order && (is_some order && list_all (inside xs) order)) h
 
+  -- the order has distinct leaves, and the rest of the test holds
   second : (are_apart order ≡ true) × ((is_some order && list_all (inside xs) order) ≡ true)
   second = and_parts (are_apart order) (is_some order && list_all (inside xs) order) first.1
 
+  -- the order is not empty, and its leaves are those of the star
   third : (is_some order ≡ true) × (list_all (inside xs) order ≡ true)
   third = and_parts (is_some order) (list_all (inside xs) order) second.1
 
@@ -88,6 +90,7 @@ module _ (xs order : List ℕ) (h : is_star_order xs order ≡ true) where
   pub star_distinct : Distinct (0 ∷ xs)
   star_distinct = distinct_by (0 ∷ xs) first.0
 
+  -- a star with an order has a leaf
   pub star_some : xs ≢ []
   star_some e = none order (some_by order third.0) (subst (λ z. list_all (inside z) order ≡ true) e third.1)
     where
@@ -99,9 +102,11 @@ module _ (xs order : List ℕ) (h : is_star_order xs order ≡ true) where
   pub order_some : order ≢ []
   order_some = some_by order third.0
 
+  -- the leaves of the order are distinct
   pub order_distinct : Distinct order
   order_distinct = distinct_by order second.0
 
+  -- and they are leaves of the tree
   pub order_leaves : (owner vars : ℕ) (tree : PQTree) → IsStar 0 xs owner vars tree
       → (x : ℕ) → Has x order → Has x (leaves tree.body)
   order_leaves owner vars tree s x m = subst (Has x) (sym (star_has xs owner vars tree s)) (has_by xs order third.1 x m)
@@ -117,9 +122,11 @@ module _ (xs set : List ℕ) (h : is_star_with 0 xs set ≡ true) where
   set_first : (are_apart (0 ∷ xs) ≡ true) × ((is_some set && (is_rising set && list_all (inside xs) set)) ≡ true)
   set_first = and_parts (are_apart (0 ∷ xs)) (is_some set && (is_rising set && list_all (inside xs) set)) h
 
+  -- the set is not empty, and the rest of the test holds
   set_second : (is_some set ≡ true) × ((is_rising set && list_all (inside xs) set) ≡ true)
   set_second = and_parts (is_some set) (is_rising set && list_all (inside xs) set) set_first.1
 
+  -- the set is rising, and its leaves are those of the star
   set_third : (is_rising set ≡ true) × (list_all (inside xs) set ≡ true)
   set_third = and_parts (is_rising set) (list_all (inside xs) set) set_second.1
 
@@ -127,6 +134,7 @@ module _ (xs set : List ℕ) (h : is_star_with 0 xs set ≡ true) where
   pub set_distinct : Distinct (0 ∷ xs)
   set_distinct = distinct_by (0 ∷ xs) set_first.0
 
+  -- a star with a set has a leaf
   pub set_some : xs ≢ []
   set_some e = none set (some_by set set_second.0) (subst (λ z. list_all (inside z) set ≡ true) e set_third.1)
     where

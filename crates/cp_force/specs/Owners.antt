@@ -10,6 +10,7 @@ use Rattle.cp_pq.specs.Trees.{PQTree}
 abbrev pub IsSoleP : PQTree → ℕ → Type 0
 IsSoleP tree owner = (xs : List ℕ) × (tree.body ≡ P owner (map Leaf xs))
 
+-- whether the layer is a leaf
 abbrev pub leaf_step : Node-F Bool → Bool
 leaf_step (Node-F.Leaf x) = true
 leaf_step (Node-F.P owner kids) = false

@@ -7,6 +7,7 @@ use Rattle.cp_pq.specs.declared.node.Node.TheOpen.{Node-F}
 use Rattle.cp_pq.specs.declared.node.Node.TheFolds.{fold-Node}
 use Rattle.cp_pq.specs.Trees.{PQTree}
 
+-- the branch of a layer whose kids are branches, without its owner or var
 abbrev pub branch_step : Node-F Branch → Branch
 branch_step (Node-F.Leaf x) = branch.Leaf x
 branch_step (Node-F.P owner kids) = branch.P kids

@@ -8,6 +8,7 @@ use Rattle.cp_pq.specs.declared.part.Part.{Part}
 use Rattle.cp_pq.specs.Bits.{bit_of}
 use Rattle.cp_pq.specs.Promises.{in_direction}
 
+-- the word of a layer whose kids are words: a P-node in its order, a Q-node by the bit of its var
 abbrev pub word_step : List Bool → Node-F (List ℕ) → List ℕ
 word_step bits (Node-F.Leaf x) = x ∷ []
 word_step bits (Node-F.P owner words) = flat_map (λ word. word) words

@@ -18,6 +18,7 @@ use Rattle.cp_pq.proofs.Zips.{zip_out, zip_in, zip_clear, zip_sorted, zip_revers
 
 module _ (q p : ℕ → Bool) (v : ℕ) (ks : List Node) (fs : List Found) (z : AllZip
     (IsGiven q p) ks fs) (two : 2 ≤ length ks) where
+  -- one kid at least has leaves, so not all kids are outside and inside at once
   pub some_kid : list_all (has_all q) ks ≡ true → list_all (has_all p) ks ≡ true → ⊥
   some_kid = go ks two (zip_clear q p ks fs z)
     where
@@ -26,6 +27,7 @@ module _ (q p : ℕ → Bool) (v : ℕ) (ks : List Node) (fs : List Found) (z : 
       go [] two c a b = absurd (omega arith)
       go (k ∷ ks) two c a b = both_ways _ (clear_other q p k (and_parts _ _ c).0 (and_parts _ _ b).0) (and_parts _ _ a).0
 
+  -- a Q-node whose kids are all outside is outside
   pub row_out : (line : List Node) → list_all is_out fs ≡ true → line ≡ flat_line fs
       → IsGiven q p (Q v ks) (Found.Out (Q v line))
   row_out line h e = (
@@ -34,6 +36,7 @@ module _ (q p : ℕ → Bool) (v : ℕ) (ks : List Node) (fs : List Found) (z : 
     ap (λ l. Q v l) (e ∙ zip_empty q p ks fs z h),
   )
 
+  -- a Q-node whose kids are all inside is inside
   pub row_in : (line : List Node) → list_all is_in fs ≡ true → line ≡ flat_line fs
       → IsGiven q p (Q v ks) (Found.In (Q v line))
   row_in line h e = (
@@ -42,6 +45,7 @@ module _ (q p : ℕ → Bool) (v : ℕ) (ks : List Node) (fs : List Found) (z : 
     ap (λ l. Q v l) (e ∙ (zip_full q p ks fs z h).0),
   )
 
+  -- a Q-node whose kids are sorted in neither direction is torn
   pub row_torn : list_all is_out fs ≡ false → list_all is_in fs ≡ false → found_sorted fs ≡ false
       → found_sorted (reverse fs) ≡ false → IsGiven q p (Q v ks) Found.Torn
   row_torn nout nin a b = (
@@ -50,6 +54,7 @@ module _ (q p : ℕ → Bool) (v : ℕ) (ks : List Node) (fs : List Found) (z : 
     Q_never q p v ks (zip_sorted q p ks fs z ∙ a) (zip_sorted q p (reverse ks) (reverse fs) (zip_reverse q p ks fs z) ∙ b),
   )
 
+  -- a Q-node that is read in one direction alone is the line of its kids with a tie of its var, or torn where a kid is
   line_or_torn : (b : Bool) (js : List Node) (gs : List Found) (front back : List Node) (ts : List (ℕ × Bool))
       (t : Bool)
       → AllZip (IsGiven q p) js gs → IsPermutation ks js
@@ -67,6 +72,7 @@ module _ (q p : ℕ → Bool) (v : ℕ) (ks : List Node) (fs : List Found) (z : 
     subst (Keeps any_bound (Q v ks ∷ [])) (sym e1) (Keeps_trans any_bound _ _ _ (Keeps_kids_of_Q any_bound v ks) (Keeps_trans any_bound _ _ _ (Keeps_permuted any_bound ks js perm) (zip_keeps q p js gs zz (sym e)))),
   )
 
+  -- a Q-node whose kids are sorted from left to right is their line, its var tied to the bit false, or torn
   pub row_forward : Opposite q p → list_all is_out fs ≡ false → list_all is_in fs ≡ false → found_sorted fs ≡ true
       → (front back : List Node) (ts : List (ℕ × Bool)) (t : Bool)
       → reverse front ++ back ≡ flat_line fs → ts ≡ flat_ties (reverse fs) ++ (v, false) ∷ [] → t ≡ list_any is_torn fs
@@ -77,6 +83,7 @@ module _ (q p : ℕ → Bool) (v : ℕ) (ks : List Node) (fs : List Found) (z : 
       (Q_forward q p (λ may. Grants may fs) v ks (flat_line fs) (zip_like q p opp ks fs z s) (false_unless _ (λ x. not_both q p ks two (zip_clear q p ks fs z) nq np (zip_sorted q p ks fs z ∙ s) x)))
       (has_all_Q q v ks ∙ nq) (has_all_Q p v ks ∙ np) e1 e2 e
 
+  -- a Q-node whose kids are sorted from right to left is their line, its var tied to the bit true, or torn
   pub row_backward : Opposite q p → list_all is_out fs ≡ false → list_all is_in fs ≡ false → found_sorted fs ≡ false
       → (gs : List Found) → gs ≡ reverse fs → found_sorted gs ≡ true
       → (front back : List Node) (ts : List (ℕ × Bool)) (t : Bool)

@@ -6,6 +6,7 @@ use Rattle.cp_pq.specs.Orders.{inside, outside, IsConsecutive}
 use Rattle.cp_pq.specs.Words.{Opposite, sorted, together}
 use Rattle.cp_pq.proofs.WordLaws.{sorted_front, sorted_last, together_front, together_all, opposite_sym}
 
+-- no leaf is outside and inside at once
 not_inside : (set : List ℕ) (x : ℕ) → outside set x ≡ true → inside set x ≡ true → ⊥
 not_inside set x o i = both_ways (not (inside set x)) (ap (λ b. not b) i) o
 
@@ -34,6 +35,7 @@ consecutive_together set root word out c = go c.before c.run c.order_is c.none_b
         ap (together (outside set) (inside set)) w ∙ together_front (outside set) (inside set) before (run ++ c.after) (and_parts (outside set x) (list_all (outside set) before) b).1
         ∙ run_together (outside set) (inside set) (λ z. refl) run c.after i c.none_after
 
+-- a word with leaves outside, then a run inside, then leaves outside
 record Parted (set word : List ℕ) : Type 0 where
   before : List ℕ
   run : List ℕ
@@ -55,6 +57,7 @@ run_part set (x ∷ word) s =
     (λ i. ([], x ∷ word, refl, refl, and_from (outside set x) (list_all (outside set) word) (ap (λ b. not b) i) (sym (ap (λ b. cond b (sorted (inside set) (outside set) word) (list_all (outside set) word)) i) ∙ s)))
     (cases_Bool (inside set x))
 
+-- a word with the set together has these parts
 word_parts : (set word : List ℕ) → together (outside set) (inside set) word ≡ true → Parted set word
 word_parts set [] t = record { before = []; run = []; after = []; is = refl; out = refl; full = refl; rest = refl }
 word_parts set (x ∷ word) t =

@@ -37,6 +37,7 @@ not_twice : (b : Bool) → not (not b) ≡ b
 not_twice true = refl
 not_twice false = refl
 
+-- ties are licensed where they are by the licence that is turned twice
 licensed_twice : (d : Bool) (may : ℕ → Bool → Bool) (ts : List (ℕ × Bool))
     → Licensed d may ts ↔ Licensed d (turned (turned may)) ts
 licensed_twice d may [] = (λ x. x, λ x. x)
@@ -45,12 +46,14 @@ licensed_twice d may (t ∷ ts) =
     let e : not (not (differ d t.1)) ≡ differ d t.1 = not_twice (differ d t.1) in
     (λ x. (subst (λ b. may t.0 b ≡ true) (sym e) x.0, g.0 x.1), λ x. (subst (λ b. may t.0 b ≡ true) e x.0, g.1 x.1))
 
+-- what a node was found to be asks the same of a licence that is turned twice
 grant_twice : (f : Found) (may : ℕ → Bool → Bool) → Grant may f ↔ Grant (turned (turned may)) f
 grant_twice (Found.Out m) may = (λ x. x, λ x. x)
 grant_twice (Found.In m) may = (λ x. x, λ x. x)
 grant_twice (Found.Line front back ties) may = licensed_twice false may ties
 grant_twice Found.Torn may = (λ x. x, λ x. x)
 
+-- against the other leaves it asks the same of the turned licence
 grant_turn : (f : Found) (may : ℕ → Bool → Bool) → Grant (turned may) f ↔ Grant may (turn_found f)
 grant_turn (Found.Out m) may = (λ x. x, λ x. x)
 grant_turn (Found.In m) may = (λ x. x, λ x. x)
@@ -62,15 +65,18 @@ flat_ins : (row : List Node) → flat_line (map Found.In row) ≡ row
 flat_ins [] = refl
 flat_ins (k ∷ row) = ap (λ z. k ∷ z) (flat_ins row)
 
+-- nodes inside ask nothing of a licence
 grants_ins : (may : ℕ → Bool → Bool) (row : List Node) → Grants may (map Found.In row)
 grants_ins may [] = tt
 grants_ins may (k ∷ row) = (tt, grants_ins may row)
 
+-- the group of some nodes is not empty
 group_long : (o : ℕ) (f : List Node) → 1 ≤ length f → 1 ≤ length (group_of o f)
 group_long o [] le = absurd (omega (arith, le))
 group_long o (k ∷ []) le = omega arith
 group_long o (k ∷ j ∷ ks) le = omega arith
 
+-- a group has one node at most
 pub group_short : (o : ℕ) (f : List Node) → length (group_of o f) ≤ 1
 group_short o [] = omega arith
 group_short o (k ∷ []) = omega arith
@@ -120,6 +126,7 @@ module _ (q p : ℕ → Bool) (opp : Opposite q p) where
       go false true d f ih = ap (λ z. k ∷ z) (ih f)
       go false false d f ih = absurd cc
 
+  -- a mixed kid with what it was found to be is the middle of a row
   middle_of : (k : Node) (f : Found) → is_mixed q p k ≡ true → IsGiven q p k f
       → IsMiddle q p (λ may. Grant may f) (k ∷ []) (line_of f)
   middle_of k (Found.Out m) e g = absurd (both_ways (not (has_all q k)) (ap (λ z. not z) g.0) (and_parts (not (has_all q k)) (not (has_all p k)) e).0)
@@ -136,10 +143,12 @@ module _ (q p : ℕ → Bool) (opp : Opposite q p) where
       let e : flat_line (f ∷ []) ≡ line_of f = append-nil (line_of f) in
       (subst (Keeps any_bound (k ∷ [])) e (zip_keeps q p (k ∷ []) (f ∷ []) z head), subst (λ z. 1 ≤ length z) e (zip_long q p (k ∷ []) (f ∷ []) z head))
 
+-- where no bit of two is true, both are false
 or_false : (a b : Bool) → (a || b) ≡ false → (a ≡ false) × (b ≡ false)
 or_false true b e = absurd (true≢false e)
 or_false false b e = (refl, e)
 
+-- where none of a row is torn, its first and its last are not
 torn_ends : (fs gs : List Found) (f g : Found) → list_any is_torn (f ∷ (fs ++ g ∷ [])) ≡ false
     → (is_torn f ≡ false) × (is_torn g ≡ false)
 torn_ends fs gs f g h = let x = or_false (is_torn f) (list_any is_torn (fs ++ g ∷ [])) h in (x.0, last fs x.1)
@@ -149,9 +158,11 @@ torn_ends fs gs f g h = let x = or_false (is_torn f) (list_any is_torn (fs ++ g 
     last (d ∷ es) e = last es (or_false (is_torn d) (list_any is_torn (es ++ g ∷ [])) e).1
 
 module _ (q p : ℕ → Bool) (opp : Opposite q p) (y o : ℕ) (ks outs ins : List Node) where
+  -- outside and inside are opposite the other way round too
   opp_back : Opposite p q
   opp_back x = elim (p x) as (λ b. q x ≡ not b → b ≡ not (q x)) [ true ↦ λ e. sym (ap (λ z. not z) e) | false ↦ λ e. sym (ap (λ z. not z) e) ] (opp x)
 
+  -- a row of which two things were found has two nodes, each with its own
   two_given : (f g : Found) (ms : List Node) → AllZip (IsGiven q p) ms (f ∷ g ∷ [])
       → (k j : Node) × (ms ≡ k ∷ j ∷ []) × IsGiven q p k f × IsGiven q p j g
   two_given f g [] z = absurd z
@@ -159,15 +170,18 @@ module _ (q p : ℕ → Bool) (opp : Opposite q p) (y o : ℕ) (ks outs ins : Li
   two_given f g (k ∷ j ∷ []) z = (k, j, refl, z.0, z.1.0)
   two_given f g (k ∷ j ∷ i ∷ ms) z = absurd z.1.1
 
+  -- a row of which one thing was found has one node
   one_given : (f : Found) (ms : List Node) → AllZip (IsGiven q p) ms (f ∷ [])
       → (k : Node) × (ms ≡ k ∷ []) × IsGiven q p k f
   one_given f [] z = absurd z
   one_given f (k ∷ []) z = (k, refl, z.0)
   one_given f (k ∷ j ∷ ms) z = absurd z.1
 
+  -- the kids that meet the set all meet it
   all_met : list_all (is_met q) (filter (is_met q) ks) ≡ true
   all_met = all_filter (is_met q) ks
 
+  -- the kids that meet the set, one of them mixed, become a Q-node of this one and the group of those inside
   pub core_one : (f : Found) (row : List Found) → Sorts q p ks outs ins (f ∷ []) → 2 ≤ length (filter (is_met q) ks)
       → row ≡ f ∷ map Found.In (group_of o ins) → IsCore q p y o (filter (is_met q) ks) row
   core_one f row s two e = subst (IsCore q p y o (filter (is_met q) ks)) (sym e) (record { done = made; keeps = kept })
@@ -211,6 +225,7 @@ module _ (q p : ℕ → Bool) (opp : Opposite q p) (y o : ℕ) (ks outs ins : Li
           (Keeps_append any_bound (h.0 ∷ []) (line_of f) (group_of o ins) (group_of o ins) k.0 (Keeps_refl any_bound (group_of o ins)))))
           (Keeps_into_Q y (line_of f ++ group_of o ins) long))
 
+  -- with two mixed kids, the group of those inside stands between the first and the second turned
   pub core_two : (f g : Found) (row : List Found) → Sorts q p ks outs ins (f ∷ g ∷ [])
       → 2 ≤ length (filter (is_met q) ks)
       → row ≡ f ∷ (map Found.In (group_of o ins) ++ turn_found g ∷ []) → IsCore q p y o (filter (is_met q) ks) row

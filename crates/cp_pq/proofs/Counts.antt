@@ -15,6 +15,7 @@ use Rattle.cp_pq.proofs.NodeLayers.{leaves_Leaf, leaves_P, leaves_Q, all_leaves_
 use Rattle.cp_pq.proofs.Rows.{row_all}
 use Rattle.cp_pq.proofs.Closes.{has_all_P, has_all_Q}
 
+-- a leaf holds one leaf of the set where it is inside, and none otherwise
 pub count_Leaf : (p : ℕ → Bool) (x : ℕ) (b : Bool) → p x ≡ b → count_in p (Leaf x) ≡ cond b 1 0
 unfolding count_in
 count_Leaf p x b e = ap (λ z. length (filter p z)) (leaves_Leaf x) ∙ ap (λ c. length (cond c (x ∷ []) [])) e ∙ go b
@@ -23,18 +24,22 @@ count_Leaf p x b e = ap (λ z. length (filter p z)) (leaves_Leaf x) ∙ ap (λ c
     go true = refl
     go false = refl
 
+-- a row holds what its first node holds and what the others hold
 pub count_cons : (p : ℕ → Bool) (k : Node) (ks : List Node) → count_all p (k ∷ ks) ≡ count_in p k + count_all p ks
 unfolding count_in count_all
 count_cons p k ks = ap (λ z. length (filter p z)) (all_leaves_cons k ks) ∙ ap length (filter-append p (leaves k) (all_leaves ks)) ∙ length-append (filter p (leaves k)) (filter p (all_leaves ks))
 
+-- a P-node holds what its kids hold
 pub count_P_at : (p : ℕ → Bool) (n : Node) (o : ℕ) (ks : List Node) → n ≡ P o ks → count_in p n ≡ count_all p ks
 unfolding count_in count_all
 count_P_at p n o ks e = ap (λ z. length (filter p (leaves z))) e ∙ ap (λ z. length (filter p z)) (leaves_P o ks)
 
+-- and so does a Q-node
 pub count_Q_at : (p : ℕ → Bool) (n : Node) (o : ℕ) (ks : List Node) → n ≡ Q o ks → count_in p n ≡ count_all p ks
 unfolding count_in count_all
 count_Q_at p n o ks e = ap (λ z. length (filter p (leaves z))) e ∙ ap (λ z. length (filter p z)) (leaves_Q o ks)
 
+-- a kid of a row holds no more than the row
 pub count_at : (p : ℕ → Bool) (ks : List Node) (i : ℕ) (d : Node) → i < length ks
     → count_in p (get_or ks i d) ≤ count_all p ks
 count_at p [] i d lt = absurd (omega arith)
@@ -53,10 +58,12 @@ none_inside q p opp (x ∷ xs) = go (q x) (p x) (opp x) (none_inside q p opp xs)
     go false true e ih h = absurd (omega arith)
     go false false e ih h = absurd (false≢true e)
 
+-- a row that holds no leaf of the set is outside
 pub none_outs : (q p : ℕ → Bool) → Opposite q p → (ks : List Node) → count_all p ks ≡ 0 → list_all (has_all q) ks ≡ true
 unfolding count_all
 none_outs q p opp ks h = sym (row_all q ks) ∙ none_inside q p opp (all_leaves ks) h
 
+-- two rows hold together what each of them holds
 pub count_append : (p : ℕ → Bool) (ks js : List Node) → count_all p (ks ++ js) ≡ count_all p ks + count_all p js
 unfolding count_all
 count_append p ks js = ap (λ z. length (filter p z)) (all_leaves_append ks js) ∙ ap length (filter-append p (all_leaves ks) (all_leaves js)) ∙ length-append (filter p (all_leaves ks)) (filter p (all_leaves js))
@@ -73,18 +80,22 @@ pub count_node : (p : ℕ → Bool) (label : Label) (ks : List Node) → count_i
 count_node p (Label.P o) ks = count_P_at p (P o ks) o ks refl
 count_node p (Label.Q v) ks = count_Q_at p (Q v ks) v ks refl
 
+-- an inner node passes a test of leaves where all its kids do
 pub has_all_node : (p : ℕ → Bool) (label : Label) (ks : List Node)
     → has_all p (node_of label ks) ≡ list_all (has_all p) ks
 has_all_node p (Label.P o) ks = has_all_P p o ks
 has_all_node p (Label.Q v) ks = has_all_Q p v ks
 
+-- the empty row holds nothing
 pub count_nil : (p : ℕ → Bool) → count_all p [] ≡ 0
 unfolding count_all
 count_nil p = ap (λ z. length (filter p z)) all_leaves_nil
 
+-- a row with one node more holds what this node holds besides
 pub count_push : (p : ℕ → Bool) (ks : List Node) (k : Node) → count_all p (ks ++ k ∷ []) ≡ count_all p ks + count_in p k
 count_push p ks k = let a = count_append p ks (k ∷ []) in let b = count_cons p k [] in let c = count_nil p in omega (arith, a, b, c)
 
+-- a word outside has no leaf inside
 none_of_out : (q p : ℕ → Bool) → Opposite q p → (xs : List ℕ) → list_all q xs ≡ true → length (filter p xs) ≡ 0
 none_of_out q p opp [] = λ g. refl
 none_of_out q p opp (x ∷ xs) = go (q x) (p x) (opp x) (none_of_out q p opp xs)
@@ -102,6 +113,7 @@ out_count q p opp k h = none_of_out q p opp (leaves k) h
 
 -- a row with a count as large as the whole, no node of which has it, has two nodes that meet the set
 module _ (q p : ℕ → Bool) (opp : Opposite q p) (total : ℕ) (pos : 0 < total) where
+  -- a row in which no node meets the set holds nothing of it
   met_none : (ks : List Node) → length (filter (is_met q) ks) ≡ 0 → count_all p ks ≡ 0
   met_none [] e = count_nil p
   met_none (k ∷ ks) e =
@@ -111,6 +123,7 @@ module _ (q p : ℕ → Bool) (opp : Opposite q p) (total : ℕ) (pos : 0 < tota
       (λ out. let z : length (k ∷ filter (is_met q) ks) ≡ 0 = sym (ap (λ x. length (cond (not x) (k ∷ filter (is_met q) ks) (filter (is_met q) ks))) out) ∙ e in absurd (omega arith))
       (cases_Bool (has_all q k))
 
+  -- a row in which one node at most meets the set, and none holds it whole, does not hold it whole
   met_one : (ks : List Node) → list_all (λ k. nat_lt (count_in p k) total) ks ≡ true → length (filter (is_met q) ks) ≤ 1
       → count_all p ks < total
   met_one [] below le = let e = met_none [] refl in omega arith
@@ -124,6 +137,7 @@ module _ (q p : ℕ → Bool) (opp : Opposite q p) (total : ℕ) (pos : 0 < tota
       let b = met_none ks (omega arith) in let lt = ltb-true (count_in p k) total g.0 in omega arith)
       (cases_Bool (has_all q k))
 
+  -- so where the row does, at least two of its nodes meet the set
   pub two_met : (ks : List Node) → list_all (λ k. nat_lt (count_in p k) total) ks ≡ true → total ≤ count_all p ks
       → 2 ≤ length (filter (is_met q) ks)
   two_met ks below le = ⊎_elim (λ lt. let h = met_one ks below lt in absurd (omega arith)) (λ ge. ge) (few_or_two (length (filter (is_met q) ks)))

@@ -22,6 +22,7 @@ use Rattle.cp_pq.proofs.SmallStars.{rising_by, positive_distinct}
 pub no_numbers : (xs : List ℕ) → xs ≡ [] → AreNumbers 0 xs
 no_numbers xs e = subst (AreNumbers 0) (sym e) (record { rising = none_rises; within = λ x m. absurd m; long = refl })
 
+-- the numbers to n with n + 1 behind them are the numbers to n + 1
 pub more_numbers : (n : ℕ) (xs ys : List ℕ) → ys ≡ xs ++ (n + 1) ∷ [] → AreNumbers n xs → AreNumbers (n + 1) ys
 more_numbers n xs ys e a = subst (AreNumbers (n + 1)) (sym e) (record {
   rising = push_rises xs (n + 1) a.rising (λ y m. let g = (a.within y m).1 in omega (arith, g));
@@ -36,6 +37,7 @@ more_numbers n xs ys e a = subst (AreNumbers (n + 1)) (sym e) (record {
 pub numbers_some : (n : ℕ) (xs : List ℕ) → AreNumbers n xs → 0 < n → xs ≡ [] → ⊥
 numbers_some n xs a pos e = let l = a.long in let z = ap length e in omega (arith, l, z, pos)
 
+-- 0 and the numbers from 1 on are distinct
 pub numbers_distinct : (n : ℕ) (xs ys : List ℕ) → AreNumbers n xs → ys ≡ xs → Distinct (0 ∷ ys)
 numbers_distinct n xs ys a e =
     subst (λ z. Distinct (0 ∷ z)) (sym e) (positive_distinct xs a.rising (λ x m. (a.within x m).0))

@@ -41,6 +41,7 @@ module _ (q p : ℕ → Bool) (opp : Opposite q p) where
       frame : IsDone q p old y L (P o (a ++ k ∷ b)) (P o ((a ++ b) ++ m ∷ []))
       frame = P_frame q p opp old y L o (a ++ k ∷ b) (a ++ b) k m (ends k) (list_all-append (has_all q) a b ∙ and_from _ _ ea eb) d
 
+  -- an inner node with kids outside round one kid changes as this kid does
   done_around : (old : Bool) (y : ℕ) (L : (ℕ → Bool → Bool) → Type 0) (label : Label) (a b : List Node) (k m : Node)
       → list_all (has_all q) a ≡ true → list_all (has_all q) b ≡ true → IsDone q p old y L k m
       → IsDone q p old y L (node_of label (a ++ k ∷ b)) (node_of label (a ++ m ∷ b))
@@ -64,6 +65,7 @@ module _ (q p : ℕ → Bool) (opp : Opposite q p) where
       let whole : together q p (c.0 ++ (e.0 ++ e.1)) ≡ true = ap (λ z. together q p (c.0 ++ z)) (sym e.2) ∙ ap (together q p) (sym c.2) ∙ t in
       never may e.0 (one_ReadsAll may k e.0 e.3) (together_end q p opp e.0 e.1 (class_row q may b e.1 e.4 ∙ eb) (sym (together_front q p c.0 (e.0 ++ e.1) (class_row q may a c.0 c.3 ∙ ea)) ∙ whole))
 
+  -- where the set is never together in this kid, it is never in the inner node
   never_around : (label : Label) (a b : List Node) (k : Node) → list_all (has_all q) a ≡ true
       → list_all (has_all q) b ≡ true → IsNever (together q p) (k ∷ [])
       → IsNever (together q p) (node_of label (a ++ k ∷ b) ∷ [])
@@ -84,6 +86,7 @@ module _ (q p : ℕ → Bool) (opp : Opposite q p) where
       turn : reverse (a ++ k ∷ b) ≡ reverse b ++ k ∷ reverse a
       turn = reverse-append a (k ∷ b) ∙ ap (λ z. z ++ reverse a) (reverse-append (k ∷ []) b) ∙ append_assoc (reverse b) (k ∷ []) (reverse a)
 
+  -- and never in the whole round the place
   pub never_filled : (fs : List Frame) (k n : Node) → AreOutside q fs → n ∷ [] ≡ fill fs (k ∷ [])
       → IsNever (together q p) (k ∷ []) → IsNever (together q p) (n ∷ [])
   never_filled [] k n out e never = subst (IsNever (together q p)) (sym e) never
@@ -91,6 +94,7 @@ module _ (q p : ℕ → Bool) (opp : Opposite q p) where
 
 -- what the node keeps, the whole keeps
 module _ (V : ℕ → Type 0) where
+  -- an inner node keeps what its one changed kid keeps
   keeps_around : (label : Label) (a b : List Node) (k m : Node) → Keeps V (k ∷ []) (m ∷ [])
       → Keeps V (node_of label (a ++ k ∷ b) ∷ []) (node_of label (a ++ m ∷ b) ∷ [])
   keeps_around label a b k m h = go label
@@ -108,6 +112,7 @@ module _ (V : ℕ → Type 0) where
       go (Label.P o) = Keeps_P V o (a ++ k ∷ b) (a ++ m ∷ b) kids (λ d. Fits_frame a b k m same) long
       go (Label.Q v) = Keeps_Q V v (a ++ k ∷ b) (a ++ m ∷ b) kids long
 
+  -- and so does the whole round the place
   pub keeps_filled : (fs : List Frame) (k m : Node) → Keeps V (k ∷ []) (m ∷ [])
       → Keeps V (fill fs (k ∷ [])) (fill fs (m ∷ []))
   keeps_filled [] k m h = h

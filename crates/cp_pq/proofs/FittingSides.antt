@@ -12,9 +12,11 @@ use Rattle.cp_pq.proofs.Permutations.{IsPermutation-same}
 use Rattle.cp_pq.proofs.PermutedLists.{Has-IsPermutation, Lacks-IsPermutation, Distinct-IsPermutation}
 use Rattle.cp_pq.proofs.NodesIn.{kid_cons, kid_cases, kid_permuted, kid_append_left, kid_append_right, kid_leaf}
 
+-- the sides of a P-node fit themselves
 pub Fits_refl : (ks : List Node) → Fits ks ks
 Fits_refl ks a b h = h
 
+-- sides that fit sides which fit others fit these
 pub Fits_trans : (ks js ls : List Node) → Fits ks js → Fits js ls → Fits ks ls
 Fits_trans ks js ls f g a b h = g a b (f a b h)
 

@@ -21,6 +21,7 @@ use Rattle.cp_pq.proofs.Counts.{count_push, count_append, count_cons, count_node
 use Rattle.cp_pq.proofs.Zips.{zip_push, zip_in, zip_out, zip_full, zip_empty}
 
 module _ (q p : ℕ → Bool) (opp : Opposite q p) (total : ℕ) where
+  -- a row without a place, and a node without one, are a row without a place
   pub open_open : (ks : List Node) (k : Node) (founds : List Found) (f : Found) (count more sum : ℕ)
       → sum ≡ count + more → IsGathered q p total ks (Row.Open founds count) → IsStep q p total k (Step.Open f more)
       → IsGathered q p total (ks ++ k ∷ []) (Row.Open (founds ++ f ∷ []) sum)
@@ -30,17 +31,20 @@ module _ (q p : ℕ → Bool) (opp : Opposite q p) (total : ℕ) where
     list_all-append (λ k. nat_lt (count_in p k) total) ks (k ∷ []) ∙ and_from _ _ g.2 (and_from _ _ (lt-ltb (count_in p k) total (subst (λ z. z < total) s.1 s.2)) refl),
   )
 
+  -- a row without a place, and a node with one, are a row with this place
   pub open_root : (ks : List Node) (k : Node) (founds after : List Found) (count : ℕ) (place : Place) → after ≡ []
       → IsGathered q p total ks (Row.Open founds count) → IsStep q p total k (Step.Root place)
       → IsGathered q p total (ks ++ k ∷ []) (Row.Root founds place after)
   open_root ks k founds after count place e g s = (ks, [], k, refl, g.0, subst (AllZip (IsGiven q p) []) (sym e) tt, s.0, s.1)
 
+  -- a row with a place, and a node without one, are a row with this place
   pub root_open : (ks : List Node) (k : Node) (before after : List Found) (place : Place) (f : Found) (more : ℕ)
       → IsGathered q p total ks (Row.Root before place after) → IsStep q p total k (Step.Open f more)
       → IsGathered q p total (ks ++ k ∷ []) (Row.Root before place (after ++ f ∷ []))
   root_open ks k before after place f more g s =
       (g.0, g.1 ++ k ∷ [], g.2, ap (λ z. z ++ k ∷ []) g.3 ∙ append_assoc g.0 (g.2 ∷ g.1) (k ∷ []), g.4, zip_push q p g.1 after k f g.5 s.0, g.6, g.7)
 
+  -- two nodes of a row that holds no more than the set do not both hold it whole
   pub root_root : (ks : List Node) (k : Node) (before after : List Found) (place next : Place) → 0 < total
       → count_all p (ks ++ k ∷ []) ≤ total → IsGathered q p total ks (Row.Root before place after)
       → IsStep q p total k (Step.Root next) → ⊥
@@ -51,6 +55,7 @@ module _ (q p : ℕ → Bool) (opp : Opposite q p) (total : ℕ) where
       let d = g.6 in let e = s.0 in
       omega (arith, a, b, c, d, e, le, pos)
 
+  -- a node over a row with a place has this place, in one frame more
   pub closed_root : (label : Label) (ks : List Node) (before after : List Found) (place outer : Place)
       → count_all p ks ≤ total
       → outer.frames ≡ place.frames ++ record { label = label; before = flat_line before; after = flat_line after } ∷ []
@@ -75,11 +80,13 @@ module _ (q p : ℕ → Bool) (opp : Opposite q p) (total : ℕ) where
         ),
       )
 
+  -- a node over a row that holds less than the whole set is what it was found to be
   pub closed_open : (label : Label) (ks : List Node) (founds : List Found) (count : ℕ) (found : Found) → count < total
       → IsGathered q p total ks (Row.Open founds count) → IsGiven q p (node_of label ks) found
       → IsStep q p total (node_of label ks) (Step.Open found count)
   closed_open label ks founds count found lt g f = (f, g.1 ∙ sym (count_node p label ks), lt)
 
+  -- a node over a row that holds the whole set, no kid of which does, is the place itself
   pub closed_top : (label : Label) (ks : List Node) (founds : List Found) (count : ℕ) (frames : List Frame) (top : Top)
       → 0 < total → total ≤ count → count_all p ks ≤ total → frames ≡ []
       → IsGathered q p total ks (Row.Open founds count)
@@ -94,10 +101,12 @@ module _ (q p : ℕ → Bool) (opp : Opposite q p) (total : ℕ) where
 -- a whole node, or one that meets the set in two kids
 module _ (q p : ℕ → Bool) (label : Label) (ks : List Node) (founds : List Found) (z : AllZip
     (IsGiven q p) ks founds) where
+  -- the place is inside as a whole where all its kids are
   pub top_whole : (kids : List Node) → list_all is_in founds ≡ true → kids ≡ flat_line founds
       → IsTop q p (node_of label ks) (Top.Whole (node_of label kids))
   top_whole kids h e = (has_all_node p label ks ∙ zip_in q p ks founds z ∙ h, ap (node_of label) (e ∙ (zip_full q p ks founds z h).0))
 
+  -- otherwise, where at least two of its kids meet the set, it is an inner node with what its kids were found to be
   pub top_met : list_all is_in founds ≡ false → 2 ≤ length (filter (is_met q) ks)
       → IsTop q p (node_of label ks) (Top.Met label founds)
   top_met h two = (ks, refl, z, has_all_node p label ks ∙ zip_in q p ks founds z ∙ h, two)

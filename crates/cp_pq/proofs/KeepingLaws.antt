@@ -25,9 +25,11 @@ use Rattle.cp_pq.proofs.FittingSides.{Fits_refl, Fits_trans, Fits_part, Fits_uni
 row_P_leaves : (o : ℕ) (ks : List Node) → all_leaves (P o ks ∷ []) ≡ all_leaves ks
 row_P_leaves o ks = all_leaves_one (P o ks) ∙ leaves_P o ks
 
+-- a Q-node has the leaves of its kids
 row_Q_leaves : (v : ℕ) (ks : List Node) → all_leaves (Q v ks ∷ []) ≡ all_leaves ks
 row_Q_leaves v ks = all_leaves_one (Q v ks) ∙ leaves_Q v ks
 
+-- the kids of a P-node with distinct leaves have distinct leaves
 kids_distinct : (o : ℕ) (ks : List Node) → Distinct (all_leaves (P o ks ∷ [])) → Distinct (all_leaves ks)
 kids_distinct o ks d = subst Distinct (row_P_leaves o ks) d
 
@@ -46,38 +48,46 @@ group_leaves o [] = refl
 group_leaves o (k ∷ []) = refl
 group_leaves o (k ∷ j ∷ ks) = row_P_leaves o (k ∷ j ∷ ks)
 
+-- the group of nodes whose inner nodes have two kids has such inner nodes
 group_branching : (o : ℕ) (e : List Node) → list_all is_branching e ≡ true → list_all is_branching (group_of o e) ≡ true
 group_branching o [] h = h
 group_branching o (k ∷ []) h = h
 group_branching o (k ∷ j ∷ ks) h = all_one is_branching (P o (k ∷ j ∷ ks)) ∙ branching_P_from o (k ∷ j ∷ ks) (omega arith) h
 
+-- the group of nodes with vars below a number has vars below it
 group_below : (o m : ℕ) (e : List Node) → list_all (has_vars_below m) e ≡ true
     → list_all (has_vars_below m) (group_of o e) ≡ true
 group_below o m [] h = h
 group_below o m (k ∷ []) h = h
 group_below o m (k ∷ j ∷ ks) h = all_one (has_vars_below m) (P o (k ∷ j ∷ ks)) ∙ below_P m o (k ∷ j ∷ ks) ∙ h
 
+-- a P-node in a group is its new node or stands in one of its nodes
 group_owner : (o ow : ℕ) (e ls : List Node) → IsInRow (P ow ls) (group_of o e)
     → ((ow ≡ o) × (ls ≡ e)) ⊎ IsInRow (P ow ls) e
 group_owner o ow [] ls h = inr h
 group_owner o ow (k ∷ []) ls h = inr h
 group_owner o ow (k ∷ j ∷ ks) ls h = owner_cases o ow (k ∷ j ∷ ks) ls h
 
+-- a test that all nodes of two rows pass is passed by those of each
 pub all_split : (f : Node → Bool) (a b : List Node) → list_all f (a ++ b) ≡ true
     → (list_all f a ≡ true) × (list_all f b ≡ true)
 all_split f a b h = and_parts (list_all f a) (list_all f b) (sym (list_all-append f a b) ∙ h)
 
+-- and the other way round
 pub all_join : (f : Node → Bool) (a b : List Node) → list_all f a ≡ true → list_all f b ≡ true
     → list_all f (a ++ b) ≡ true
 all_join f a b x y = list_all-append f a b ∙ and_from (list_all f a) (list_all f b) x y
 
 module _ (V : ℕ → Type 0) where
+  -- a row keeps all that it has
   pub Keeps_refl : (row : List Node) → Keeps V row row
   Keeps_refl row = record { leaves_kept = IsPermutation-refl _; branching = λ h. h; vars_below = λ m v h. h; owners = λ d o ks h. (ks, h, Fits_refl ks) }
 
+  -- what is kept under each number of vars is kept under those that meet a condition
   pub Keeps_weaken : (a b : List Node) → Keeps any_bound a b → Keeps V a b
   Keeps_weaken a b k = record { leaves_kept = k.leaves_kept; branching = k.branching; vars_below = λ m v h. k.vars_below m tt h; owners = k.owners }
 
+  -- what a second row keeps, and a third of it, the third keeps of the first
   pub Keeps_trans : (a b c : List Node) → Keeps V a b → Keeps V b c → Keeps V a c
   Keeps_trans a b c p q = record {
     leaves_kept = IsPermutation-trans _ _ _ p.leaves_kept q.leaves_kept;
@@ -89,6 +99,7 @@ module _ (V : ℕ → Type 0) where
         (f.0, f.1, Fits_trans f.0 g.0 ks f.2 g.2);
   }
 
+  -- rows side by side keep what each of them keeps
   pub Keeps_append : (a b c d : List Node) → Keeps V a b → Keeps V c d → Keeps V (a ++ c) (b ++ d)
   Keeps_append a b c d p q = record {
     leaves_kept = subst₂ IsPermutation (sym (all_leaves_append a c)) (sym (all_leaves_append b d)) (IsPermutation-append _ _ _ _ p.leaves_kept q.leaves_kept);
@@ -102,6 +113,7 @@ module _ (V : ℕ → Type 0) where
         (in_row_cases (P o ks) b d h);
   }
 
+  -- a row in another order keeps all
   pub Keeps_permuted : (a b : List Node) → IsPermutation a b → Keeps V a b
   Keeps_permuted a b p = record {
     leaves_kept = IsPermutation-all_leaves a b p;

@@ -14,6 +14,7 @@ inside_of (y ∷ set) x h = ⊎_elim
     (λ ne. inr (inside_of set x (sym (ap (λ b. b || inside set x) (ne_eqb y x ne)) ∙ h)))
     (cases_eq y x)
 
+-- a leaf that a set lacks is outside
 pub lacks_outside : (set : List ℕ) (x : ℕ) → Lacks x set → outside set x ≡ true
 lacks_outside set x l = ⊎_elim (λ i. absurd (has_lacks x set (inside_of set x i) l)) (λ o. ap (λ b. not b) o) (cases_Bool (inside set x))
 
@@ -23,6 +24,7 @@ rest_rises y ys h k lt =
     let e : suc k + 1 ≡ suc (k + 1) = omega arith in
     subst (λ z. slice_index (y ∷ ys) (suc k) < slice_index (y ∷ ys) z) e (h (suc k) (omega (arith, lt)))
 
+-- the items behind the first of a rising list are greater
 pub greater : (y : ℕ) (ys : List ℕ) → IsStrictlyIncreasing (y ∷ ys) → (x : ℕ) → Has x ys → y < x
 greater y [] h x m = absurd m
 greater y (z ∷ zs) h x m =
@@ -37,6 +39,7 @@ once_none : (y : ℕ) (xs : List ℕ) → Lacks y xs → length (filter (λ x. e
 once_none y [] l = refl
 once_none y (x ∷ xs) l = ap (λ b. length (cond b (x ∷ filter (λ z. eqb y z) xs) (filter (λ z. eqb y z) xs))) (ne_eqb y x (λ e. l.0 (sym e))) ∙ once_none y xs l.1
 
+-- an item of a list of distinct items stands there once
 once : (y : ℕ) (xs : List ℕ) → Distinct xs → Has y xs → length (filter (λ x. eqb y x) xs) ≡ 1
 once y [] d h = absurd h
 once y (x ∷ xs) d h = ⊎_elim

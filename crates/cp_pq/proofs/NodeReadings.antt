@@ -15,9 +15,11 @@ use Rattle.cp_pq.proofs.NodeLayers.{leaves_Leaf, leaves_P, leaves_Q, all_leaves_
 use Rattle.cp_pq.proofs.NodeTests.{below_Leaf, below_P, below_Q}
 use Rattle.cp_pq.proofs.Permutations.{list_all-IsPermutation}
 
+-- the leaves of the node, as it stands, are a reading of it
 abbrev Stands : (ℕ → Bool → Bool) → Node → Type 0
 Stands may n = Reads may n (leaves n)
 
+-- a row of nodes that are read as they stand is read as it stands
 row_stands : (may : ℕ → Bool → Bool) (es : List ((n : Node) × Stands may n))
     → ReadsAll may (map (λ e. e.0) es) (all_leaves (map (λ e. e.0) es))
 row_stands may [] = subst (ReadsAll may []) (sym all_leaves_nil) none
@@ -55,6 +57,7 @@ mutual
       let g = and_parts (nat_lt v m) (list_all (has_vars_below m) ks) (sym (below_Q m v ks) ∙ h) in
       backward v ks xs (w v true (ltb-true v m g.0) e) (read_all_below m may wide w (reverse ks) xs all (sym (list_all-IsPermutation (has_vars_below m) ks (reverse ks) (IsPermutation-reverse ks)) ∙ g.1))
 
+  -- and so for a row
   pub read_all_below : (m : ℕ) (may wide : ℕ → Bool → Bool) → WiderBelow m may wide → (ks : List Node) (xs : List ℕ)
       → ReadsAll may ks xs → list_all (has_vars_below m) ks ≡ true → ReadsAll wide ks xs
   read_all_below m may wide w _ _ none h = none
@@ -64,11 +67,13 @@ mutual
 abbrev Rises : ℕ → ℕ → Node → Type 0
 Rises m n k = has_vars_below m k ≡ true → has_vars_below n k ≡ true
 
+-- where vars below a number are below another in each node of a row, they are in the row
 row_rises : (m n : ℕ) (es : List ((k : Node) × Rises m n k)) → list_all (has_vars_below m) (map (λ e. e.0) es) ≡ true
     → list_all (has_vars_below n) (map (λ e. e.0) es) ≡ true
 row_rises m n [] h = refl
 row_rises m n (e ∷ es) h = let g = and_parts (has_vars_below m e.0) (list_all (has_vars_below m) (map (λ d. d.0) es)) h in and_from (has_vars_below n e.0) (list_all (has_vars_below n) (map (λ d. d.0) es)) (e.1 g.0) (row_rises m n es g.1)
 
+-- vars of a node below a number are below each greater one
 pub below_more : (m n : ℕ) → m ≤ n → (k : Node) → has_vars_below m k ≡ true → has_vars_below n k ≡ true
 below_more m n le = ind-Node (Rises m n) step
   where

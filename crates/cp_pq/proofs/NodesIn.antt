@@ -62,14 +62,17 @@ in_P_at m _ itself o ks e = inl e
 in_P_at m _ (under_P b js k kid h) o ks e = inr (k, subst (IsKid k) (P_P b o js ks e).1 kid, h)
 in_P_at m _ (under_Q v js k kid h) o ks e = absurd (P_Q o v ks js (sym e))
 
+-- a node in a P-node is this or stands in one of its kids
 pub in_P : (m : Node) (o : ℕ) (ks : List Node) → IsIn m (P o ks) → (m ≡ P o ks) ⊎ IsInRow m ks
 in_P m o ks h = in_P_at m (P o ks) h o ks refl
 
+-- a node in what is a Q-node is this or stands in one of its kids
 in_Q_at : (m n : Node) → IsIn m n → (v : ℕ) (ks : List Node) → n ≡ Q v ks → (m ≡ Q v ks) ⊎ IsInRow m ks
 in_Q_at m _ itself v ks e = inl e
 in_Q_at m _ (under_P b js k kid h) v ks e = absurd (P_Q b v js ks e)
 in_Q_at m _ (under_Q w js k kid h) v ks e = inr (k, subst (IsKid k) (Q_Q w v js ks e).1 kid, h)
 
+-- a node in a Q-node is this or stands in one of its kids
 pub in_Q : (m : Node) (v : ℕ) (ks : List Node) → IsIn m (Q v ks) → (m ≡ Q v ks) ⊎ IsInRow m ks
 in_Q m v ks h = in_Q_at m (Q v ks) h v ks refl
 
@@ -77,6 +80,7 @@ in_Q m v ks h = in_Q_at m (Q v ks) h v ks refl
 pub in_row_one : (m k : Node) → IsInRow m (k ∷ []) → IsIn m k
 in_row_one m k h = subst (IsIn m) (sym (kid_one h.0 k h.1)) h.2
 
+-- a node in a node stands in the row of this one
 pub one_in_row : (m k : Node) → IsIn m k → IsInRow m (k ∷ [])
 one_in_row m k h = (k, ([], [], refl), h)
 
@@ -84,12 +88,15 @@ one_in_row m k h = (k, ([], [], refl), h)
 pub in_row_cases : (m : Node) (a b : List Node) → IsInRow m (a ++ b) → IsInRow m a ⊎ IsInRow m b
 in_row_cases m a b h = ⊎_elim (λ k. inl (h.0, k, h.2)) (λ k. inr (h.0, k, h.2)) (kid_cases h.0 a b h.1)
 
+-- a node in a row stands in it with another row behind
 pub in_row_left : (m : Node) (a b : List Node) → IsInRow m a → IsInRow m (a ++ b)
 in_row_left m a b h = (h.0, kid_append_left h.0 a b h.1, h.2)
 
+-- and with another row before
 pub in_row_right : (m : Node) (a b : List Node) → IsInRow m b → IsInRow m (a ++ b)
 in_row_right m a b h = (h.0, kid_append_right h.0 a b h.1, h.2)
 
+-- a node in a row stands in it in any order
 pub in_row_permuted : (m : Node) (a b : List Node) → IsPermutation a b → IsInRow m a → IsInRow m b
 in_row_permuted m a b p h = (h.0, kid_permuted h.0 a b p h.1, h.2)
 
@@ -97,5 +104,6 @@ in_row_permuted m a b p h = (h.0, kid_permuted h.0 a b p h.1, h.2)
 pub in_row_P : (m : Node) (o : ℕ) (ks : List Node) → IsInRow m ks → IsInRow m (P o ks ∷ [])
 in_row_P m o ks h = one_in_row m (P o ks) (under_P o ks h.0 h.1 h.2)
 
+-- a node in the kids of a Q-node stands in the row of the Q-node
 pub in_row_Q : (m : Node) (v : ℕ) (ks : List Node) → IsInRow m ks → IsInRow m (Q v ks ∷ [])
 in_row_Q m v ks h = one_in_row m (Q v ks) (under_Q v ks h.0 h.1 h.2)

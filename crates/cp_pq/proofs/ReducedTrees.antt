@@ -31,6 +31,7 @@ below_node : (m : ℕ) (label : Label) (ks : List Node) → has_vars_below m (no
 below_node m (Label.P o) ks h = sym (below_P m o ks) ∙ h
 below_node m (Label.Q v) ks h = (and_parts (nat_lt v m) (list_all (has_vars_below m) ks) (sym (below_Q m v ks) ∙ h)).1
 
+-- where the vars of the whole are below a number, those of what stands at the place are
 below_filled : (m : ℕ) (fs : List Frame) (k n : Node) → n ∷ [] ≡ fill fs (k ∷ []) → has_vars_below m n ≡ true
     → has_vars_below m k ≡ true
 below_filled m [] k n e h = let a : n ≡ k = cc in subst (λ z. has_vars_below m z ≡ true) a h
@@ -43,19 +44,24 @@ below_filled m (f ∷ fs) k n e h =
 module _ (set : List ℕ) (root vars : ℕ) (body : Node) (eqs : List Equation) (wf : IsWellFormed
     (make_tree root body vars eqs)) (apart : outside set root ≡ true)
     (place : Place) (at : IsPlace (outside set) (inside set) body place) where
+  -- whether a leaf is outside the set
   abbrev q : ℕ → Bool
   q = outside set
 
+  -- whether a leaf is in the set
   abbrev p : ℕ → Bool
   p = inside set
 
+  -- the whole keeps what the node at the place keeps
   keeps_whole : (V : ℕ → Type 0) (m new : Node) → new ∷ [] ≡ fill place.frames (m ∷ []) → Keeps V (at.0 ∷ []) (m ∷ [])
       → Keeps V (body ∷ []) (new ∷ [])
   keeps_whole V m new e k = subst₂ (Keeps V) (sym at.1) (sym e) (keeps_filled V place.frames at.0 m k)
 
+  -- where the set is never together at the place, it is consecutive in no order of the tree
   pub never_at : IsChange q p vars at.0 Change.Never → IsNeverConsecutive set (make_tree root body vars eqs)
   never_at c = refused set root vars body eqs wf apart (never_filled q p (λ x. refl) place.frames at.0 body at.2 at.1 c)
 
+  -- where the node there becomes one without ties, the tree with it is well formed and is reduced by the set
   pub kept_at : (m new : Node) → new ∷ [] ≡ fill place.frames (m ∷ []) → IsChange q p vars at.0 (Change.Kept m)
       → IsWellFormed (make_tree root new vars eqs) × IsReduced set (make_tree root body vars eqs)
       (make_tree root new vars eqs)
@@ -65,6 +71,7 @@ module _ (set : List ℕ) (root vars : ℕ) (body : Node) (eqs : List Equation) 
         reduced_kept set root vars body eqs wf apart new (λ y. done_filled q p (λ x. refl) false y (λ may. Unit {0}) place.frames at.0 m body new at.2 at.1 e (c.0 y)) k,
       )
 
+  -- and where it becomes one with ties to the bit of a var that it has
   pub old_at : (m new : Node) (y : ℕ) (ties : List (ℕ × Bool)) (all : List Equation)
       → new ∷ [] ≡ fill place.frames (m ∷ []) → all ≡ eqs ++ tie_equations y ties
       → IsChange q p vars at.0 (Change.Old m y ties)
@@ -79,6 +86,7 @@ module _ (set : List ℕ) (root vars : ℕ) (body : Node) (eqs : List Equation) 
         reduced_old set root vars body eqs wf apart new ties y d k lt,
       )
 
+  -- and where it becomes one with ties to the bit of a new var
   pub new_at : (m new : Node) (ties : List (ℕ × Bool)) (all : List Equation) → new ∷ [] ≡ fill place.frames (m ∷ [])
       → all ≡ eqs ++ tie_equations vars ties → IsChange q p vars at.0 (Change.New m ties)
       → IsWellFormed (make_tree root new (vars + 1) all) × IsReduced set (make_tree root body vars eqs)

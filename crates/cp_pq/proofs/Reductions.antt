@@ -29,17 +29,20 @@ use Rattle.cp_pq.proofs.NodeReadings.{as_it_stands, read_below, WiderBelow}
 use Rattle.cp_pq.proofs.ConsecutiveWords.{consecutive_together, together_consecutive}
 use Rattle.cp_pq.proofs.GivenBits.{given_parts, given_from, bit_last, given_wider, given_below, met_append, append_met, ties_met, met_ties}
 
+-- equations over so many vars are over more
 over_more : (m n : ℕ) → m ≤ n → (eqs : List Equation) → AllByRecursion (IsOverVars m) eqs
     → AllByRecursion (IsOverVars n) eqs
 over_more m n le [] h = tt
 over_more m n le (e ∷ eqs) h = let a = h.0.0 in let b = h.0.1 in ((omega (arith, a, le), omega (arith, b, le)), over_more m n le eqs h.1)
 
+-- the first items of a list with others behind are the list
 take_front : (xs ys : List Bool) (n : ℕ) → length xs ≡ n → take n (xs ++ ys) ≡ xs
 take_front [] ys zero e = refl
 take_front [] ys (suc n) e = absurd (omega (arith, e))
 take_front (x ∷ xs) ys zero e = absurd (omega (arith, e))
 take_front (x ∷ xs) ys (suc n) e = ap (λ z. x ∷ z) (take_front xs ys n (omega (arith, e)))
 
+-- a list of bits is all but the last, and the last
 split_last : (bits : List Bool) (n : ℕ) → length bits ≡ suc n
     → (old : List Bool) × (c : Bool) × (bits ≡ old ++ c ∷ []) × (length old ≡ n)
 split_last [] n e = absurd (omega (arith, e))
@@ -48,9 +51,11 @@ split_last (x ∷ []) (suc n) e = absurd (omega (arith, e))
 split_last (x ∷ y ∷ bits) zero e = absurd (omega (arith, e))
 split_last (x ∷ y ∷ bits) (suc n) e = let g = split_last (y ∷ bits) n (omega (arith, e)) in (x ∷ g.0, g.1, ap (λ z. x ∷ z) g.2, ap (λ (k : ℕ). suc k) g.3)
 
+-- equal lists have equal tails
 tails : (x y : ℕ) (xs ys : List ℕ) → x ∷ xs ≡ y ∷ ys → xs ≡ ys
 tails x y xs ys e = cc
 
+-- the licence of a shape allows all ties
 any_ties : (b : Bool) (ts : List (ℕ × Bool)) → Licensed false (by_bit b any_bit) ts
 any_ties b [] = tt
 any_ties b (t ∷ ts) = (refl, any_ties b ts)
@@ -59,21 +64,25 @@ any_ties b (t ∷ ts) = (refl, any_ties b ts)
 abbrev below_m : ℕ → ℕ → Bool → Bool
 below_m m v b = nat_lt v m
 
+-- ties of vars below a number, to a var below it, are equations over so many vars
 ties_over : (m y : ℕ) (b : Bool) (ts : List (ℕ × Bool)) → y < m → Licensed false (by_bit b (below_m m)) ts
     → AllByRecursion (IsOverVars m) (tie_equations y ts)
 ties_over m y b [] lt h = tt
 ties_over m y b (t ∷ ts) lt h = ((ltb-true t.0 m h.0, lt), ties_over m y b ts lt h.1)
 
+-- and over more, where the var that they are tied to is one of these
 ties_low : (m n y : ℕ) (b : Bool) (ts : List (ℕ × Bool)) → m ≤ n → y < n → Licensed false (by_bit b (below_m m)) ts
     → AllByRecursion (IsOverVars n) (tie_equations y ts)
 ties_low m n y b [] le lt h = tt
 ties_low m n y b (t ∷ ts) le lt h = let a = ltb-true t.0 m h.0 in ((omega (arith, a, le), lt), ties_low m n y b ts le lt h.1)
 
+-- a wider licence allows the ties that a licence allows, read by the same bit
 wider_ties : (may wide : ℕ → Bool → Bool) → Wider may wide → (b : Bool) (ts : List (ℕ × Bool))
     → Licensed false (by_bit b may) ts → Licensed false (by_bit b wide) ts
 wider_ties may wide w b [] h = tt
 wider_ties may wide w b (t ∷ ts) h = (w t.0 (differ b t.1) h.0, wider_ties may wide w b ts h.1)
 
+-- a bit behind others is licensed for the var behind theirs
 given_last : (bits : List Bool) (c : Bool) → given (bits ++ c ∷ []) (length bits) c ≡ true
 given_last bits c =
     let l = length-append bits (c ∷ []) in
@@ -81,12 +90,15 @@ given_last bits c =
 
 module _ (set : List ℕ) (root vars : ℕ) (body : Node) (eqs : List Equation) (wf : IsWellFormed
     (make_tree root body vars eqs)) (apart : outside set root ≡ true) where
+  -- whether a leaf is outside the set
   abbrev q : ℕ → Bool
   q = outside set
 
+  -- whether a leaf is in the set
   abbrev p : ℕ → Bool
   p = inside set
 
+  -- the tree before the change
   abbrev old : PQTree
   old = make_tree root body vars eqs
 
@@ -95,14 +107,17 @@ module _ (set : List ℕ) (root vars : ℕ) (body : Node) (eqs : List Equation) 
   refused never order a c = never any_bit a.0 (one_ReadsAll any_bit body a.0 a.2) (consecutive_together set root a.0 apart (subst (IsConsecutive set) a.1 c))
 
   module _ (new : Node) where
+    -- a body that keeps what the old one has keeps its owners
     owners_kept : (V : ℕ → Type 0) → Keeps V (body ∷ []) (new ∷ []) → KeepsOwners body new
     owners_kept V k o ks h =
         let g = k.owners (subst Distinct (sym (all_leaves_one body)) wf.distinct.1) o ks (one_in_row (P o ks) new h) in
         (g.0, in_row_one (P o g.0) body g.1, g.2)
 
+    -- and its leaves
     same_leaves : (V : ℕ → Type 0) → Keeps V (body ∷ []) (new ∷ []) → IsPermutation (leaves body) (leaves new)
     same_leaves V k = subst₂ IsPermutation (all_leaves_one body) (all_leaves_one new) k.leaves_kept
 
+    -- the tree with it is well formed, with any equations over its vars
     pub still_formed : (V : ℕ → Type 0) (n : ℕ) (more : List Equation) → Keeps V (body ∷ []) (new ∷ []) → V n
         → has_vars_below n body ≡ true → AllByRecursion (IsOverVars n) more → IsWellFormed (make_tree root new n more)
     still_formed V n more k v low over = record {
@@ -112,6 +127,7 @@ module _ (set : List ℕ) (root vars : ℕ) (body : Node) (eqs : List Equation) 
       equations_below = over;
     }
 
+    -- the new body is read as it stands
     new_stands : Reads any_bit new (leaves new)
     new_stands = as_it_stands any_bit (λ v. refl) new
 
@@ -124,6 +140,7 @@ module _ (set : List ℕ) (root vars : ℕ) (body : Node) (eqs : List Equation) 
       λ a. let t = consecutive_together set root a.0.0 apart (subst (IsConsecutive set) a.0.1 a.1) in let g = d.to any_bit a.0.0 a.0.2 t in (a.0.0, a.0.1, g.3 any_bit (λ v b e. e) refl),
     )
 
+    -- an order of the old tree has the set consecutive, where the new body has its readings
     possible_of : (old_var : Bool) (y : ℕ) (ts : List (ℕ × Bool))
         → IsDone q p old_var y (λ may. Licensed false may ts) body new
         → (order : List ℕ) × Admits old order × IsConsecutive set order
@@ -191,6 +208,7 @@ module _ (set : List ℕ) (root vars : ℕ) (body : Node) (eqs : List Equation) 
           → AllByRecursion (IsOverVars vars) (eqs ++ tie_equations y ts)
       over_old y d lt = let g = tie_vars true y ts d in all-append (IsOverVars vars) eqs (tie_equations y ts) wf.equations_below (ties_over vars y g.0 ts lt g.1)
 
+      -- where the body is tied to a var that it has, the tree with it and the ties is the old one reduced by the set
       pub reduced_old : (y : ℕ) → IsDone q p true y (λ may. Licensed false may ts) body new
           → Keeps any_bound (body ∷ []) (new ∷ []) → y < vars
           → IsReduced set old (make_tree root new vars (eqs ++ tie_equations y ts))
@@ -229,6 +247,7 @@ module _ (set : List ℕ) (root vars : ℕ) (body : Node) (eqs : List Equation) 
           let g = tie_vars false vars ts d in
           all-append (IsOverVars (vars + 1)) eqs (tie_equations vars ts) (over_more vars (vars + 1) (omega arith) eqs wf.equations_below) (ties_low vars (vars + 1) vars g.0 ts (omega arith) (omega arith) g.1)
 
+      -- and where it is tied to a new var
       pub reduced_new : IsDone q p false vars (λ may. Licensed false may ts) body new
           → Keeps (λ n. vars < n) (body ∷ []) (new ∷ [])
           → IsReduced set old (make_tree root new (vars + 1) (eqs ++ tie_equations vars ts))

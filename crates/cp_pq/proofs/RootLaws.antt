@@ -69,6 +69,7 @@ done_never : (q p : ℕ → Bool) (old : Bool) (y : ℕ) (L : (ℕ → Bool → 
 done_never q p old y L n m none d may xs r t = let g = d.to may xs (ReadsAll_one may n xs r) t in none (by_bit g.0 may) g.2
 
 module _ (q p : ℕ → Bool) (opp : Opposite q p) (vars : ℕ) where
+  -- a node inside as a whole is kept
   pub whole_change : (k m : Node) → has_all p k ≡ true → m ≡ k → IsChange q p vars k (Change.Kept m)
   whole_change k m full e = subst (λ z. IsChange q p vars k (Change.Kept z)) (sym e) (λ y. same_done q p opp y k full, Keeps_refl any_bound (k ∷ []))
 
@@ -77,9 +78,11 @@ module _ (q p : ℕ → Bool) (opp : Opposite q p) (vars : ℕ) where
       → IsChange q p vars (Q v ks) Change.Never
   refused_Q v ks fs z bad = Q_refused q p opp v ks (zip_found_run q p opp ks fs z ∙ bad)
 
+  -- the var of a Q-node is below each number that its vars are below
   below_var : (v : ℕ) (ks : List Node) (n : ℕ) → has_vars_below n (Q v ks) ≡ true → v < n
   below_var v ks n h = ltb-true v n (and_parts (nat_lt v n) (list_all (has_vars_below n) ks) (sym (below_Q n v ks) ∙ h)).0
 
+  -- a Q-node over a run of kids that is torn, when turned behind its entry, never has the set together
   pub torn_Q : (v : ℕ) (ks : List Node) (fs : List Found) → AllZip (IsGiven q p) ks fs
       → 2 ≤ length (filter (is_met q) ks) → found_run fs ≡ true → list_any is_torn (turn_behind fs) ≡ true
       → IsChange q p vars (Q v ks) Change.Never
@@ -87,6 +90,7 @@ module _ (q p : ℕ → Bool) (opp : Opposite q p) (vars : ℕ) where
       done_never q p true v (λ may. Grants may (turn_behind fs)) (Q v ks) (Q v (flat_line (turn_behind fs))) (λ may g. grants_torn may (turn_behind fs) t g)
       (Q_done q p opp (λ may. Grants may (turn_behind fs)) v ks (flat_line (turn_behind fs)) (zip_run q p opp ks fs z two run))
 
+  -- a row with two kids that meet the set has two kids
   long_met : (ks : List Node) → 2 ≤ length (filter (is_met q) ks) → 2 ≤ length ks
   long_met ks two = let l = short ks in omega (arith, l, two)
     where
@@ -94,6 +98,7 @@ module _ (q p : ℕ → Bool) (opp : Opposite q p) (vars : ℕ) where
       short [] = omega arith
       short (j ∷ js) = let l = short js in elim (is_met q j) as (λ b. length (cond b (j ∷ filter (is_met q) js) (filter (is_met q) js)) ≤ length (j ∷ js)) [ true ↦ omega (arith, l) | false ↦ omega (arith, l) ]
 
+  -- a Q-node over a run of kids becomes the line of these, with the ties that they ask of its var
   pub change_Q : (v : ℕ) (ks : List Node) (fs : List Found) (kids : List Node) (ties : List (ℕ × Bool))
       → AllZip (IsGiven q p) ks fs → 2 ≤ length (filter (is_met q) ks) → found_run fs ≡ true
       → list_any is_torn (turn_behind fs) ≡ false
@@ -111,12 +116,15 @@ module _ (q p : ℕ → Bool) (opp : Opposite q p) (vars : ℕ) where
   -- a P-node
   module _ (o : ℕ) (ks : List Node) (clear : list_all (is_clear q p) ks ≡ true) (two : 2 ≤ length (filter
       (is_met q) ks)) where
+    -- the kids are those outside and those that meet the set
     parts : IsPermutation ks (filter (has_all q) ks ++ filter (is_met q) ks)
     parts = parted (has_all q) ks
 
+    -- those outside are outside
     all_outside : list_all (has_all q) (filter (has_all q) ks) ≡ true
     all_outside = all_filter (has_all q) ks
 
+    -- those that meet the set meet it
     all_met : list_all (is_met q) (filter (is_met q) ks) ≡ true
     all_met = all_filter (is_met q) ks
 
@@ -126,6 +134,7 @@ module _ (q p : ℕ → Bool) (opp : Opposite q p) (vars : ℕ) where
         → IsDone q p old y L (P o ks) (P o (filter (has_all q) ks ++ m ∷ []))
     beside old y L m d = P_root q p opp old y L o ks (filter (has_all q) ks) (filter (is_met q) ks) m parts clear all_outside all_met d
 
+    -- a P-node of the kids outside and a node keeps all where this node keeps all of those that meet the set
     keeps_beside : (V : ℕ → Type 0) (m : Node) → 1 ≤ length (filter (has_all q) ks)
         → Keeps V (P o (filter (is_met q) ks) ∷ []) (m ∷ [])
         → Keeps V (P o ks ∷ []) (P o (filter (has_all q) ks ++ m ∷ []) ∷ [])
@@ -175,6 +184,7 @@ module _ (q p : ℕ → Bool) (opp : Opposite q p) (vars : ℕ) where
 
     -- one or two such kids
     module _ (row : List Found) (core : IsCore q p vars o (filter (is_met q) ks) row) where
+      -- where no kid is outside, all meet the set
       none_out : filter (has_all q) ks ≡ [] → IsPermutation ks (filter (is_met q) ks)
       none_out e = subst (λ z. IsPermutation ks (z ++ filter (is_met q) ks)) e parts
 
@@ -182,10 +192,12 @@ module _ (q p : ℕ → Bool) (opp : Opposite q p) (vars : ℕ) where
       pub core_torn : list_any is_torn row ≡ true → IsChange q p vars (P o ks) Change.Never
       core_torn t = done_never q p false vars (λ may. Grants may row) (P o ks) _ (λ may g. grants_torn may row t g) (beside false vars (λ may. Grants may row) (Q vars (flat_line row)) core.done)
 
+      -- where no kid of the row is torn, what it asks of a licence is its ties, from the last kid on
       licensed : list_any is_torn row ≡ false → (may : ℕ → Bool → Bool)
           → Grants may row ↔ Licensed false may (flat_ties (reverse row) ++ [])
       licensed t may = let g = grants_licensed may row [] t in (λ x. g.0 (tt, x), λ x. (g.1 x).1)
 
+      -- a P-node with no kid outside becomes a Q-node with a new var over its line
       pub core_alone : (line : List Node) (ties : List (ℕ × Bool)) → list_any is_torn row ≡ false → line ≡ flat_line row
           → ties ≡ flat_ties (reverse row) ++ [] → filter (has_all q) ks ≡ []
           → IsChange q p vars (P o ks) (Change.New (Q vars line) ties)
@@ -196,6 +208,7 @@ module _ (q p : ℕ → Bool) (opp : Opposite q p) (vars : ℕ) where
             Keeps_trans (λ n. vars < n) _ _ _ (Keeps_P (λ n. vars < n) o ks (filter (is_met q) ks) (Keeps_permuted (λ n. vars < n) ks (filter (is_met q) ks) (none_out none)) (λ d. Fits_permuted ks (filter (is_met q) ks) (none_out none)) (λ x. two)) (core.keeps t),
           )
 
+      -- a P-node with kids outside becomes a P-node of these and of such a Q-node
       pub core_beside : (outs line : List Node) (ties : List (ℕ × Bool)) → list_any is_torn row ≡ false
           → line ≡ flat_line row → ties ≡ flat_ties (reverse row) ++ [] → outs ≡ filter (has_all q) ks → 1 ≤ length outs
           → IsChange q p vars (P o ks) (Change.New (P o (outs ++ Q vars line ∷ [])) ties)

@@ -12,20 +12,24 @@ use Rattle.cp_pq.proofs.NodeLayers.{all_leaves_cons, all_leaves_nil}
 use Rattle.cp_pq.proofs.WordLaws.{sorted_front, sorted_cut, together_start, together_whole}
 use Rattle.cp_pq.proofs.ReadingLaws.{ReadsAll_nil, ReadsAll_cons, ReadsAll_one, one_ReadsAll, ReadsAll_join, ReadsAll_cut, read_leaves, read_all_leaves}
 
+-- the leaves of a reading of a node all pass a test where those of the node do
 pub class_read : (p : ℕ → Bool) (may : ℕ → Bool → Bool) (k : Node) (u : List ℕ) → Reads may k u
     → list_all p u ≡ has_all p k
 unfolding has_all
 class_read p may k u r = sym (list_all-IsPermutation p (leaves k) u (read_leaves may k u r))
 
+-- the leaves of a row all pass a test where those of each of its nodes do
 pub row_all : (p : ℕ → Bool) (ks : List Node) → list_all p (all_leaves ks) ≡ list_all (has_all p) ks
 unfolding has_all
 row_all p [] = ap (list_all p) all_leaves_nil
 row_all p (k ∷ ks) = ap (list_all p) (all_leaves_cons k ks) ∙ list_all-append p (leaves k) (all_leaves ks) ∙ ap (λ b. list_all p (leaves k) && b) (row_all p ks)
 
+-- the leaves of a reading of a row all pass a test where those of each of its nodes do
 pub class_row : (p : ℕ → Bool) (may : ℕ → Bool → Bool) (ks : List Node) (u : List ℕ) → ReadsAll may ks u
     → list_all p u ≡ list_all (has_all p) ks
 class_row p may ks u r = sym (list_all-IsPermutation p (all_leaves ks) u (read_all_leaves may ks u r)) ∙ row_all p ks
 
+-- the empty row is like itself for a test that the empty word passes
 pub like_nil : (test : List ℕ → Bool) → test [] ≡ true → IsLike test (λ may. Unit {0}) [] []
 like_nil test e may xs = (λ h. (tt, h.0), λ h. (h.1, ap test (ReadsAll_nil may xs h.1) ∙ e))
 

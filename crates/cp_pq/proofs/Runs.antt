@@ -29,9 +29,11 @@ row_run q p [] = true
 row_run q p (k ∷ ks) = cond (has_all q k) (row_run q p ks) (row_sorted p q ks)
 
 module _ (q p : ℕ → Bool) (opp : Opposite q p) where
+  -- a line from right to left is its back and its front exchanged
   turned_line : (front back : List Node) → reverse (reverse front ++ back) ≡ reverse back ++ front
   turned_line front back = reverse-append (reverse front) back ∙ ap (λ z. reverse back ++ z) (reverse-reverse front)
 
+  -- what a node was found to be, turned, is what it is against the other leaves
   pub given_turn : (k : Node) (f : Found) → IsGiven q p k f → IsGiven p q k (turn_found f)
   given_turn k (Found.Out m) g = (g.1, g.0, g.2)
   given_turn k (Found.In m) g = (g.1, g.0, g.2)
@@ -49,6 +51,7 @@ module _ (q p : ℕ → Bool) (opp : Opposite q p) where
       opp_sym : Opposite p q
       opp_sym x = elim (p x) as (λ b. q x ≡ not b → b ≡ not (q x)) [ true ↦ λ e. sym (ap (λ z. not z) e) | false ↦ λ e. sym (ap (λ z. not z) e) ] (opp x)
 
+  -- and so for a row
   pub zip_turn : (ks : List Node) (fs : List Found) → AllZip (IsGiven q p) ks fs
       → AllZip (IsGiven p q) ks (map turn_found fs)
   zip_turn [] [] z = z
@@ -56,9 +59,11 @@ module _ (q p : ℕ → Bool) (opp : Opposite q p) where
   zip_turn (k ∷ ks) [] z = absurd z
   zip_turn (k ∷ ks) (f ∷ fs) z = (given_turn k f z.0, zip_turn ks fs z.1)
 
+  -- outside and inside are opposite the other way round too
   opp_turn : Opposite p q
   opp_turn x = elim (p x) as (λ b. q x ≡ not b → b ≡ not (q x)) [ true ↦ λ e. sym (ap (λ z. not z) e) | false ↦ λ e. sym (ap (λ z. not z) e) ] (opp x)
 
+  -- behind a first kid that meets the set, where two meet it, not all are outside
   pub met_rest : (k : Node) (ks : List Node) → has_all q k ≡ false → 2 ≤ length (filter (is_met q) (k ∷ ks))
       → list_all (has_all q) ks ≡ false
   met_rest k ks out two = go ks (subst (λ x. 2 ≤ length (cond (not x) (k ∷ filter (is_met q) ks) (filter (is_met q) ks))) out two)
@@ -69,10 +74,12 @@ module _ (q p : ℕ → Bool) (opp : Opposite q p) where
           let l = ap length none in absurd (omega (arith, l, le)))
           (λ e. e) (cases_Bool (list_all (has_all q) js))
 
+  -- behind a first kid outside, where two meet the set, two do
   pub met_later : (k : Node) (ks : List Node) → has_all q k ≡ true → 2 ≤ length (filter (is_met q) (k ∷ ks))
       → 2 ≤ length (filter (is_met q) ks)
   met_later k ks out two = subst (λ x. 2 ≤ length (cond (not x) (k ∷ filter (is_met q) ks) (filter (is_met q) ks))) out two
 
+  -- turned, a row is all inside where it was all outside
   out_turned : (fs : List Found) → list_all is_in (map turn_found fs) ≡ list_all is_out fs
   out_turned [] = refl
   out_turned (Found.Out m ∷ fs) = out_turned fs
@@ -80,6 +87,7 @@ module _ (q p : ℕ → Bool) (opp : Opposite q p) where
   out_turned (Found.Line front back ties ∷ fs) = refl
   out_turned (Found.Torn ∷ fs) = refl
 
+  -- turned, a row goes from outside to inside where it went from inside to outside
   leaving_turned : (fs : List Found) → found_sorted (map turn_found fs) ≡ found_leaving fs
   leaving_turned [] = refl
   leaving_turned (Found.Out m ∷ fs) = out_turned fs
@@ -95,6 +103,7 @@ module _ (q p : ℕ → Bool) (opp : Opposite q p) where
   zip_found_run (k ∷ ks) (f ∷ fs) z =
       rw (given_out q p k f z.0, zip_found_run ks fs z.1, zip_sorted p q ks (map turn_found fs) (zip_turn ks fs z.1), leaving_turned fs) refl
 
+  -- a row that enters the set in its first kid and leaves it later is like the line of this kid and the others turned
   turn_rest : (k : Node) (ks : List Node) (f : Found) (fs : List Found) → IsGiven q p k f → has_all q k ≡ false
       → list_all (has_all q) ks ≡ false → AllZip (IsGiven q p) ks fs → found_leaving fs ≡ true
       → IsLike (sorted q p) (λ may. Grant may f) (k ∷ []) (line_of f)
@@ -120,6 +129,7 @@ module _ (q p : ℕ → Bool) (opp : Opposite q p) where
   zip_run (k ∷ ks) (Found.Line front back ties ∷ fs) z two h = turn_rest k ks (Found.Line front back ties) fs z.0 z.0.0 (met_rest k ks z.0.0 two) z.1 h z.0.2
   zip_run (k ∷ ks) (Found.Torn ∷ fs) z two h = turn_rest k ks Found.Torn fs z.0 z.0.0 (met_rest k ks z.0.0 two) z.1 h (never_like (sorted q p) (k ∷ []) [] z.0.2)
 
+  -- the line of such a row keeps all, and is not shorter, where no kid is torn
   keeps_rest : (k : Node) (ks : List Node) (f : Found) (fs : List Found) → IsGiven q p k f → AllZip (IsGiven q p) ks fs
       → list_any is_torn (f ∷ map turn_found fs) ≡ false
       → Keeps any_bound (k ∷ ks)
@@ -162,6 +172,7 @@ module _ (q p : ℕ → Bool) (opp : Opposite q p) where
   outs_sorted (k ∷ ks) h = let g = and_parts (has_all q k) (list_all (has_all q) ks) h in
       elim (has_all p k) as (λ b. cond b (row_sorted p q ks) (list_all (has_all q) ks) ≡ true) [ true ↦ outs_sorted ks g.1 | false ↦ g.1 ]
 
+  -- a row with a reading that has the set together is a run between kids outside
   pub row_run_of : (may : ℕ → Bool → Bool) (ks : List Node) (xs : List ℕ) → ReadsAll may ks xs → together q p xs ≡ true
       → row_run q p ks ≡ true
   row_run_of may [] xs r t = refl
@@ -176,6 +187,7 @@ module _ (q p : ℕ → Bool) (opp : Opposite q p) where
       (cases_Bool (sorted q p h.0)))
       (cases_Bool (has_all q k))
 
+  -- a Q-node whose kids are no run between kids outside never has the set together
   pub Q_refused : (v : ℕ) (ks : List Node) → row_run q p ks ≡ false → IsNever (together q p) (Q v ks ∷ [])
   Q_refused v ks bad may xs r t =
       ⊎_elim
@@ -183,15 +195,18 @@ module _ (q p : ℕ → Bool) (opp : Opposite q p) where
       (λ h. both_ways (row_run q p ks) bad (row_run_of (turned may) ks (reverse xs) (mirror_row may ks xs h.1) (together_reverse q p opp xs ∙ t)))
       (Reads_Q may v ks xs (ReadsAll_one may (Q v ks) xs r))
 
+  -- a kid outside is not mixed
   mix_out : (x y : Bool) → x ≡ true → not (not x && not y) ≡ true
   mix_out true y e = refl
   mix_out false y e = absurd (false≢true e)
 
+  -- a kid inside is not mixed
   mix_in : (x y : Bool) → y ≡ true → not (not x && not y) ≡ true
   mix_in true y e = refl
   mix_in false true e = refl
   mix_in false false e = absurd (false≢true e)
 
+  -- a row of kids inside, then outside, has one mixed kid at most
   sorted_mixed : (ks : List Node) → row_sorted p q ks ≡ true → length (filter (is_mixed q p) ks) ≤ 1
   sorted_mixed ks h =
       let s = split_sorted p q ks h in
@@ -205,6 +220,7 @@ module _ (q p : ℕ → Bool) (opp : Opposite q p) where
       short (k ∷ []) le = elim (is_mixed q p k) as (λ b. length (cond b (k ∷ []) []) ≤ 1) [ true ↦ omega arith | false ↦ omega arith ]
       short (k ∷ j ∷ m) le = absurd (omega arith)
 
+  -- a run between kids outside has two mixed kids at most
   run_mixed : (ks : List Node) → row_run q p ks ≡ true → length (filter (is_mixed q p) ks) ≤ 2
   run_mixed [] h = omega arith
   run_mixed (k ∷ ks) h =
@@ -215,6 +231,7 @@ module _ (q p : ℕ → Bool) (opp : Opposite q p) where
       elim (is_mixed q p k) as (λ b. length (cond b (k ∷ filter (is_mixed q p) ks) (filter (is_mixed q p) ks)) ≤ 2) [ true ↦ omega arith | false ↦ omega arith ])
       (cases_Bool (has_all q k))
 
+  -- a P-node with three mixed kids never has the set together
   pub P_refused : (o : ℕ) (ks : List Node) → 3 ≤ length (filter (is_mixed q p) ks)
       → IsNever (together q p) (P o ks ∷ [])
   P_refused o ks three may xs r t =

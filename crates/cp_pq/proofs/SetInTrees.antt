@@ -13,16 +13,19 @@ use Rattle.cp_pq.specs.Promises.{IsLeafSet}
 use Rattle.cp_pq.specs.Steps.{count_in, IsStep, IsPlace}
 use Rattle.cp_pq.proofs.LeafSets.{lacks_outside, set_count}
 
+-- the root is not in the set
 pub root_apart : (set : List ℕ) (tree : PQTree) → IsWellFormed tree → IsLeafSet set tree → outside set tree.root ≡ true
 root_apart set tree wf s =
     lacks_outside set tree.root
     (Lacks-from tree.root set (λ h. has_lacks tree.root (leaves tree.body) (s.leaves_of tree.root h) wf.distinct.0))
 
+-- the body holds as many leaves of the set as the set has
 pub whole_count : (set : List ℕ) (tree : PQTree) → IsWellFormed tree → IsLeafSet set tree
     → count_in (inside set) tree.body ≡ length set
 unfolding count_in
 whole_count set tree wf s = set_count set (leaves tree.body) s.rising wf.distinct.1 s.leaves_of
 
+-- a set that is not empty has an item
 pub some_items : (set : List ℕ) → set ≢ [] → 0 < length set
 some_items [] some = absurd (some refl)
 some_items (x ∷ set) some = omega arith

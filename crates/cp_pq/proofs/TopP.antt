@@ -21,6 +21,7 @@ use Rattle.cp_pq.specs.Changes.{IsDone}
 use Rattle.cp_pq.proofs.Tops.{find_in}
 use Rattle.cp_pq.proofs.Groups.{group_back}
 
+-- a row cut into kids outside, kids that meet the set and kids outside
 pub record Run (q : ℕ → Bool) (ks : List Node) : Type 0 where
   pub a : List Node
   pub c : List Node
@@ -31,10 +32,12 @@ pub record Run (q : ℕ → Bool) (ks : List Node) : Type 0 where
   pub after : list_all (has_all q) b ≡ true
 
 module _ (q p : ℕ → Bool) (opp : Opposite q p) where
+  -- clear kids inside meet the set
   met_full : (ks : List Node) → list_all (is_clear q p) ks ≡ true → list_all (has_all p) ks ≡ true
       → list_all (is_met q) ks ≡ true
   met_full ks c h = all_weaker (is_clear q p) (has_all p) (is_met q) (λ k x y. ap (λ z. not z) (clear_other q p k x y)) ks c h
 
+  -- kids that are clear of a set are clear of the other leaves
   clear_turn : (ks : List Node) → list_all (is_clear q p) ks ≡ true → list_all (is_clear p q) ks ≡ true
   clear_turn ks c = all_weaker (is_clear q p) (is_clear q p) (is_clear p q) (λ k x y. go (has_all q k) (has_all p k) x) ks c c
     where
@@ -137,6 +140,7 @@ module _ (q p : ℕ → Bool) (opp : Opposite q p) where
           → list_all (has_all q) b ≡ true → filter (is_met q) (a ++ (c ++ b)) ≡ c
       met3 a c b h g i = filter-append (is_met q) a (c ++ b) ∙ ap₂ (λ x y. x ++ y) (none_met a h) (filter-append (is_met q) c b ∙ ap₂ (λ x y. x ++ y) (filter_all (is_met q) c g) (none_met b i)) ∙ append-nil c
 
+-- two rows of at most one node each that are a permutation of two such rows are these in one of the two orders
 short_sides : (m1 m2 n1 n2 : List Node) → length m1 ≤ 1 → length m2 ≤ 1 → length n1 ≤ 1 → length n2 ≤ 1
     → (m1 ≡ [] → m2 ≡ []) → IsPermutation (m1 ++ m2) (n1 ++ n2) → ((n1 ≡ m1) × (n2 ≡ m2)) ⊎ ((n1 ≡ m2) × (n2 ≡ m1))
 short_sides [] m2 n1 n2 a b c d nomid perm =
@@ -179,11 +183,13 @@ short_sides (x ∷ []) (y ∷ []) (z ∷ w ∷ n1) n2 a b c d nomid perm = absur
 short_sides (x ∷ []) (y ∷ z ∷ m2) n1 n2 a b c d nomid perm = absurd (omega arith)
 short_sides (x ∷ y ∷ m1) m2 n1 n2 a b c d nomid perm = absurd (omega arith)
 
+-- a line with a group in the middle is read back as its last line, the group and its first line
 pub row_back : (o : ℕ) (l1 f l2 : List Node)
     → reverse (l1 ++ (group_of o f ++ reverse l2)) ≡ l2 ++ (group_of o f ++ reverse l1)
 row_back o l1 f l2 = reverse-append l1 (group_of o f ++ reverse l2) ∙ ap (λ z. z ++ reverse l1) (reverse-append (group_of o f) (reverse l2) ∙ ap₂ (λ a b. a ++ b) (reverse-reverse l2) (group_back o f)) ∙ append_assoc l2 (group_of o f) (reverse l1)
 
 module _ (q p : ℕ → Bool) (opp : Opposite q p) where
+  -- the middle of a row from right to left is a middle against the other leaves, under the turned licence
   flip_middle : (L : (ℕ → Bool → Bool) → Type 0) (m line : List Node) → IsMiddle q p L m line
       → IsMiddle p q (λ may. L (turned may)) m (reverse line)
   flip_middle L m line mid =
@@ -192,12 +198,14 @@ module _ (q p : ℕ → Bool) (opp : Opposite q p) where
       (λ h. inr (h.0, h.1, h.3, h.2, like_reverse (sorted q p) (sorted p q) L (h.0 ∷ []) line (sorted_reverse q p opp) h.4))
       mid
 
+  -- kids inside with a middle behind them are like themselves with the line of the middle turned, the set first
   end_row : (L : (ℕ → Bool → Bool) → Type 0) (f m line : List Node) → IsMiddle q p L m line
       → list_all (has_all p) f ≡ true → IsLike (sorted p q) (λ may. L (turned may)) (f ++ m) (f ++ reverse line)
   end_row L f m line mid full =
       subst₂ (λ a b. IsLike (sorted p q) (λ may. L (turned may)) (f ++ a) (f ++ b)) (append-nil m) (append-nil (reverse line))
       (sorted_row p q (λ may. L (turned may)) (opposite_sym q p opp) f m [] (reverse line) (flip_middle L m line mid) full refl)
 
+  -- some kids that all meet the set are not all outside
   not_all_out : (ks : List Node) → list_all (is_met q) ks ≡ true → 1 ≤ length ks → list_all (has_all q) ks ≡ false
   not_all_out [] h le = absurd (omega arith)
   not_all_out (k ∷ ks) h le = go (has_all q k) (and_parts _ _ h).0
@@ -234,6 +242,7 @@ module _ (q p : ℕ → Bool) (opp : Opposite q p) where
           un_met true e = absurd (true≢false (sym e))
           un_met false e = refl
 
+-- a row cut into at most one mixed kid, kids inside and at most one mixed kid
 pub record Core (q p : ℕ → Bool) (ks : List Node) : Type 0 where
   pub n1 : List Node
   pub f : List Node
@@ -244,20 +253,24 @@ pub record Core (q p : ℕ → Bool) (ks : List Node) : Type 0 where
   pub mixed2 : IsMixed q p n2
 
 module _ (q p : ℕ → Bool) (opp : Opposite q p) where
+  -- a bit that is true when turned is false
   un_met : (x : Bool) → not x ≡ true → x ≡ false
   un_met true e = absurd (true≢false (sym e))
   un_met false e = refl
 
+  -- kids outside that meet the set are none
   no_outs : (b : List Node) → list_all (has_all q) b ≡ true → list_all (is_met q) b ≡ true → b ≡ []
   no_outs [] h g = refl
   no_outs (k ∷ b) h g = absurd (both_ways (has_all q k) (un_met (has_all q k) (and_parts (is_met q k) (list_all (is_met q) b) g).0) (and_parts (has_all q k) (list_all (has_all q) b) h).0)
 
+  -- a kid mixed for the other leaves is mixed
   turn_mixed : (x y : Bool) → (not y && not x) ≡ true → (not x && not y) ≡ true
   turn_mixed true true h = h
   turn_mixed true false h = h
   turn_mixed false true h = h
   turn_mixed false false h = h
 
+  -- a row of kids that meet the set and have it together in a reading can be cut so
   pub core_split : (may : ℕ → Bool → Bool) (ks : List Node) (xs : List ℕ) → list_all (is_met q) ks ≡ true
       → 2 ≤ length ks → ReadsAll may ks xs → together q p xs ≡ true → Core q p ks
   core_split may [] xs met two r t = absurd (omega arith)
@@ -279,17 +292,21 @@ module _ (q p : ℕ → Bool) (opp : Opposite q p) where
       (λ s. absurd (both_ways _ (not_all_out q p opp ks m.1 (omega arith)) (sym (class_row q may ks h.1 h.4) ∙ (and_parts _ _ (sym (together_whole q p h.0 h.1 s) ∙ w)).1)))
       (cases_Bool (sorted q p h.0))
 
+  -- a kid inside is not mixed
   full_mixed : (x y : Bool) → y ≡ true → not (not x && not y) ≡ true
   full_mixed true y e = refl
   full_mixed false true e = refl
   full_mixed false false e = absurd (false≢true e)
 
+  -- kids inside have no mixed one among them
   fulls_mixed : (f : List Node) → list_all (has_all p) f ≡ true → filter (is_mixed q p) f ≡ []
   fulls_mixed f h = filter_none (is_mixed q p) f (all_weaker (has_all p) (has_all p) _ (λ k x y. full_mixed (has_all q k) (has_all p k) x) f h h)
 
+  -- mixed kids have none inside among them
   mixed_fulls : (m : List Node) → list_all (is_mixed q p) m ≡ true → filter (has_all p) m ≡ []
   mixed_fulls m h = filter_none (has_all p) m (all_weaker (is_mixed q p) (is_mixed q p) _ (λ k x y. (and_parts (not (has_all q k)) (not (has_all p k)) x).1) m h h)
 
+  -- of mixed kids and kids inside behind them, the mixed ones and the inside ones are the two pieces
   parts_mixed : (a b f : List Node) → list_all (is_mixed q p) a ≡ true → list_all (is_mixed q p) b ≡ true
       → list_all (has_all p) f ≡ true
       → (filter (is_mixed q p) (a ++ (b ++ f)) ≡ a ++ b) × (filter (has_all p) (a ++ (b ++ f)) ≡ f)
@@ -298,6 +315,7 @@ module _ (q p : ℕ → Bool) (opp : Opposite q p) where
     filter-append (has_all p) a (b ++ f) ∙ ap₂ (λ x y. x ++ y) (mixed_fulls a ha) (filter-append (has_all p) b f ∙ ap₂ (λ x y. x ++ y) (mixed_fulls b hb) (filter_all (has_all p) f hf)),
   )
 
+  -- of kids inside with mixed ones on both sides, the mixed ones are the two sides
   core_mixed : (a f b : List Node) → list_all (is_mixed q p) a ≡ true → list_all (has_all p) f ≡ true
       → list_all (is_mixed q p) b ≡ true
       → (filter (is_mixed q p) (a ++ (f ++ b)) ≡ a ++ b) × (filter (has_all p) (a ++ (f ++ b)) ≡ f)
@@ -306,6 +324,7 @@ module _ (q p : ℕ → Bool) (opp : Opposite q p) where
     filter-append (has_all p) a (f ++ b) ∙ ap₂ (λ x y. x ++ y) (mixed_fulls a ha) (filter-append (has_all p) f b ∙ ap₂ (λ x y. x ++ y) (filter_all (has_all p) f hf) (mixed_fulls b hb) ∙ append-nil f),
   )
 
+  -- a row with a group in the middle reads what it reads with the kids of the group in any order
   regroup : (may : ℕ → Bool → Bool) (o : ℕ) (l f g r : List Node) (xs : List ℕ) → IsPermutation f g
       → ReadsAll may (l ++ (g ++ r)) xs → ReadsAll may (l ++ (group_of o f ++ r)) xs
   regroup may o l f g r xs perm h =
@@ -313,6 +332,7 @@ module _ (q p : ℕ → Bool) (opp : Opposite q p) where
       let y = ReadsAll_cut may g r x.1 x.4 in
       subst (ReadsAll may (l ++ (group_of o f ++ r))) (ap (λ z. x.0 ++ z) (sym y.2) ∙ sym x.2) (ReadsAll_join may l (group_of o f ++ r) x.0 (y.0 ++ y.1) x.3 (ReadsAll_join may (group_of o f) r y.0 y.1 (group_reads may o f g y.0 perm y.3) y.4))
 
+  -- and nothing else
   ungroup : (may : ℕ → Bool → Bool) (o : ℕ) (l f r : List Node) (xs : List ℕ)
       → ReadsAll may (l ++ (group_of o f ++ r)) xs
       → (g : List Node) × IsPermutation f g × ReadsAll may (l ++ (g ++ r)) xs
@@ -326,29 +346,37 @@ module _ (q p : ℕ → Bool) (opp : Opposite q p) where
       (twice : (may : ℕ → Bool → Bool) → M may ↔ M (turned (turned may)))
       (perm : IsPermutation c (m1 ++ (m2 ++ f))) (met : list_all (is_met q) c ≡ true) (full : list_all (has_all p) f ≡ true)
       (mid1 : IsMiddle q p L m1 l1) (mid2 : IsMiddle q p M m2 l2) (first : m1 ≡ [] → m2 ≡ []) (two : 2 ≤ length c) where
+    -- the conditions of both middles, the second one turned
     ties : (ℕ → Bool → Bool) → Type 0
     ties may = L may × M (turned may)
 
+    -- the kids in another order meet the set, and are two or more
     met_turn : (t : List Node) → IsPermutation c t → (list_all (is_met q) t ≡ true) × (2 ≤ length t)
     met_turn t h = (sym (list_all-IsPermutation (is_met q) c t h) ∙ met, subst (λ z. 2 ≤ z) (sym (length_permutation c t h)) two)
 
+    -- the kids are a permutation of first middle, kids inside and second middle
     side_a : (g : List Node) → IsPermutation f g → IsPermutation c (m1 ++ (g ++ m2))
     side_a g h = IsPermutation-trans _ _ _ perm (IsPermutation-append_right m1 _ _ (IsPermutation-trans _ _ _ (IsPermutation-append_comm m2 f) (IsPermutation-append_left m2 _ _ h)))
 
+    -- and of second middle, kids inside and first middle
     side_b : (g : List Node) → IsPermutation f g → IsPermutation c (m2 ++ (g ++ m1))
     side_b g h = IsPermutation-trans _ _ _ perm (IsPermutation-trans _ _ _ (IsPermutation-append_comm m1 (m2 ++ f)) (IsPermutation-trans _ _ _ (IsPermutation-same _ _ (append_assoc m2 f m1)) (IsPermutation-append_right m2 _ _ (IsPermutation-append_left m1 _ _ h))))
 
+    -- the kids with the first middle before those inside are like their line
     like_a : (g : List Node) → IsPermutation f g
         → IsLike (together q p) (λ may. L may × M (turned may)) (m1 ++ (g ++ m2)) (l1 ++ (g ++ reverse l2))
     like_a g h = let t = met_turn _ (side_a g h) in run_row q p opp L M m1 l1 g m2 l2 mid1 mid2 (sym (list_all-IsPermutation (has_all p) f g h) ∙ full) t.0 t.1
 
+    -- and so are those with the second middle before
     like_b : (g : List Node) → IsPermutation f g
         → IsLike (together q p) (λ may. M may × L (turned may)) (m2 ++ (g ++ m1)) (l2 ++ (g ++ reverse l1))
     like_b g h = let t = met_turn _ (side_b g h) in run_row q p opp M L m2 l2 g m1 l1 mid2 mid1 (sym (list_all-IsPermutation (has_all p) f g h) ∙ full) t.0 t.1
 
+    -- the line of the first middle, the group of kids inside and the line of the second turned
     abbrev line : List Node
     line = l1 ++ (group_of o f ++ reverse l2)
 
+    -- a P-node with at most two mixed kids and kids inside becomes a Q-node with a new var over this line
     pub middle_done : IsDone q p false y (λ may. L may × M (turned may)) (P o c)
         (Q y (l1 ++ (group_of o f ++ reverse l2)))
     middle_done = record {

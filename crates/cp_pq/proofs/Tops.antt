@@ -46,15 +46,18 @@ pub record Found {A : Type 0} (x : A) (ls bs ys : List A) : Type 0 where
   pub is : ys ≡ before ++ x ∷ after
   pub rest : IsPermutation (ls ++ bs) (before ++ after)
 
+-- a permutation in which each item of the list is found
 abbrev Finds : {A : Type 0} → List A → List A → Type 0
 Finds {A} xs ys = IsPermutation xs ys × ((x : A) (ls bs : List A) → xs ≡ ls ++ x ∷ bs → Found x ls bs ys)
 
+-- an item of a list is its first or stands behind it
 head_at : {A : Type 0} (x y : A) (xs ls bs : List A) → y ∷ xs ≡ ls ++ x ∷ bs
     → ((ls ≡ []) × (y ≡ x) × (xs ≡ bs)) ⊎ ((rest : List A) × (ls ≡ y ∷ rest) × (xs ≡ rest ++ x ∷ bs))
 head_at x y xs [] bs e = let a : y ≡ x = cc in let b : xs ≡ bs = cc in inl (refl, a, b)
 head_at x y xs (l ∷ ls) bs e = let a : l ≡ y = cc in let b : xs ≡ ls ++ x ∷ bs = cc in inr (ls, ap (λ z. z ∷ ls) a, b)
 
 module _ {A : Type 0} where
+  -- items found stay found with one item more before both lists
   skip_head : (y : A) (xs ys : List A) → Finds xs ys → Finds (y ∷ xs) (y ∷ ys)
   skip_head y xs ys h = (
     IsPermutation-cons y xs ys h.0,
@@ -66,6 +69,7 @@ module _ {A : Type 0} where
         (head_at x y xs ls bs e),
   )
 
+  -- with two first items exchanged each item is found
   turn_heads : (y z : A) (xs : List A) → Finds (y ∷ z ∷ xs) (z ∷ y ∷ xs)
   turn_heads y z xs = (
     swap2,
@@ -85,6 +89,7 @@ module _ {A : Type 0} where
       swap2 : IsPermutation (y ∷ z ∷ xs) (z ∷ y ∷ xs)
       swap2 = heads y z xs
 
+  -- each permutation finds its items
   finds : (xs ys : List A) → IsPermutation xs ys → Finds xs ys
   finds = along_permutation Finds
       (λ xs. (IsPermutation-refl xs, λ x ls bs e. record { before = ls; after = bs; is = e; rest = IsPermutation-refl _ }))
@@ -92,6 +97,7 @@ module _ {A : Type 0} where
       turn_heads
       (λ xs ys zs h g. (IsPermutation-trans _ _ _ h.0 g.0, λ x ls bs e. let a = h.1 x ls bs e in let b = g.1 x a.before a.after a.is in record { before = b.before; after = b.after; is = b.is; rest = IsPermutation-trans _ _ _ a.rest b.rest }))
 
+  -- an item of a list is found in each permutation, with the others round it
   pub find_in : (xs ys : List A) → IsPermutation xs ys → (x : A) (ls bs : List A) → xs ≡ ls ++ x ∷ bs → Found x ls bs ys
   find_in xs ys h = (finds xs ys h).1
 
@@ -115,6 +121,7 @@ row_to q p opp old y L k m d a b ea eb may xs r t =
           (ReadsAll_join wide a (m ∷ b) c.0 (e.0 ++ e.1) (read_all_wider may wide w a c.0 c.3) (more m b e.0 e.1 (g.3 wide w h) (read_all_wider may wide w b e.1 e.4))),
     )
 
+-- and each reading of the row with the new kid is one with the old kid, and has the set together
 row_fro : (q p : ℕ → Bool) → Opposite q p → (old : Bool) (y : ℕ) (L : (ℕ → Bool → Bool) → Type 0) (k m : Node)
     → IsDone q p old y L k m
     → (a b : List Node) → list_all (has_all q) a ≡ true → list_all (has_all q) b ≡ true

@@ -21,12 +21,14 @@ use Rattle.cp_pq.proofs.KeepingLaws.{Keeps_refl, Keeps_append}
 use Rattle.cp_pq.proofs.Lines.{like_full}
 use Rattle.cp_pq.proofs.Closes.{never_like, false_unless}
 
+-- a node is outside where it was found so
 pub given_out : (q p : ℕ → Bool) (k : Node) (f : Found) → IsGiven q p k f → has_all q k ≡ is_out f
 given_out q p k (Found.Out m) g = g.0
 given_out q p k (Found.In m) g = g.0
 given_out q p k (Found.Line front back ties) g = g.0
 given_out q p k Found.Torn g = g.0
 
+-- a node is inside where it was found so
 pub given_in : (q p : ℕ → Bool) (k : Node) (f : Found) → IsGiven q p k f → has_all p k ≡ is_in f
 given_in q p k (Found.Out m) g = g.1
 given_in q p k (Found.In m) g = g.1
@@ -34,6 +36,7 @@ given_in q p k (Found.Line front back ties) g = g.1
 given_in q p k Found.Torn g = g.1
 
 module _ (q p : ℕ → Bool) where
+  -- a row is outside where all of it was found so
   pub zip_out : (ks : List Node) (fs : List Found) → AllZip (IsGiven q p) ks fs
       → list_all (has_all q) ks ≡ list_all is_out fs
   zip_out [] [] z = refl
@@ -41,6 +44,7 @@ module _ (q p : ℕ → Bool) where
   zip_out (k ∷ ks) [] z = absurd z
   zip_out (k ∷ ks) (f ∷ fs) z = ap₂ (λ a b. a && b) (given_out q p k f z.0) (zip_out ks fs z.1)
 
+  -- a row is inside where all of it was found so
   pub zip_in : (ks : List Node) (fs : List Found) → AllZip (IsGiven q p) ks fs
       → list_all (has_all p) ks ≡ list_all is_in fs
   zip_in [] [] z = refl
@@ -48,12 +52,14 @@ module _ (q p : ℕ → Bool) where
   zip_in (k ∷ ks) [] z = absurd z
   zip_in (k ∷ ks) (f ∷ fs) z = ap₂ (λ a b. a && b) (given_in q p k f z.0) (zip_in ks fs z.1)
 
+  -- a row is sorted where it was found so
   pub zip_sorted : (ks : List Node) (fs : List Found) → AllZip (IsGiven q p) ks fs → row_sorted q p ks ≡ found_sorted fs
   zip_sorted [] [] z = refl
   zip_sorted [] (f ∷ fs) z = absurd z
   zip_sorted (k ∷ ks) [] z = absurd z
   zip_sorted (k ∷ ks) (f ∷ fs) z = rw (given_out q p k f z.0, zip_sorted ks fs z.1, zip_in ks fs z.1) refl
 
+  -- no kid of a row with what it was found to be is outside and inside at once
   pub zip_clear : (ks : List Node) (fs : List Found) → AllZip (IsGiven q p) ks fs → list_all (is_clear q p) ks ≡ true
   zip_clear [] [] z = refl
   zip_clear [] (f ∷ fs) z = absurd z
@@ -66,6 +72,7 @@ module _ (q p : ℕ → Bool) where
       one (Found.Line front back ties) = refl
       one Found.Torn = refl
 
+  -- a row with what it was found to be, and one node more with its own
   pub zip_push : (ks : List Node) (fs : List Found) (k : Node) (f : Found) → AllZip (IsGiven q p) ks fs
       → IsGiven q p k f → AllZip (IsGiven q p) (ks ++ k ∷ []) (fs ++ f ∷ [])
   zip_push [] [] k f z g = (g, tt)
@@ -73,6 +80,7 @@ module _ (q p : ℕ → Bool) where
   zip_push (j ∷ ks) [] k f z g = absurd z
   zip_push (j ∷ ks) (h ∷ fs) k f z g = (z.0, zip_push ks fs k f z.1 g)
 
+  -- and the row from right to left
   pub zip_reverse : (ks : List Node) (fs : List Found) → AllZip (IsGiven q p) ks fs
       → AllZip (IsGiven q p) (reverse ks) (reverse fs)
   zip_reverse [] [] z = z
@@ -91,6 +99,7 @@ module _ (q p : ℕ → Bool) where
   zip_full (k ∷ ks) (Found.Line front back ties ∷ fs) z h = absurd (false≢true h)
   zip_full (k ∷ ks) (Found.Torn ∷ fs) z h = absurd (false≢true h)
 
+  -- the line of a row that is outside is the row
   pub zip_empty : (ks : List Node) (fs : List Found) → AllZip (IsGiven q p) ks fs → list_all is_out fs ≡ true
       → flat_line fs ≡ ks
   zip_empty [] [] z h = refl
@@ -101,6 +110,7 @@ module _ (q p : ℕ → Bool) where
   zip_empty (k ∷ ks) (Found.Line front back ties ∷ fs) z h = absurd (false≢true h)
   zip_empty (k ∷ ks) (Found.Torn ∷ fs) z h = absurd (false≢true h)
 
+  -- a sorted row is like its line, where the ties of the lines are granted
   pub zip_like : Opposite q p → (ks : List Node) (fs : List Found) → AllZip (IsGiven q p) ks fs → found_sorted fs ≡ true
       → IsLike (sorted q p) (λ may. Grants may fs) ks (flat_line fs)
   zip_like opp [] [] z h = like_nil (sorted q p) refl
@@ -122,16 +132,19 @@ module _ (q p : ℕ → Bool) where
       like_again (sorted q p) (λ may. ⊥) (λ may. ⊥ × Grants may fs) (k ∷ ks) (flat_line fs) (λ may. (λ x. absurd x, λ x. x.0))
       (subst (λ r. IsLike (sorted q p) (λ may. ⊥) (k ∷ ks) r) (sym g.0) (sorted_here q p (λ may. ⊥) k ks [] z.0.0 (zip_in ks fs z.1 ∙ h) (never_like (sorted q p) (k ∷ []) [] z.0.2)))
 
+-- ties that are licensed are licensed together
 pub licence_join : (d : Bool) (may : ℕ → Bool → Bool) (ts us : List (ℕ × Bool)) → Licensed d may ts → Licensed d may us
     → Licensed d may (ts ++ us)
 licence_join d may [] us a b = b
 licence_join d may (t ∷ ts) us a b = (a.0, licence_join d may ts us a.1 b)
 
+-- and apart
 pub licence_cut : (d : Bool) (may : ℕ → Bool → Bool) (ts us : List (ℕ × Bool)) → Licensed d may (ts ++ us)
     → Licensed d may ts × Licensed d may us
 licence_cut d may [] us h = (tt, h)
 licence_cut d may (t ∷ ts) us h = let g = licence_cut d may ts us h.1 in ((h.0, g.0), g.1)
 
+-- where none is torn, what a row asks of a licence is the ties of all its lines
 pub grants_ties : (may : ℕ → Bool → Bool) (fs : List Found) → list_any is_torn fs ≡ false
     → Grants may fs ↔ Licensed false may (flat_ties fs)
 grants_ties may [] h = (λ g. g, λ g. g)
@@ -142,6 +155,7 @@ grants_ties may (Found.Line front back ties ∷ fs) h =
     (λ g. licence_join false may ties (flat_ties fs) g.0 (r.0 g.1), λ g. let c = licence_cut false may ties (flat_ties fs) g in (c.0, r.1 c.1))
 grants_ties may (Found.Torn ∷ fs) h = absurd (true≢false h)
 
+-- a row with a torn node asks what no licence can grant
 pub grants_torn : (may : ℕ → Bool → Bool) (fs : List Found) → list_any is_torn fs ≡ true → Grants may fs → ⊥
 grants_torn may [] h g = false≢true h
 grants_torn may (Found.Out m ∷ fs) h g = grants_torn may fs h g.1
@@ -151,6 +165,7 @@ grants_torn may (Found.Torn ∷ fs) h g = g.0
 
 -- a row that is sorted both ways is outside, inside, or one kid
 module _ (q p : ℕ → Bool) where
+  -- a sorted row with a last kid outside is outside
   last_out : (ks : List Node) (x : Node) → row_sorted q p (ks ++ x ∷ []) ≡ true → has_all q x ≡ true
       → has_all p x ≡ false → list_all (has_all q) (ks ++ x ∷ []) ≡ true
   last_out [] x r o i = and_from _ _ o refl
@@ -161,12 +176,14 @@ module _ (q p : ℕ → Bool) where
       absurd (both_ways _ i (and_parts _ _ (and_parts _ _ (sym (list_all-append (has_all p) ks (x ∷ [])) ∙ full)).1).0))
       (cases_Bool (has_all q k))
 
+  -- a clear kid inside is not outside
   pub clear_other : (k : Node) → is_clear q p k ≡ true → has_all p k ≡ true → has_all q k ≡ false
   clear_other k = elim (has_all p k) as (λ b. not (has_all q k && b) ≡ true → b ≡ true → has_all q k ≡ false) [
     | true ↦ elim (has_all q k) as (λ a. not (a && true) ≡ true → true ≡ true → a ≡ false) [ true ↦ λ c h. absurd (false≢true c) | false ↦ λ c h. refl ]
     | false ↦ λ c h. absurd (false≢true h)
   ]
 
+  -- a row sorted in both directions is outside, inside or no longer than one
   both_at : (r : List Node) (x : Node) → list_all (is_clear q p) (r ++ x ∷ []) ≡ true
       → row_sorted q p (r ++ x ∷ []) ≡ true → row_sorted q p (x ∷ reverse r) ≡ true
       → (list_all (has_all q) (r ++ x ∷ []) ≡ true) ⊎ ((list_all (has_all p) (r ++ x ∷ []) ≡ true)
@@ -182,6 +199,7 @@ module _ (q p : ℕ → Bool) where
       inr (inl (and_from _ _ first rest)))
       (cases_Bool (has_all q x))
 
+  -- and so for a row and its reverse
   both_by : (rs ks : List Node) → ks ≡ reverse rs → list_all (is_clear q p) ks ≡ true → row_sorted q p ks ≡ true
       → row_sorted q p rs ≡ true
       → (list_all (has_all q) ks ≡ true) ⊎ ((list_all (has_all p) ks ≡ true) ⊎ (length ks ≤ 1))
@@ -191,6 +209,7 @@ module _ (q p : ℕ → Bool) where
       subst (λ z. (list_all (has_all q) z ≡ true) ⊎ ((list_all (has_all p) z ≡ true) ⊎ (length z ≤ 1))) (sym f)
       (both_at (reverse rs) x (subst (λ z. list_all (is_clear q p) z ≡ true) f c) (subst (λ z. row_sorted q p z ≡ true) f a) (subst (λ z. row_sorted q p (x ∷ z) ≡ true) (sym (reverse-reverse rs)) b))
 
+  -- two kids or more, neither all outside nor all inside, are not sorted in both directions
   pub not_both : (ks : List Node) → 2 ≤ length ks → list_all (is_clear q p) ks ≡ true → list_all (has_all q) ks ≡ false
       → list_all (has_all p) ks ≡ false → row_sorted q p ks ≡ true → row_sorted q p (reverse ks) ≡ true → ⊥
   not_both ks two c nq np a b =
@@ -198,6 +217,7 @@ module _ (q p : ℕ → Bool) where
 
 -- the row of what the nodes of a row become keeps what they keep
 module _ (q p : ℕ → Bool) where
+  -- a row with no torn kid keeps all as its line
   pub zip_keeps : (ks : List Node) (fs : List Found) → AllZip (IsGiven q p) ks fs → list_any is_torn fs ≡ false
       → Keeps any_bound ks (flat_line fs)
   zip_keeps [] [] z t = Keeps_refl any_bound []
@@ -217,6 +237,7 @@ module _ (q p : ℕ → Bool) where
       absurd (both_ways (has_all q k) out none)
   line_long k (x ∷ line) out keeps = omega arith
 
+  -- and its line is not shorter
   pub zip_long : (ks : List Node) (fs : List Found) → AllZip (IsGiven q p) ks fs → list_any is_torn fs ≡ false
       → length ks ≤ length (flat_line fs)
   zip_long [] [] z t = omega arith
@@ -240,6 +261,7 @@ module _ (q p : ℕ → Bool) where
   zip_outs (k ∷ ks) (Found.Line front back ties ∷ fs) z = zip_outs ks fs z.1 ∙ sym (ap (λ c. cond c (k ∷ filter (has_all q) ks) (filter (has_all q) ks)) z.0.0)
   zip_outs (k ∷ ks) (Found.Torn ∷ fs) z = zip_outs ks fs z.1 ∙ sym (ap (λ c. cond c (k ∷ filter (has_all q) ks) (filter (has_all q) ks)) z.0.0)
 
+  -- the kids found inside are those that are inside
   pub zip_ins : (ks : List Node) (fs : List Found) → AllZip (IsGiven q p) ks fs
       → flat_map in_node fs ≡ filter (has_all p) ks
   zip_ins [] [] z = refl
@@ -250,15 +272,18 @@ module _ (q p : ℕ → Bool) where
   zip_ins (k ∷ ks) (Found.Line front back ties ∷ fs) z = zip_ins ks fs z.1 ∙ sym (ap (λ c. cond c (k ∷ filter (has_all p) ks) (filter (has_all p) ks)) z.0.1)
   zip_ins (k ∷ ks) (Found.Torn ∷ fs) z = zip_ins ks fs z.1 ∙ sym (ap (λ c. cond c (k ∷ filter (has_all p) ks) (filter (has_all p) ks)) z.0.1)
 
+  -- a kid that is not mixed is left out of the mixed ones
   skip_mixed : (k : Node) (ks : List Node) (ms : List Found) → is_mixed q p k ≡ false
       → AllZip (IsGiven q p) (filter (is_mixed q p) ks) ms → AllZip (IsGiven q p) (filter (is_mixed q p) (k ∷ ks)) ms
   skip_mixed k ks ms e z = subst (λ c. AllZip (IsGiven q p) (cond c (k ∷ filter (is_mixed q p) ks) (filter (is_mixed q p) ks)) ms) (sym e) z
 
+  -- a mixed kid with what it was found to be is the first of the mixed ones
   take_mixed : (k : Node) (ks : List Node) (f : Found) (ms : List Found) → is_mixed q p k ≡ true → IsGiven q p k f
       → AllZip (IsGiven q p) (filter (is_mixed q p) ks) ms
       → AllZip (IsGiven q p) (filter (is_mixed q p) (k ∷ ks)) (f ∷ ms)
   take_mixed k ks f ms e g z = subst (λ c. AllZip (IsGiven q p) (cond c (k ∷ filter (is_mixed q p) ks) (filter (is_mixed q p) ks)) (f ∷ ms)) (sym e) (g, z)
 
+  -- the mixed kids are given with what was found of the mixed ones
   pub zip_mixed : (ks : List Node) (fs : List Found) → AllZip (IsGiven q p) ks fs
       → AllZip (IsGiven q p) (filter (is_mixed q p) ks) (flat_map mixed_found fs)
   zip_mixed [] [] z = tt
@@ -269,6 +294,7 @@ module _ (q p : ℕ → Bool) where
   zip_mixed (k ∷ ks) (Found.Line front back ties ∷ fs) z = take_mixed k ks (Found.Line front back ties) _ (ap₂ (λ a b. not a && not b) z.0.0 z.0.1) z.0 (zip_mixed ks fs z.1)
   zip_mixed (k ∷ ks) (Found.Torn ∷ fs) z = take_mixed k ks Found.Torn _ (ap₂ (λ a b. not a && not b) z.0.0 z.0.1) z.0 (zip_mixed ks fs z.1)
 
+  -- the kids by what they were found to be are the kids by their kinds
   pub zip_sorts : (ks : List Node) (fs : List Found) → AllZip (IsGiven q p) ks fs
       → Sorts q p ks (flat_map out_node fs) (flat_map in_node fs) (flat_map mixed_found fs)
   zip_sorts ks fs z = record { clear = zip_clear q p ks fs z; outs_are = zip_outs ks fs z; ins_are = zip_ins ks fs z; mixed_are = zip_mixed ks fs z }
@@ -278,10 +304,12 @@ grants_join : (may : ℕ → Bool → Bool) (fs gs : List Found) → Grants may 
 grants_join may [] gs a b = b
 grants_join may (f ∷ fs) gs a b = (a.0, grants_join may fs gs a.1 b)
 
+-- a row from right to left asks the same of a licence
 grants_back : (may : ℕ → Bool → Bool) (fs : List Found) → Grants may fs → Grants may (reverse fs)
 grants_back may [] g = g
 grants_back may (f ∷ fs) g = subst (Grants may) (sym (reverse-append (f ∷ []) fs)) (grants_join may (reverse fs) (f ∷ []) (grants_back may fs g.1) (g.0, tt))
 
+-- and has a torn kid where the row does
 pub torn_back : (fs : List Found) → list_any is_torn (reverse fs) ≡ list_any is_torn fs
 torn_back fs = sym (list_any-IsPermutation is_torn fs (reverse fs) (IsPermutation-reverse fs))
 

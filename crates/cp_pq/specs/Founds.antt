@@ -16,18 +16,21 @@ IsGiven q p n (Found.Line front back ties) = (has_all q n ≡ false) × (has_all
     × Keeps any_bound (n ∷ []) (reverse front ++ back)
 IsGiven q p n Found.Torn = (has_all q n ≡ false) × (has_all p n ≡ false) × IsNever (sorted q p) (n ∷ [])
 
+-- whether a node was found to be outside
 abbrev pub is_out : Found → Bool
 is_out (Found.Out m) = true
 is_out (Found.In m) = false
 is_out (Found.Line front back ties) = false
 is_out Found.Torn = false
 
+-- whether a node was found to be inside
 abbrev pub is_in : Found → Bool
 is_in (Found.Out m) = false
 is_in (Found.In m) = true
 is_in (Found.Line front back ties) = false
 is_in Found.Torn = false
 
+-- whether a node was found to have no reading with the leaves of the set at the end
 abbrev pub is_torn : Found → Bool
 is_torn (Found.Out m) = false
 is_torn (Found.In m) = false
@@ -56,18 +59,22 @@ line_of (Found.In m) = m ∷ []
 line_of (Found.Line front back ties) = reverse front ++ back
 line_of Found.Torn = []
 
+-- the ties of a line; what is no line has none
 abbrev pub ties_of : Found → List (ℕ × Bool)
 ties_of (Found.Out m) = []
 ties_of (Found.In m) = []
 ties_of (Found.Line front back ties) = ties
 ties_of Found.Torn = []
 
+-- the rows that the nodes of a row become, one behind the other
 abbrev pub flat_line : List Found → List Node
 flat_line fs = flat_map line_of fs
 
+-- the ties of a row, one behind the other
 abbrev pub flat_ties : List Found → List (ℕ × Bool)
 flat_ties fs = flat_map ties_of fs
 
+-- each tie turned
 abbrev pub turn_ties : List (ℕ × Bool) → List (ℕ × Bool)
 turn_ties ts = map (λ t. (t.0, not t.1)) ts
 

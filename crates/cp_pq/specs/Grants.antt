@@ -10,6 +10,7 @@ Grant may (Found.In m) = Unit {0}
 Grant may (Found.Line front back ties) = Licensed false may ties
 Grant may Found.Torn = ⊥
 
+-- the ties of all lines of a row hold, and none of it is torn
 abbrev pub Grants : (ℕ → Bool → Bool) → List Found → Type 0
 Grants may [] = Unit {0}
 Grants may (f ∷ fs) = Grant may f × Grants may fs

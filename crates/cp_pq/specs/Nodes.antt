@@ -6,6 +6,7 @@ use Rattle.cp_pq.specs.declared.node.Node.TheOpen.{Node-F}
 use Rattle.cp_pq.specs.declared.node.Node.TheFolds.{fold-Node}
 use Rattle.cp_pq.specs.declared.node.Node.TheVariants.{P, Q}
 
+-- the leaves of a node, from those of its kids
 abbrev pub leaves_step : Node-F (List ℕ) → List ℕ
 leaves_step (Node-F.Leaf x) = x ∷ []
 leaves_step (Node-F.P owner rows) = flat_map (λ row. row) rows
@@ -19,6 +20,7 @@ leaves = fold-Node (List ℕ) leaves_step
 unfoldable pub all_leaves : List Node → List ℕ
 all_leaves row = flat_map leaves row
 
+-- whether a node has at least two kids and its kids pass, or is a leaf
 abbrev pub branching_step : Node-F Bool → Bool
 branching_step (Node-F.Leaf x) = true
 branching_step (Node-F.P owner kids) = nat_lt 1 (length kids) && list_all (λ b. b) kids
@@ -28,6 +30,7 @@ branching_step (Node-F.Q var kids) = nat_lt 1 (length kids) && list_all (λ b. b
 unfoldable pub is_branching : Node → Bool
 is_branching = fold-Node Bool branching_step
 
+-- whether the var of a node is one of so many and its kids pass
 abbrev pub below_step : ℕ → Node-F Bool → Bool
 below_step vars (Node-F.Leaf x) = true
 below_step vars (Node-F.P owner kids) = list_all (λ b. b) kids

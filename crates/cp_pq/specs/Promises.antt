@@ -75,6 +75,7 @@ abbrev pub reading_of : (ℕ → Bool → Bool) → Option ℕ → List Node →
 reading_of may None kids word = (kid : Node) × (kids ≡ kid ∷ []) × Reads may kid word
 reading_of may (Some var) kids word = Reads may (Q var kids) word
 
+-- a word is a reading of a part
 abbrev pub ReadsPart : (ℕ → Bool → Bool) → Part → List ℕ → Type 0
 ReadsPart may part word = reading_of may part.var part.kids word
 

@@ -8,15 +8,18 @@ use Rattle.cp_pq.specs.Nodes.{leaves, is_branching, has_vars_below}
 use Rattle.cp_pq.specs.Trees.{PQTree}
 use Rattle.cp_pq.specs.Orders.{inside}
 
+-- whether the numbers of a list are distinct
 abbrev pub are_apart : List ℕ → Bool
 are_apart [] = true
 are_apart (x ∷ xs) = list_all (λ y. not (eqb y x)) xs && are_apart xs
 
+-- whether the numbers of a list rise strictly
 abbrev pub is_rising : List ℕ → Bool
 is_rising [] = true
 is_rising (x ∷ []) = true
 is_rising (x ∷ y ∷ xs) = nat_lt x y && is_rising (y ∷ xs)
 
+-- whether a list is not empty
 abbrev pub is_some : List ℕ → Bool
 is_some [] = false
 is_some (x ∷ xs) = true

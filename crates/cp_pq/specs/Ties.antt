@@ -6,5 +6,6 @@ use Rattle.cp_base.specs.declared.equation.Equation.{Equation}
 abbrev pub tie_equation : ℕ → ℕ × Bool → Equation
 tie_equation y t = record { x = t.0; y = y; odd = t.1 }
 
+-- one equation for each tie
 abbrev pub tie_equations : ℕ → List (ℕ × Bool) → List Equation
 tie_equations y ts = map (tie_equation y) ts

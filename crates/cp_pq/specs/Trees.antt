@@ -15,6 +15,7 @@ pub record PQTree : Type 0 where
   pub vars : ℕ
   pub equations : List Equation
 
+-- the tree with this root, body, number of vars and equations
 abbrev pub make_tree : ℕ → Node → ℕ → List Equation → PQTree
 make_tree root body vars equations = record { root = root; body = body; vars = vars; equations = equations }
 
