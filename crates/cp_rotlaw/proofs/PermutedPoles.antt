@@ -75,6 +75,7 @@ module _ (r : System) (is : IsRotation r) (u v : ℕ) (ltu : u < r.vertices) (lt
   abbrev bs : List ℕ → List Branch
   bs = branches r u v number part ws
 
+  -- the lists of the system have the darts of their vertices
   l : Listed r.vertices (darts r) (vertex_of r) (list_of r)
   l = Listed-system r is
 
