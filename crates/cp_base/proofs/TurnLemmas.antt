@@ -15,6 +15,7 @@ pub turned_first : (xs ys front back first second : List ℕ) (i : ℕ) → fron
 turned_first xs ys front back first second i f b p is =
     p ∙ ap (λ zs. take (length back) zs) (is ∙ ap₂ (λ (u v : List ℕ). u ++ v) (sym b) (sym f)) ∙ take-append_seam back front
 
+-- and the second part of a turn is the front of the list
 pub turned_second : (xs ys front back first second : List ℕ) (i : ℕ) → front ≡ take i xs → back ≡ drop i xs →
     second ≡ drop (length back) ys → IsTurnBy xs ys i → second ≡ front
 turned_second xs ys front back first second i f b q is =

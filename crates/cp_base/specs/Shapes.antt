@@ -40,6 +40,7 @@ leaves_step (Branch-F.Leaf x) = x ∷ []
 leaves_step (Branch-F.P kids) = flat_map (λ ls. ls) kids
 leaves_step (Branch-F.Q kids) = flat_map (λ ls. ls) kids
 
+-- the leaves of a branch, from left to right
 unfoldable pub leaves : Branch → List ℕ
 leaves = fold-Branch (List ℕ) leaves_step
 
@@ -49,6 +50,7 @@ branches_step (Branch-F.Leaf x) = true
 branches_step (Branch-F.P kids) = leb 2 (length kids) && list_all (λ b. b) kids
 branches_step (Branch-F.Q kids) = leb 2 (length kids) && list_all (λ b. b) kids
 
+-- each inner node of a branch has at least two kids
 unfoldable pub branches : Branch → Bool
 branches = fold-Branch Bool branches_step
 

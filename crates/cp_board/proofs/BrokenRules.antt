@@ -7,9 +7,11 @@ use Rattle.cp_board.specs.Instances.{Synchronized}
 use Rattle.cp_board.specs.Faults.{Rule, Names, Ends, Lists, PipeEnds, Partners, Keeps, IsFirstBroken, VertAt, number, parts}
 use Rattle.cp_board.specs.Rows.{vert, edge}
 
+-- two vertices, and an edge with one vertex at both ends
 abbrev looped : Synchronized
 looped = record { verts = vert 0 ∷ vert 1 ∷ []; edges = edge 5 0 0 ∷ []; pipes = [] }
 
+-- rule 2 is the first that is broken there, at the edge 5
 looped_broken : IsFirstBroken looped 2 5
 looped_broken = record {
   rule = Ends;

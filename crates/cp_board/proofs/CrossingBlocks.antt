@@ -10,12 +10,15 @@ use Rattle.cp_board.specs.Blocks.{HaveCrossing}
 use Rattle.cp_board.specs.Rows.{vert, edge, fixed}
 use Rattle.cp_board.proofs.RuleTests.{IsSynchronized-from_tests}
 
+-- a Q-vertex with two blocks of two edges each that alternate in its psi
 abbrev crossing : Synchronized
 crossing = record { verts = fixed 0 0 (0 ∷ 1 ∷ 2 ∷ 3 ∷ []) ∷ vert 1 ∷ vert 2 ∷ []; edges = edge 0 0 1 ∷ edge 1 0 2 ∷ edge 2 0 1 ∷ edge 3 0 2 ∷ []; pipes = [] }
 
+-- this instance keeps the rules
 crossing_keeps : IsSynchronized crossing
 crossing_keeps = IsSynchronized-from_tests crossing refl
 
+-- two blocks cross at its Q-vertex
 blocks_cross : HaveCrossing crossing 0
 blocks_cross = record {
   cell = 0;

@@ -62,6 +62,7 @@ edge_to g v x n =
 abbrev pub one_label : NamedGraph → ℕ → Bool
 one_label g v = list_all (λ e. list_all (λ f. eqb (part_label g v e) (part_label g v f)) (edges_at g v)) (edges_at g v)
 
+-- a vertex whose edges have all one label is no cut vertex
 pub uncut_from_test : (g : NamedGraph) (v : ℕ) → one_label g v ≡ true → IsCut g v → ⊥
 uncut_from_test g v t cut =
     let one = edge_to g v cut.one cut.near_one in
@@ -70,8 +71,10 @@ uncut_from_test g v t cut =
     let same = All-contains (λ f. part_label g v one.0 ≡ part_label g v f) (edges_at g v) two.0 (All-contains (λ e. All (λ f. part_label g v e ≡ part_label g v f) (edges_at g v)) (edges_at g v) one.0 all one.1) two.1 in
     cut.apart (connected_labels (without_vertex v (pairs g)) cut.one cut.two (ap (labels (without_vertex v (pairs g))) (sym one.2) ∙ same ∙ ap (labels (without_vertex v (pairs g))) two.2))
 
+-- the centre of the wheel is no cut vertex
 wheel_uncut : ¬ IsCut (graph wheel) 0
 wheel_uncut = uncut_from_test (graph wheel) 0 refl
 
+-- Propagate at the pipe of the wheel, with its centre as the end, is a step that the solver may take
 wheel_driven : IsDriven wheel (Propagate 0 0 row)
 wheel_driven = (wheel_pipe, record { live = refl; others = All-from_test _ (is_up_to wheel_pipe) (is_up_to_tells wheel_pipe) wheel.pipes refl }, (refl, (omega arith, λ both. wheel_uncut both.0), inl (refl, wheel_uncut)))

@@ -24,6 +24,7 @@ All-unmapped holds f xs all k d lt = subst holds (get_or-map f xs k d (f d) lt) 
 abbrev ends_of_all : List Pipe → List ℕ
 ends_of_all ps = flat_map (λ p. p.a ∷ p.b ∷ []) ps
 
+-- a vertex that is no end of any pipe is no end of those that are kept
 lacks-filter : (d : ℕ) (t : Pipe → Bool) (ps : List Pipe) → Lacks d (ends_of_all ps)
     → Lacks d (ends_of_all (filter t ps))
 lacks-filter d t [] h = h
@@ -32,6 +33,7 @@ lacks-filter d t (p ∷ ps) h =
     (λ e. (h.0, (h.1.0, lacks-filter d t ps h.1.1)))
     (λ e. lacks-filter d t ps h.1.1)
 
+-- and where the ends of all pipes are distinct, those of the kept ones are
 distinct-filter : (t : Pipe → Bool) (ps : List Pipe) → Distinct (ends_of_all ps) → Distinct (ends_of_all (filter t ps))
 distinct-filter t [] h = h
 distinct-filter t (p ∷ ps) h =
@@ -101,6 +103,7 @@ IsRewriteOf-dropping i pipe is live = record {
     one_live zero d lt = live
     one_live (suc k) d lt = absurd (omega arith)
 
+-- the rewrite that drops a pipe takes it away and changes nothing else
 pub IsWithoutPipe-dropping : (i j : Synchronized) (pipe : ℕ) → IsSynchronized i → j ≡ rewritten (dropping pipe) i
     → IsWithoutPipe i pipe j
 IsWithoutPipe-dropping i j pipe is e =

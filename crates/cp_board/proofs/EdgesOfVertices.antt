@@ -54,6 +54,7 @@ names_passing t (x ∷ xs) d =
     map_cond true ys = refl
     map_cond false ys = refl
 
+-- the edges of a vertex are those whose rows have it as an end
 pub edges_of-rows : (i : Synchronized) (v : ℕ) → IsSynchronized i → edges_of i v ≡ names_at i.edges v
 edges_of-rows i v is = names_passing (λ x. eqb x.0 v || eqb x.1 v) i.edges (distinct_from_rises (λ e. e.name) i.edges (rises_from (edge_names i) is.edges_named.rise))
 
@@ -61,9 +62,11 @@ edges_of-rows i v is = names_passing (λ x. eqb x.0 v || eqb x.1 v) i.edges (dis
 abbrev pub moved_row : (ℕ → ℕ → ℕ) → EdgeRow → EdgeRow
 moved_row to e = record { name = e.name; a = to e.name e.a; b = to e.name e.b }
 
+-- v is an end of the edge
 abbrev pub touch : ℕ → EdgeRow → Bool
 touch v e = eqb e.a v || eqb e.b v
 
+-- where v gains and loses no end, the same edges end at v after the ends have moved
 filter_moved : (to : ℕ → ℕ → ℕ) (v : ℕ) → ((e x : ℕ) → eqb (to e x) v ≡ eqb x v) → (es : List EdgeRow)
     → filter (touch v) (map (moved_row to) es) ≡ map (moved_row to) (filter (touch v) es)
 filter_moved to v stays [] = refl
@@ -78,6 +81,7 @@ filter_moved to v stays (e ∷ es) =
     by_cond true zs = refl
     by_cond false zs = refl
 
+-- edges keep their names where their ends move
 names_moved : (to : ℕ → ℕ → ℕ) (es : List EdgeRow) → map (λ e. e.name) (map (moved_row to) es) ≡ map (λ e. e.name) es
 names_moved to [] = refl
 names_moved to (e ∷ es) = ap (λ zs. e.name ∷ zs) (names_moved to es)

@@ -12,9 +12,11 @@ use Rattle.cp_board.specs.Faults.{Part, VertAt, EdgeAt, PipeAt, parts, name_of, 
 abbrev kind_parts : (ℕ → Part) → ℕ → List Part
 kind_parts f n = map f (range_with_len 0 n)
 
+-- there are as many of them as their number tells
 length-kind_parts : (f : ℕ → Part) (n : ℕ) → length (kind_parts f n) ≡ n
 length-kind_parts f n = length-map (range_with_len 0 n) f ∙ length-range_with_len 0 n
 
+-- and the one at a place is the part of this place
 kind_part : (f : ℕ → Part) (n k : ℕ) (d : Part) → k < n → slice_index_or (kind_parts f n) k d ≡ f k
 kind_part f n k d lt = get_or-map-range_with_len f 0 n k k d lt (omega arith)
 
@@ -24,15 +26,19 @@ second_part : (xs ys : List Part) (n k : ℕ) (d : Part) → length xs ≡ n
 second_part xs ys n k d e = ap (λ m. slice_index_or (xs ++ ys) (m + k) d) (sym e) ∙ get_or-append-add xs ys k d
 
 module _ (i : Synchronized) where
+  -- the parts that are vertices
   abbrev vert_parts : List Part
   vert_parts = kind_parts VertAt (length i.verts)
 
+  -- the parts that are edges
   abbrev edge_parts : List Part
   edge_parts = kind_parts EdgeAt (length i.edges)
 
+  -- the parts that are pipes
   abbrev pipe_parts : List Part
   pipe_parts = kind_parts PipeAt (length i.pipes)
 
+  -- before the pipes stand as many parts as there are vertices and edges
   before_pipes : length (vert_parts ++ edge_parts) ≡ length i.verts + length i.edges
   before_pipes =
       length-append vert_parts edge_parts
@@ -53,12 +59,14 @@ module _ (i : Synchronized) where
       ∙ get_or-append vert_parts edge_parts d k (omega (arith, lt, length-kind_parts VertAt (length i.verts)))
       ∙ kind_part VertAt (length i.verts) k d lt
 
+  -- and each edge behind the vertices
   part_edge : (k : ℕ) (d : Part) → k < length i.edges → slice_index_or (parts i) (length i.verts + k) d ≡ EdgeAt k
   part_edge k d lt =
       get_or-append (vert_parts ++ edge_parts) pipe_parts d (length i.verts + k) (omega (arith, lt, before_pipes))
       ∙ second_part vert_parts edge_parts (length i.verts) k d (length-kind_parts VertAt (length i.verts))
       ∙ kind_part EdgeAt (length i.edges) k d lt
 
+  -- and each pipe behind the edges
   part_pipe : (k : ℕ) (d : Part) → k < length i.pipes
       → slice_index_or (parts i) (length i.verts + length i.edges + k) d ≡ PipeAt k
   part_pipe k d lt =

@@ -105,6 +105,7 @@ module _ (i : Synchronized) (is : IsSynchronized i) where
   Keeps-vert PipeEnds k lt = tt
   Keeps-vert Partners k lt = tt
 
+  -- each edge keeps each rule
   Keeps-edge : (rule : Rule) (k : ℕ) → k < length i.edges → Keeps i rule (EdgeAt k)
   Keeps-edge Names k lt =
       IsNextName-from (edge_names i) is.edges_named k
@@ -116,6 +117,7 @@ module _ (i : Synchronized) (is : IsSynchronized i) where
   Keeps-edge PipeEnds k lt = tt
   Keeps-edge Partners k lt = tt
 
+  -- each pipe keeps each rule
   Keeps-pipe : (rule : Rule) (k : ℕ) → k < length i.pipes → Keeps i rule (PipeAt k)
   Keeps-pipe Names k lt =
       IsNextName-from (pipe_names i) is.pipes_named k

@@ -19,12 +19,14 @@ rises [] = true
 rises (x ∷ []) = true
 rises (x ∷ y ∷ ys) = ltb x y && rises (y ∷ ys)
 
+-- an item of a list that rises is less than the one directly behind it
 rises_at : (xs : List ℕ) (k m : ℕ) → rises xs ≡ true → m ≡ suc k → m < length xs → slice_index xs k < slice_index xs m
 rises_at [] k m t e lt = absurd (omega arith)
 rises_at (x ∷ []) k m t e lt = absurd (omega arith)
 rises_at (x ∷ y ∷ ys) zero m t e lt = subst (λ n. x < slice_index (x ∷ y ∷ ys) n) (sym e) (ltb-true x y (and_parts (ltb x y) (rises (y ∷ ys)) t).0)
 rises_at (x ∷ y ∷ ys) (suc k) m t e lt = subst (λ n. slice_index (x ∷ y ∷ ys) (suc k) < slice_index (x ∷ y ∷ ys) n) (sym e) (rises_at (y ∷ ys) k (suc k) (and_parts (ltb x y) (rises (y ∷ ys)) t).1 refl (omega arith))
 
+-- a list that passes the test rises
 pub IsStrictlyIncreasing-from_test : (xs : List ℕ) → rises xs ≡ true → IsStrictlyIncreasing xs
 IsStrictlyIncreasing-from_test xs t k lt = rises_at xs k (k + 1) t (omega arith) lt
 
@@ -39,6 +41,7 @@ abbrev pub distinct : List ℕ → Bool
 distinct [] = true
 distinct (x ∷ xs) = not (has xs x) && distinct xs
 
+-- an item that is not found in a list is none of its items
 lacks : (x : ℕ) (xs : List ℕ) → not (has xs x) ≡ true → Lacks x xs
 lacks x [] t = tt
 lacks x (y ∷ ys) t =
@@ -49,6 +52,7 @@ lacks x (y ∷ ys) t =
     not_both true b e = absurd (false≢true e)
     not_both false b e = (refl, e)
 
+-- a list that passes the test has no item twice
 pub Distinct-from_test : (xs : List ℕ) → distinct xs ≡ true → Distinct xs
 Distinct-from_test [] t = tt
 Distinct-from_test (x ∷ xs) t = let p = and_parts (not (has xs x)) (distinct xs) t in (lacks x xs p.0, Distinct-from_test xs p.1)
@@ -60,6 +64,7 @@ same [] (y ∷ ys) = false
 same (x ∷ xs) [] = false
 same (x ∷ xs) (y ∷ ys) = eqb x y && same xs ys
 
+-- lists that pass the test are equal
 pub same_lists : (xs ys : List ℕ) → same xs ys ≡ true → xs ≡ ys
 same_lists [] [] t = refl
 same_lists [] (y ∷ ys) t = absurd (false≢true t)

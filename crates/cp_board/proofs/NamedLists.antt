@@ -29,6 +29,7 @@ arranged xs ys e = subst (λ z. IsPermutation z ys) e (IsPermutation-sym ys (ris
 abbrev pub under : {A : Type 0} → (A → ℕ) → ℕ → List A → Option A
 under name n xs = find (λ x. eqb (name x) n) xs
 
+-- of two items with different names it does not matter which is looked at first
 exchanged : {A : Type 0} (name : A → ℕ) (n : ℕ) (x y : A) (o : Option A) → name x ≢ name y
     → cond (eqb (name y) n) (Some y) (cond (eqb (name x) n) (Some x) o) ≡ cond (eqb (name x) n) (Some x)
     (cond (eqb (name y) n) (Some y) o)
@@ -38,6 +39,7 @@ exchanged name n x y o ne =
     (λ no. cond-false (eqb (name y) n) (Some y) _ (ne_eqb (name y) n no) ∙ ap (λ z. cond (eqb (name x) n) (Some x) z) (sym (cond-false (eqb (name y) n) (Some y) o (ne_eqb (name y) n no))))
     (cases_eq (name y) n)
 
+-- what stands under a name where an item of a new name was put in: this item, or what stood there
 pub under-put : {A : Type 0} (name : A → ℕ) (n : ℕ) (x : A) (ys : List A) → has (map name ys) (name x) ≡ false
     → under name n (put name x ys) ≡ cond (eqb (name x) n) (Some x) (under name n ys)
 under-put name n x [] free = refl
@@ -79,6 +81,7 @@ has-put name n x (y ∷ ys) =
     or_swap false true c = refl
     or_swap false false c = refl
 
+-- and so they are where all items were put in order
 pub has-by_name : {A : Type 0} (name : A → ℕ) (n : ℕ) (xs : List A)
     → has (map name (by_name name xs)) n ≡ has (map name xs) n
 has-by_name name n [] = refl
@@ -93,6 +96,7 @@ under-by_name name n (x ∷ xs) t =
     under-put name n x (by_name name xs) (has-by_name name (name x) xs ∙ not-true (has (map name xs) (name x)) h.0)
     ∙ ap (λ z. cond (eqb (name x) n) (Some x) z) (under-by_name name n xs h.1)
 
+-- a test that each item passes keeps the whole list
 pub filter_true : {A : Type 0} (xs : List A) → filter (λ (x : A). true) xs ≡ xs
 filter_true [] = refl
 filter_true (x ∷ xs) = ap (λ z. x ∷ z) (filter_true xs)
@@ -101,6 +105,7 @@ filter_true (x ∷ xs) = ap (λ z. x ∷ z) (filter_true xs)
 abbrev pub under_all : {A : Type 0} → (A → ℕ) → ℕ → List A → Bool
 under_all name n xs = list_all (λ x. ltb n (name x)) xs
 
+-- a number below one that is below all items is below all items
 pub under_all-lower : {A : Type 0} (name : A → ℕ) (n m : ℕ) → n < m → (xs : List A) → under_all name m xs ≡ true
     → under_all name n xs ≡ true
 under_all-lower name n m lt [] t = refl
@@ -108,6 +113,7 @@ under_all-lower name n m lt (x ∷ xs) t =
     let h = and_parts (ltb m (name x)) (under_all name m xs) t in
     and_from (ltb n (name x)) (under_all name n xs) (lt-ltb n (name x) (omega (arith, ltb-true m (name x) h.0))) (under_all-lower name n m lt xs h.1)
 
+-- of names that rise the first is below all others
 pub under_all-rises : {A : Type 0} (name : A → ℕ) (n : ℕ) (xs : List A) → rises (n ∷ map name xs) ≡ true
     → under_all name n xs ≡ true
 under_all-rises name n [] t = refl
@@ -115,16 +121,19 @@ under_all-rises name n (x ∷ xs) t =
     let h = and_parts (ltb n (name x)) (rises (name x ∷ map name xs)) t in
     and_from (ltb n (name x)) (under_all name n xs) h.0 (under_all-lower name n (name x) (ltb-true n (name x) h.0) xs (under_all-rises name (name x) xs h.1))
 
+-- names that rise still rise without the first
 pub rises_after : {A : Type 0} (name : A → ℕ) (x : A) (xs : List A) → rises (map name (x ∷ xs)) ≡ true
     → rises (map name xs) ≡ true
 rises_after name x [] t = refl
 rises_after name x (y ∷ ys) t = (and_parts (ltb (name x) (name y)) (rises (map name (y ∷ ys))) t).1
 
+-- a number below all names that rise can stand before them
 pub rises-under : {A : Type 0} (name : A → ℕ) (n : ℕ) (xs : List A) → under_all name n xs ≡ true
     → rises (map name xs) ≡ true → rises (n ∷ map name xs) ≡ true
 rises-under name n [] u t = refl
 rises-under name n (x ∷ xs) u t = and_from (ltb n (name x)) (rises (name x ∷ map name xs)) (and_parts (ltb n (name x)) (under_all name n xs) u).0 t
 
+-- what is below all items is below those that are kept
 pub under_all-filter : {A : Type 0} (name : A → ℕ) (n : ℕ) (p : A → Bool) (xs : List A) → under_all name n xs ≡ true
     → under_all name n (filter p xs) ≡ true
 under_all-filter name n p [] t = refl
@@ -150,6 +159,7 @@ put_front : {A : Type 0} (name : A → ℕ) (x : A) (ys : List A) → under_all 
 put_front name x [] u = refl
 put_front name x (y ∷ ys) u = cond-true (ltb (name x) (name y)) (x ∷ y ∷ ys) (y ∷ put name x ys) (and_parts (ltb (name x) (name y)) (under_all name (name x) ys) u).0
 
+-- what is below an item and below all of a list is below all where the item is put in
 under_all-put : {A : Type 0} (name : A → ℕ) (n : ℕ) (x : A) (ys : List A) → ltb n (name x) ≡ true
     → under_all name n ys ≡ true → under_all name n (put name x ys) ≡ true
 under_all-put name n x [] l u = and_from (ltb n (name x)) true l refl
@@ -196,6 +206,7 @@ filter-put name p x (y ∷ ys) t =
     four false true zs l = refl
     four false false zs l = refl
 
+-- what passes of a list in the order of names is the order of names of what passes
 pub filter-by_name : {A : Type 0} (name : A → ℕ) (p : A → Bool) (xs : List A) → distinct (map name xs) ≡ true
     → filter p (by_name name xs) ≡ by_name name (filter p xs)
 filter-by_name name p [] d = refl
@@ -219,6 +230,7 @@ below_none name n (x ∷ xs) u =
     let lt = ltb-true n (name x) h.0 in
     ap (λ b. b || has (map name xs) n) (ne_eqb n (name x) (λ e. omega (arith, e, lt))) ∙ below_none name n xs h.1
 
+-- names that rise are different
 pub distinct_from_rises : {A : Type 0} (name : A → ℕ) (xs : List A) → rises (map name xs) ≡ true
     → distinct (map name xs) ≡ true
 distinct_from_rises name [] t = refl

@@ -12,6 +12,7 @@ list_all-filter p [] = refl
 list_all-filter p (x ∷ xs) =
     cond_both (p x) (x ∷ filter p xs) (filter p xs) (λ zs. list_all p zs ≡ true) (λ t. and_from (p x) (list_all p (filter p xs)) t (list_all-filter p xs)) (λ f. list_all-filter p xs)
 
+-- where all items pass, all of the first ones pass
 pub list_all-take : (p : ℕ → Bool) (n : ℕ) (xs : List ℕ) → list_all p xs ≡ true → list_all p (take n xs) ≡ true
 list_all-take p zero xs t = refl
 list_all-take p (suc n) [] t = refl

@@ -30,9 +30,11 @@ bond pairs = record { verts = vert 0 ∷ vert 1 ∷ []; edges = edge 0 0 1 ∷ e
 abbrev all_far : NamedGraph → ℕ → ℕ → Bool
 all_far g u v = list_all (λ e. eqb (far g u e) v) (edges_at g u)
 
+-- the far end of each edge of u is v where all end there
 far_is : (g : NamedGraph) (u v : ℕ) → all_far g u v ≡ true → (e : ℕ) → Contains (edges_at g u) e → far g u e ≡ v
 far_is g u v t e c = All-contains (λ e. far g u e ≡ v) (edges_at g u) e (All-from_test (λ e. far g u e ≡ v) (λ e. eqb (far g u e) v) (λ e h. eqb-true (far g u e) v h) (edges_at g u) t) c
 
+-- two vertices are a bond where all edges of the one end at the other
 parallel_bond : (g : NamedGraph) (u v : ℕ) → u ≢ v → all_far g u v ≡ true → IsBond g u v
 parallel_bond g u v ne t = record {
   differ = ne;
@@ -41,6 +43,7 @@ parallel_bond g u v ne t = record {
   reach = λ e c away. absurd (away (far_is g u v t e c));
 }
 
+-- and along this bond each edge leads to itself
 parallel_along : (g : NamedGraph) (u v : ℕ) → all_far g u v ≡ true → IsAlong g u v (λ e. e)
 parallel_along g u v t e c = inl (far_is g u v t e c, refl)
 
@@ -48,6 +51,7 @@ parallel_along g u v t e c = inl (far_is g u v t e c, refl)
 abbrev has_length : (ℕ → ℕ) → ℕ → ℕ → Bool
 has_length m k x = ltb 0 k && (eqb (iterate m k x) x && list_all (λ n. not (eqb (iterate m (n + 1) x) x)) (range_with_len 0 (k - 1)))
 
+-- a number that passes the test is the length of the cycle
 has_length_tells : (m : ℕ → ℕ) (k x : ℕ) → has_length m k x ≡ true → CycleLength m x k
 has_length_tells m k x t =
     let h = and_parts (ltb 0 k) (eqb (iterate m k x) x && list_all (λ n. not (eqb (iterate m (n + 1) x) x)) (range_with_len 0 (k - 1))) t in
@@ -66,9 +70,11 @@ turning i p t h x c =
     let in_a = All-contains (λ x. Contains (edges_of i p.a) (second_of p x)) (edges_of i p.a) x (All-from_test (λ x. Contains (edges_of i p.a) (second_of p x)) (λ x. has (edges_of i p.a) (second_of p x)) (λ x e. Contains-from_has (edges_of i p.a) (second_of p x) e) (edges_of i p.a) h) c in
     (in_a, inl (far_is (graph i) p.a p.b t (second_of p x) in_a, refl))
 
+-- the pairs exchange the edges 0 and 1, and the edges 2 and 3
 abbrev even : Pipe
 even = pipe 0 0 1 ((0, 1) ∷ (1, 0) ∷ (2, 3) ∷ (3, 2) ∷ [])
 
+-- the bond with this pipe
 abbrev even_bond : Synchronized
 even_bond = bond even.pairs
 
@@ -86,6 +92,7 @@ even_allowed = (
   },
 )
 
+-- Toroidal takes the pipe away and keeps all vertices and edges
 even_after : After even_bond (Toroidal 0) record { verts = even_bond.verts; edges = even_bond.edges; pipes = [] }
 even_after = (even, refl, record { verts = refl; edges = refl; pipes = refl })
 
@@ -93,9 +100,11 @@ even_after = (even, refl, record { verts = refl; edges = refl; pipes = refl })
 abbrev odd : Pipe
 odd = pipe 0 0 1 ((0, 0) ∷ (1, 2) ∷ (2, 3) ∷ (3, 1) ∷ [])
 
+-- the bond with this pipe
 abbrev odd_bond : Synchronized
 odd_bond = bond odd.pairs
 
+-- its pipe is to blame, with two cycles of the lengths 1 and 3
 odd_blamed : IsBlamed odd_bond (CyclesDiffer 1 3)
 odd_blamed = (
   odd,
@@ -125,21 +134,27 @@ four_verts pairs = record {
   pipes = pipe 0 0 2 pairs ∷ [];
 }
 
+-- the pairs of the edges of the first bond with those of the second, in order
 abbrev across : List (ℕ × ℕ)
 across = (0, 4) ∷ (1, 5) ∷ (2, 6) ∷ (3, 7) ∷ []
 
+-- the two bonds with one pipe, from 0 to 2
 abbrev one_pipe : Synchronized
 one_pipe = four_verts across
 
+-- FreePole is allowed at this pipe, since its pole 1 is the end of no pipe
 one_allowed : Allowed one_pipe (FreePole 0 0 1)
 one_allowed = (pipe 0 0 2 across, refl, record { end = inl refl; bond = parallel_bond (graph one_pipe) 0 1 (eqb-false 0 1 refl) refl; free = refl; unmatched = refl })
 
+-- it takes the pipe away and keeps all vertices and edges
 one_after : After one_pipe (FreePole 0 0 1) record { verts = one_pipe.verts; edges = one_pipe.edges; pipes = [] }
 one_after = (pipe 0 0 2 across, refl, record { verts = refl; edges = refl; pipes = refl })
 
+-- the two bonds with two pipes, from 0 to 2 and from 1 to 3
 abbrev two_pipes : Synchronized
 two_pipes = record { verts = one_pipe.verts; edges = one_pipe.edges; pipes = pipe 0 0 2 across ∷ pipe 1 1 3 across ∷ [] }
 
+-- FusePoles is allowed at the first pipe, since its pole 1 is an end of the other
 two_allowed : Allowed two_pipes (FusePoles 0 0 1)
 two_allowed = (
   pipe 0 0 2 across,

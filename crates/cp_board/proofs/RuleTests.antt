@@ -25,34 +25,41 @@ abbrev pub right_kind : Synchronized → ℕ → Kind → Bool
 right_kind i v P = true
 right_kind i v (Q cell psi) = same (rising psi) (edges_of i v) && same (take 1 psi) (take 1 (edges_of i v))
 
+-- a kind that passes the test is right: a psi has the edges of its vertex and begins with the least
 right_kind_tells : (i : Synchronized) (v : ℕ) (k : Kind) → right_kind i v k ≡ true → IsRightKind (graph i) v k
 right_kind_tells i v P t = tt
 right_kind_tells i v (Q cell psi) t =
     let p = and_parts (same (rising psi) (edges_of i v)) (same (take 1 psi) (take 1 (edges_of i v))) t in
     (arranged (edges_of i v) psi (same_lists (rising psi) (edges_of i v) p.0), same_lists (take 1 psi) (take 1 (edges_of i v)) p.1)
 
+-- what is found is the kind of a P-vertex
 abbrev pub is_free : Option Kind → Bool
 is_free None = false
 is_free (Some P) = true
 is_free (Some (Q cell psi)) = false
 
+-- and what this test tells
 is_free_tells : (o : Option Kind) → is_free o ≡ true → o ≡ Some P
 is_free_tells None t = absurd (false≢true t)
 is_free_tells (Some P) t = refl
 is_free_tells (Some (Q cell psi)) t = absurd (false≢true t)
 
+-- the test that the ends of a pipe are two different P-vertices
 abbrev pub right_ends : Synchronized → Pipe → Bool
 right_ends i p = not (eqb p.a p.b) && (is_free (kind_of i p.a) && is_free (kind_of i p.b))
 
+-- ends that pass the test are right
 right_ends_tells : (i : Synchronized) (p : Pipe) → right_ends i p ≡ true → HasRightEnds i.verts p
 right_ends_tells i p t =
     let h = and_parts (not (eqb p.a p.b)) (is_free (kind_of i p.a) && is_free (kind_of i p.b)) t in
     let k = and_parts (is_free (kind_of i p.a)) (is_free (kind_of i p.b)) h.1 in
     record { differ = eqb-false p.a p.b (not-true (eqb p.a p.b) h.0); free_a = is_free_tells (kind_of i p.a) k.0; free_b = is_free_tells (kind_of i p.b) k.1 }
 
+-- the test that the pairs of a pipe match the edges of one end with those of the other
 abbrev pub right_pairs : Synchronized → Pipe → Bool
 right_pairs i p = same (map (λ x. x.0) p.pairs) (edges_of i p.a) && same (rising (map (λ x. x.1) p.pairs)) (edges_of i p.b)
 
+-- pairs that pass the test are right
 right_pairs_tells : (i : Synchronized) (p : Pipe) → right_pairs i p ≡ true → HasRightPairs (graph i) p
 right_pairs_tells i p t =
     let h = and_parts (same (map (λ x. x.0) p.pairs) (edges_of i p.a)) (same (rising (map (λ x. x.1) p.pairs)) (edges_of i p.b)) t in
@@ -61,12 +68,15 @@ right_pairs_tells i p t =
       second = arranged (edges_of i p.b) (map (λ x. x.1) p.pairs) (same_lists (rising (map (λ x. x.1) p.pairs)) (edges_of i p.b) h.1);
     }
 
+-- the test that both ends of an edge are live vertices
 abbrev pub right_edge : Synchronized → EdgeRow → Bool
 right_edge i e = has (vert_names i) e.a && has (vert_names i) e.b
 
+-- the test that names rise and fit
 abbrev pub are_names : List ℕ → Bool
 are_names names = rises names && list_all (λ n. ltb n (2 ^ 63)) names
 
+-- names that pass the test rise and fit
 AreNames-from_test : (names : List ℕ) → are_names names ≡ true → AreNames names
 AreNames-from_test names t =
     let h = and_parts (rises names) (list_all (λ n. ltb n (2 ^ 63)) names) t in
@@ -84,6 +94,7 @@ keeps_rules i =
     ∷ distinct (flat_map (λ p. p.a ∷ p.b ∷ []) i.pipes)
     ∷ list_all (right_pairs i) i.pipes ∷ []
 
+-- an instance that passes all these tests keeps the five rules
 pub IsSynchronized-from_tests : (i : Synchronized) → list_all (λ b. b) (keeps_rules i) ≡ true → IsSynchronized i
 IsSynchronized-from_tests i t =
     let t1 = and_parts _ _ t in
@@ -113,10 +124,12 @@ IsSynchronized-from_tests i t =
 abbrev pub part_label : NamedGraph → ℕ → ℕ → ℕ
 part_label g u e = labels (without_vertex u (pairs g)) (far g u e)
 
+-- both truth values are the same
 abbrev pub agree : Bool → Bool → Bool
 agree true b = b
 agree false b = not b
 
+-- and what this test tells
 agree_same : (a b : Bool) → agree a b ≡ true → a ≡ b
 agree_same true true t = refl
 agree_same true false t = absurd (false≢true t)
@@ -132,6 +145,7 @@ are_parts g u parts =
     ∷ rises (map (λ part. slice_index part 0) parts)
     ∷ list_all (λ e. list_all (λ f. agree (eqb (part_of parts e) (part_of parts f)) (eqb (part_label g u e) (part_label g u f))) (edges_at g u)) (edges_at g u) ∷ []
 
+-- lists of edges that pass these tests are the parts at u
 pub ArePartsAt-from_tests : (g : NamedGraph) (u : ℕ) (parts : List (List ℕ))
     → list_all (λ b. b) (are_parts g u parts) ≡ true → ArePartsAt g u parts
 ArePartsAt-from_tests g u parts t =

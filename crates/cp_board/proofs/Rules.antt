@@ -49,12 +49,15 @@ All-flat_map holds f (x ∷ xs) all =
 
 -- the lists of vertices, edges and pipes among the parts
 module _ (i : Synchronized) (rule : Rule) (all : All (Keeps i rule) (parts i)) where
+  -- the parts that are vertices
   abbrev verts_before : List Part
   verts_before = map VertAt (range_with_len 0 (length i.verts))
 
+  -- the parts that are edges
   abbrev edges_between : List Part
   edges_between = map EdgeAt (range_with_len 0 (length i.edges))
 
+  -- the parts that are pipes
   abbrev pipes_behind : List Part
   pipes_behind = map PipeAt (range_with_len 0 (length i.pipes))
 
@@ -63,10 +66,12 @@ module _ (i : Synchronized) (rule : Rule) (all : All (Keeps i rule) (parts i)) w
   Keeps-vert = All-at (Keeps i rule) VertAt (length i.verts)
       (All-first (Keeps i rule) verts_before edges_between (All-first (Keeps i rule) (verts_before ++ edges_between) pipes_behind all))
 
+  -- and each edge does
   pub Keeps-edge : (k : ℕ) → k < length i.edges → Keeps i rule (EdgeAt k)
   Keeps-edge = All-at (Keeps i rule) EdgeAt (length i.edges)
       (All-second (Keeps i rule) verts_before edges_between (All-first (Keeps i rule) (verts_before ++ edges_between) pipes_behind all))
 
+  -- and each pipe does
   pub Keeps-pipe : (k : ℕ) → k < length i.pipes → Keeps i rule (PipeAt k)
   Keeps-pipe = All-at (Keeps i rule) PipeAt (length i.pipes)
       (All-second (Keeps i rule) (verts_before ++ edges_between) pipes_behind all)
@@ -89,6 +94,7 @@ AreNames-from names next = record {
 abbrev ends : Pipe → List ℕ
 ends p = p.a ∷ p.b ∷ []
 
+-- the pipe at a place
 abbrev pipe_at_place : List Pipe → ℕ → Pipe
 pipe_at_place ps k = slice_index_or ps k record { name = 0; a = 0; b = 0; pairs = [] }
 
@@ -98,6 +104,7 @@ module _
     (differ : (k : ℕ) → k < length ps → (pipe_at_place ps k).a ≢ (pipe_at_place ps k).b)
     (lacks_a : (k : ℕ) → k < length ps → Lacks (pipe_at_place ps k).a (flat_map ends (take k ps)))
     (lacks_b : (k : ℕ) → k < length ps → Lacks (pipe_at_place ps k).b (flat_map ends (take k ps))) where
+  -- the ends of the first n pipes are distinct
   distinct_first : (n : ℕ) → n ≤ length ps → Distinct (flat_map ends (take n ps))
   distinct_first zero le = tt
   distinct_first (suc n) le =
@@ -112,6 +119,7 @@ module _
         (λ e. has_lacks d (flat_map ends (take n ps)) has (subst (λ x. Lacks x (flat_map ends (take n ps))) e (lacks_b n lt)), tt),
       ))))
 
+  -- the ends of all pipes are distinct
   pub Distinct-ends : Distinct (flat_map ends ps)
   Distinct-ends = subst (λ qs. Distinct (flat_map ends qs)) (take-length ps) (distinct_first (length ps) (omega arith))
 

@@ -30,9 +30,11 @@ below_from_test holds t tells n e x lt =
     subst holds (let at : get_or (range_with_len 0 n) x 0 ≡ x = omega (arith, get_or-range_with_len 0 n x 0 lt) in at)
     (All-from_test holds t tells (range_with_len 0 n) e x 0 (omega (arith, length-range_with_len 0 n)))
 
+-- the test that a list has each number below n that passes p once, and nothing else
 abbrev pub exact : ℕ → (ℕ → Bool) → List ℕ → Bool
 exact n p xs = distinct xs && (list_all (λ x. ltb x n && p x) xs && list_all (λ x. not (p x) || has xs x) (range_with_len 0 n))
 
+-- a list that passes the test has exactly these numbers
 pub Exactly-from_test : (n : ℕ) (p : ℕ → Bool) (xs : List ℕ) → exact n p xs ≡ true → Exactly n p xs
 Exactly-from_test n p xs t =
     let h = and_parts (distinct xs) (list_all (λ x. ltb x n && p x) xs && list_all (λ x. not (p x) || has xs x) (range_with_len 0 n)) t in
@@ -43,6 +45,7 @@ Exactly-from_test n p xs t =
     (below_from_test (λ x. p x ≡ true → Has x xs) (λ x. not (p x) || has xs x)
     (λ x e y. ⊎_elim (λ no. absurd (both_ways (p x) (not-true (p x) no) y)) (λ yes. (Has-Contains x xs).1 (Contains-from_has xs x yes)) (or_cases (not (p x)) (has xs x) e)) n k.1)
 
+-- the tests that a system of lists is a rotation system
 abbrev pub is_rotation : System → List Bool
 is_rotation r =
     eqb (darts r) (2 * edges r)
@@ -50,6 +53,7 @@ is_rotation r =
     ∷ eqb (length r.lists) r.vertices
     ∷ list_all (λ v. exact (length r.at) (λ d. slice_index r.at d == v) (list_of r v)) (range_with_len 0 r.vertices) ∷ []
 
+-- a system that passes these tests is a rotation system
 pub IsRotation-from_tests : (r : System) → list_all (λ b. b) (is_rotation r) ≡ true → IsRotation r
 IsRotation-from_tests r t =
     let t1 = and_parts _ _ t in
@@ -72,9 +76,11 @@ arranged_from_test g s t = All-from_test (λ v. ArrangesEdges g v (s v)) (λ v. 
 abbrev dipole : Synchronized
 dipole = record { verts = fixed 0 0 (0 ∷ 1 ∷ 2 ∷ []) ∷ fixed 1 0 (0 ∷ 2 ∷ 1 ∷ []) ∷ []; edges = edge 0 0 1 ∷ edge 1 0 1 ∷ edge 2 0 1 ∷ []; pipes = [] }
 
+-- the list of each vertex of the dipole is its psi
 abbrev dipole_lists : ℕ → List ℕ
 dipole_lists = list_in ((0, 0 ∷ 1 ∷ 2 ∷ []) ∷ (1, 0 ∷ 2 ∷ 1 ∷ []) ∷ [])
 
+-- these lists are a rotation of the dipole of genus zero
 dipole_rotation : IsRotationOf (graph dipole) dipole_lists
 dipole_rotation = record {
   arranged = arranged_from_test (graph dipole) dipole_lists refl;
@@ -86,9 +92,11 @@ abbrev pub in_direction : (ℕ → Bool) → List ℕ → Kind → Bool
 in_direction back xs P = true
 in_direction back xs (Q cell psi) = same xs (directed (back cell) psi)
 
+-- equal lists are turns of each other
 not_turned : (xs ys : List ℕ) → same ys xs ≡ true → IsTurn xs ys
 not_turned xs ys t = (0, omega arith, same_lists ys xs t ∙ sym (append-nil xs))
 
+-- a list that passes the test has the psi of its vertex in the direction of the cell
 in_direction_tells : (back : ℕ → Bool) (xs : List ℕ) (k : Kind) → in_direction back xs k ≡ true
     → IsInDirection back xs k
 in_direction_tells back xs P t = tt
@@ -106,13 +114,16 @@ Solves-from_tests i s back no_pipe arr rot zero dir = record {
   in_direction = All-from_test (λ v. IsInDirection back (s v.name) v.kind) (λ v. in_direction back (s v.name) v.kind) (λ v e. in_direction_tells back (s v.name) v.kind e) i.verts dir;
 }
 
+-- these lists solve the dipole
 dipole_solved : Solves dipole dipole_lists
 dipole_solved = Solves-from_tests dipole dipole_lists (λ c. false) refl refl refl refl refl
 
+-- a list for each vertex of the last instance of the worked run
 abbrev last_lists : List (ℕ × List ℕ)
 last_lists =
     (0, 7 ∷ 3 ∷ 1 ∷ []) ∷ (1, 5 ∷ []) ∷ (3, 4 ∷ 2 ∷ 0 ∷ []) ∷ (4, 6 ∷ []) ∷ (6, 1 ∷ 3 ∷ 7 ∷ []) ∷ (7, 5 ∷ []) ∷ (8, 8 ∷ 11 ∷ 9 ∷ [])
     ∷ (9, 10 ∷ []) ∷ (10, 0 ∷ 2 ∷ 4 ∷ []) ∷ (11, 6 ∷ []) ∷ (12, 8 ∷ 10 ∷ 9 ∷ []) ∷ (13, 11 ∷ []) ∷ []
 
+-- these lists are a solution of it
 last_solved : IsSolution last last_lists
 last_solved = record { names = refl; solves = Solves-from_tests last (list_in last_lists) (λ c. false) refl refl refl refl refl }

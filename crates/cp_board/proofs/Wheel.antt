@@ -12,6 +12,7 @@ use Rattle.cp_board.specs.Rows.{vert, edge, pipe, fixed}
 use Rattle.cp_board.specs.Plantings as plantings
 use Rattle.cp_board.proofs.RuleTests.{IsSynchronized-from_tests}
 
+-- the pipe of the wheel, with a pair for each spoke
 abbrev pub wheel_pipe : Pipe
 wheel_pipe = pipe 0 0 5 ((0, 8) ∷ (1, 9) ∷ (2, 10) ∷ (3, 11) ∷ [])
 
@@ -23,9 +24,11 @@ wheel = record {
   pipes = wheel_pipe ∷ [];
 }
 
+-- the order tree of the spokes: spoke 0 as its root, and the others as the kids of one Q-node
 abbrev pub row : Shape
 row = record { root = 0; body = Q (Leaf 1 ∷ Leaf 2 ∷ Leaf 3 ∷ []) }
 
+-- the wheel after Propagate: two Q-vertices of one cell in place of the ends of the pipe
 abbrev propagated : Synchronized
 propagated = record {
   verts = vert 1 ∷ vert 2 ∷ vert 3 ∷ vert 4 ∷ vert 6 ∷ fixed 7 0 (0 ∷ 1 ∷ 2 ∷ 3 ∷ []) ∷ fixed 8 0 (8 ∷ 11 ∷ 10 ∷ 9 ∷ []) ∷ [];
@@ -42,12 +45,15 @@ plants_row f top v =
     (PlantsAll.more (Leaf 2) _ (f 2) _ [] [] [] [] [] [] (Plants.leaf 2)
     (PlantsAll.more (Leaf 3) _ (f 3) _ [] [] [] [] [] [] (Plants.leaf 3) PlantsAll.none)))
 
+-- the wheel keeps the rules
 wheel_keeps : IsSynchronized wheel
 wheel_keeps = IsSynchronized-from_tests wheel refl
 
+-- and so does the instance after Propagate
 propagated_keeps : IsSynchronized propagated
 propagated_keeps = IsSynchronized-from_tests propagated refl
 
+-- Propagate at the centre makes this instance of the wheel
 wheel_after : After wheel (Propagate 0 0 row) propagated
 wheel_after = (
   wheel_pipe,

@@ -11,6 +11,7 @@ use Rattle.cp_board.proofs.ShapeEquations.{leaves_Leaf, leaves_Q, branches_Leaf,
 row_leaves : rising (row.root ∷ leaves row.body) ≡ edges_of wheel 0
 row_leaves = rw (leaves_Q (Leaf 1 ∷ Leaf 2 ∷ Leaf 3 ∷ []), leaves_Leaf 1, leaves_Leaf 2, leaves_Leaf 3) refl
 
+-- each inner node of the row has at least two kids
 row_branches : branches row.body ≡ true
 row_branches = rw (branches_Q (Leaf 1 ∷ Leaf 2 ∷ Leaf 3 ∷ []), branches_Leaf 1, branches_Leaf 2, branches_Leaf 3) refl
 

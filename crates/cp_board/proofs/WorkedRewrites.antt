@@ -6,9 +6,11 @@ use Rattle.cp_board.specs.declared.rewrite.Rewrite.{Rewrite}
 use Rattle.cp_board.specs.Rewrites.{rewritten}
 use Rattle.cp_board.specs.Rows as rows
 
+-- the moves of some edges from one vertex to another
 abbrev moves_of : ℕ → ℕ → List ℕ → List EdgeMove
 moves_of from to es = map (λ e. record { edge = e; from = from; to = to }) es
 
+-- the rewrite of the Join: two vertices and a pipe go, eight vertices, four edges and four pipes come
 abbrev join_rewrite : Rewrite
 join_rewrite = record {
   drop_pipes = 0 ∷ [];
@@ -20,9 +22,11 @@ join_rewrite = record {
   add_pipes = rows.pipe_1 ∷ rows.pipe_2 ∷ rows.pipe_3 ∷ rows.pipe_4 ∷ [];
 }
 
+-- it makes the joined instance of the first
 join_rewritten : rewritten join_rewrite rows.first ≡ rows.joined
 join_rewritten = refl
 
+-- the rewrite of the Small at pipe 1: the pipe goes, and its ends become Q-vertices of one cell
 abbrev small_rewrite : Rewrite
 small_rewrite = record {
   drop_pipes = 1 ∷ [];
@@ -34,5 +38,6 @@ small_rewrite = record {
   add_pipes = [];
 }
 
+-- it makes the second instance of the joined one
 small_rewritten : rewritten small_rewrite rows.joined ≡ rows.second
 small_rewritten = refl

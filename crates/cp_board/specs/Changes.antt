@@ -13,12 +13,15 @@ use Rattle.cp_board.specs.Instances.{Synchronized}
 abbrev pub verts_by_name : List Vert → List Vert
 verts_by_name vs = by_name (λ v. v.name) vs
 
+-- edges in the order of their names
 abbrev pub edges_by_name : List EdgeRow → List EdgeRow
 edges_by_name es = by_name (λ e. e.name) es
 
+-- pipes in the order of their names
 abbrev pub pipes_by_name : List Pipe → List Pipe
 pipes_by_name ps = by_name (λ p. p.name) ps
 
+-- pairs in the order of their first edges
 abbrev pub pairs_by_first : List (ℕ × ℕ) → List (ℕ × ℕ)
 pairs_by_first xs = by_name (λ x. x.0) xs
 

@@ -19,6 +19,7 @@ use Rattle.cp_board.specs.Propagations.{IsPropagated}
 abbrev pub first_kind : Pipe → ℕ → Kind
 first_kind p cell = Q cell (map (λ x. x.0) p.pairs)
 
+-- and the kind of b: the partners reversed, turned to begin with the least
 abbrev pub second_kind : Pipe → ℕ → Kind
 second_kind p cell = Q cell (turned_to_least (reverse (map (λ x. x.1) p.pairs)))
 

@@ -21,17 +21,21 @@ parts i =
     ++ map EdgeAt (range_with_len 0 (length i.edges))
     ++ map PipeAt (range_with_len 0 (length i.pipes))
 
+-- the name of a part
 abbrev pub name_of : Synchronized → Part → ℕ
 name_of i (VertAt k) = slice_index (vert_names i) k
 name_of i (EdgeAt k) = slice_index (edge_names i) k
 name_of i (PipeAt k) = slice_index (pipe_names i) k
 
+-- the vertex at place k
 abbrev pub vert_in_place : Synchronized → ℕ → Vert
 vert_in_place i k = slice_index_or i.verts k record { name = 0; kind = P }
 
+-- the edge at place k
 abbrev pub edge_in_place : Synchronized → ℕ → EdgeRow
 edge_in_place i k = slice_index_or i.edges k record { name = 0; a = 0; b = 0 }
 
+-- the pipe at place k
 abbrev pub pipe_in_place : Synchronized → ℕ → Pipe
 pipe_in_place i k = slice_index_or i.pipes k record { name = 0; a = 0; b = 0; pairs = [] }
 
@@ -47,6 +51,7 @@ pub data Rule : Type 0 where
   PipeEnds : Rule
   Partners : Rule
 
+-- the number of a rule, from 1 to 5
 abbrev pub number : Rule → ℕ
 number Names = 1
 number Ends = 2

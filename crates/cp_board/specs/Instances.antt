@@ -18,18 +18,23 @@ pub record Synchronized : Type 0 where
   pub edges : List EdgeRow
   pub pipes : List Pipe
 
+-- the names of some vertices
 abbrev pub names_of_verts : List Vert → List ℕ
 names_of_verts vs = map (λ v. v.name) vs
 
+-- the names of the vertices of an instance
 abbrev pub vert_names : Synchronized → List ℕ
 vert_names i = names_of_verts i.verts
 
+-- the names of some edges
 abbrev pub names_of_edges : List EdgeRow → List ℕ
 names_of_edges es = map (λ e. e.name) es
 
+-- the names of the edges of an instance
 abbrev pub edge_names : Synchronized → List ℕ
 edge_names i = names_of_edges i.edges
 
+-- the names of the pipes of an instance
 abbrev pub pipe_names : Synchronized → List ℕ
 pipe_names i = map (λ p. p.name) i.pipes
 
@@ -46,9 +51,11 @@ cells i = flat_map (λ v. cell_of v.kind) i.verts
 abbrev pub vert_in : List Vert → ℕ → Option Vert
 vert_in vs v = find (λ x. eqb x.name v) vs
 
+-- the kind of the vertex named v among some, if it is there
 abbrev pub kind_in : List Vert → ℕ → Option Kind
 kind_in vs v = option_map (λ x. x.kind) (vert_in vs v)
 
+-- and its kind in an instance
 abbrev pub kind_of : Synchronized → ℕ → Option Kind
 kind_of i v = kind_in i.verts v
 
@@ -56,12 +63,15 @@ kind_of i v = kind_in i.verts v
 abbrev pub edge_in : List EdgeRow → ℕ → Option EdgeRow
 edge_in es e = find (λ x. eqb x.name e) es
 
+-- the two ends of the edge named e among some
 abbrev pub ends_in : List EdgeRow → ℕ → ℕ × ℕ
 ends_in es e = option_map_or (λ x. (x.a, x.b)) (edge_in es e) (0, 0)
 
+-- and its two ends in an instance
 abbrev pub ends_of : Synchronized → ℕ → ℕ × ℕ
 ends_of i e = ends_in i.edges e
 
+-- the graph of an instance: its vertices and edges by their names, with the ends of each edge
 abbrev pub graph : Synchronized → NamedGraph
 graph i = record { verts = vert_names i; edges = edge_names i; ends = ends_of i }
 
@@ -77,12 +87,15 @@ names_at es v = map (λ e. e.name) (filter (λ e. eqb e.a v || eqb e.b v) es)
 abbrev pub pipe_in : List Pipe → ℕ → Option Pipe
 pipe_in ps p = find (λ x. eqb x.name p) ps
 
+-- the pipe among some of which v is an end, if there is one
 abbrev pub pipe_with : List Pipe → ℕ → Option Pipe
 pipe_with ps v = find (λ x. eqb x.a v || eqb x.b v) ps
 
+-- the pipe named p of an instance, if it is there
 abbrev pub pipe_named : Synchronized → ℕ → Option Pipe
 pipe_named i p = pipe_in i.pipes p
 
+-- the pipe of an instance of which v is an end, if there is one
 abbrev pub pipe_at : Synchronized → ℕ → Option Pipe
 pipe_at i v = pipe_with i.pipes v
 
@@ -90,6 +103,7 @@ pipe_at i v = pipe_with i.pipes v
 abbrev pub pipe_ends_of : Synchronized → ℕ → ℕ × ℕ
 pipe_ends_of i p = option_map_or (λ x. (x.a, x.b)) (pipe_named i p) (0, 0)
 
+-- the pairs of the pipe named p
 abbrev pub pairs_of : Synchronized → ℕ → List (ℕ × ℕ)
 pairs_of i p = option_map_or (λ x. x.pairs) (pipe_named i p) []
 
@@ -99,20 +113,25 @@ is_q_kind None = false
 is_q_kind (Some P) = false
 is_q_kind (Some (Q cell psi)) = true
 
+-- the vertex named v of an instance is a Q-vertex
 abbrev pub is_q : Synchronized → ℕ → Bool
 is_q i v = is_q_kind (kind_of i v)
 
+-- the cell of a kind, and 0 for a P-vertex
 abbrev pub kind_cell : Kind → ℕ
 kind_cell P = 0
 kind_cell (Q cell psi) = cell
 
+-- the psi of a kind, empty for a P-vertex
 abbrev pub kind_psi : Kind → List ℕ
 kind_psi P = []
 kind_psi (Q cell psi) = psi
 
+-- the cell of the vertex named v
 abbrev pub cell_at : Synchronized → ℕ → ℕ
 cell_at i v = option_map_or kind_cell (kind_of i v) 0
 
+-- the psi of the vertex named v
 abbrev pub psi_at : Synchronized → ℕ → List ℕ
 psi_at i v = option_map_or kind_psi (kind_of i v) []
 

@@ -51,5 +51,6 @@ tree_edges rows es = map (λ e. record { name = e; a = holder rows e; b = lower_
 abbrev pub free_nodes : List Planted → List Planted
 free_nodes rows = filter (λ r. not r.fixed) rows
 
+-- the Q-nodes
 abbrev pub fixed_nodes : List Planted → List Planted
 fixed_nodes rows = filter (λ r. r.fixed) rows

@@ -38,6 +38,7 @@ pub record Solves (i : Synchronized) (s : ℕ → List ℕ) : Type 0 where
   pub back : ℕ → Bool
   pub in_direction : All (λ v. IsInDirection back (s v.name) v.kind) i.verts
 
+-- some lists solve the instance
 abbrev pub IsSolvable : Synchronized → Type 0
 IsSolvable i = (s : ℕ → List ℕ) × Solves i s
 

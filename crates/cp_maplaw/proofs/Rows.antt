@@ -12,6 +12,7 @@ use Rattle.cp_maplaw.proofs.Numbers.{numbered}
 abbrev two_edges : List (List ℕ)
 two_edges = (0 ∷ 2 ∷ []) ∷ (3 ∷ 1 ∷ []) ∷ []
 
+-- the step to the next dart in these lists is a map of four darts with these lists
 two_edges_map : IsMapOf 4 (next_by two_edges) two_edges
 two_edges_map =
     IsMapOf-by 4 two_edges (
@@ -35,6 +36,7 @@ two_edges_zero =
 abbrev torus : List (List ℕ)
 torus = (0 ∷ 2 ∷ 1 ∷ 3 ∷ []) ∷ []
 
+-- the step to the next dart in its list is a map of four darts with this list
 torus_map : IsMapOf 4 (next_by torus) torus
 torus_map =
     IsMapOf-by 4 torus (

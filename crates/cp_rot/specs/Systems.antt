@@ -10,6 +10,7 @@ pub record System : Type 0 where
   pub at : List ℕ
   pub lists : List (List ℕ)
 
+-- how many darts a system has
 abbrev pub darts : System → ℕ
 darts r = length r.at
 
@@ -17,9 +18,11 @@ darts r = length r.at
 abbrev pub edges : System → ℕ
 edges r = darts r / 2
 
+-- the vertex at which dart d stands
 abbrev pub vertex_of : System → ℕ → ℕ
 vertex_of r d = slice_index r.at d
 
+-- the list of vertex v
 abbrev pub list_of : System → ℕ → List ℕ
 list_of r v = slice_index_or r.lists v []
 

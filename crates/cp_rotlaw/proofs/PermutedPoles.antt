@@ -75,6 +75,7 @@ module _ (r : System) (is : IsRotation r) (u v : ℕ) (ltu : u < r.vertices) (lt
   abbrev bs : List ℕ → List Branch
   bs = branches r u v number part ws
 
+  -- the lists of the system have the darts of their vertices
   l : Listed r.vertices (darts r) (vertex_of r) (list_of r)
   l = Listed-system r is
 
@@ -432,6 +433,7 @@ module _ (r : System) (is : IsRotation r) (u v : ℕ) (ltu : u < r.vertices) (lt
 
     -- a system with the same graph whose lists are those of r but at the poles
     module _ (s : System) (is_s : IsRotation s) (made : IsPermutedAt r u v order s) (second : list_of s v ≡ row) where
+      -- the lists of the system after have the darts of their vertices
       ls : Listed s.vertices (darts s) (vertex_of s) (list_of s)
       ls = Listed-system s is_s
 

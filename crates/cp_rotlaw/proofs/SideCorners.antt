@@ -103,6 +103,7 @@ module _ (r : System) (is : IsRotation r) (side : List Bool) (sides : IsSideOf r
   abbrev n : ℕ
   n = 2 * edges r
 
+  -- the lists of the system have the darts of their vertices
   l : Listed r.vertices (darts r) (vertex_of r) (list_of r)
   l = Listed-system r is
 

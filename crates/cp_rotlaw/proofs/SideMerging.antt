@@ -59,6 +59,7 @@ module _ (r : System) (is : IsRotation r) (side : List Bool) (sides : IsSideOf r
   abbrev others : List (List ℕ)
   others = other_rows r side
 
+  -- the lists of the system have the darts of their vertices
   l : Listed r.vertices (darts r) (vertex_of r) (list_of r)
   l = Listed-system r is
 

@@ -51,6 +51,7 @@ module _ (r : System) (is : IsRotation r) (u : ℕ) (ltu : u < r.vertices) (part
   abbrev at : ℕ → ℕ
   at = star_at r u (part_of r entered)
 
+  -- there are as many darts after the split as before
   size : darts (split_system r is u ltu parts entered a more) ≡ darts r
   size = split-size r is u ltu parts entered a more
 
@@ -58,18 +59,23 @@ module _ (r : System) (is : IsRotation r) (u : ℕ) (ltu : u < r.vertices) (part
   as_many : length fs ≡ length es
   as_many = omega (arith, length-end_pairs r.at, length-end_pairs (split_system r is u ltu parts entered a more).at, size)
 
+  -- a dart of the edges before is a dart of the system
   within_es : (d : ℕ) → d < 2 * length es → d < darts r
   within_es d lt = omega (arith, length-end_pairs r.at)
 
+  -- a dart of the edges before starts at its vertex
   start_es : (d : ℕ) → d < darts r → start es d ≡ vertex_of r d
   start_es d lt = (pair_ends r.at d is.paired lt).0
 
+  -- and ends at the vertex of its twin
   finish_es : (d : ℕ) → d < darts r → finish es d ≡ vertex_of r (twin d)
   finish_es d lt = (pair_ends r.at d is.paired lt).1
 
+  -- a dart of the edges after starts where it stands then
   start_fs : (d : ℕ) → d < darts r → start fs d ≡ at d
   start_fs d lt = (pair_ends (split_system r is u ltu parts entered a more).at d (omega (arith, size, is.paired)) (omega (arith, size))).0 ∙ split_at r is u ltu parts entered a more d lt
 
+  -- and ends where its twin stands then
   finish_fs : (d : ℕ) → d < darts r → finish fs d ≡ at (twin d)
   finish_fs d lt = (pair_ends (split_system r is u ltu parts entered a more).at d (omega (arith, size, is.paired)) (omega (arith, size))).1 ∙ split_at r is u ltu parts entered a more (twin d) (far_within r is d lt).0
 

@@ -75,9 +75,11 @@ module _ (r : System) (is : IsRotation r) (u : ℕ) (ltu : u < r.vertices) (part
   abbrev pub limited : ℕ → ℕ → ℕ
   limited k d = cond (ltb k (part_of r entered d)) 0 (part_of r entered d)
 
+  -- a dart of a part up to k has the number of its part
   limited_low : (k d : ℕ) → part_of r entered d ≤ k → limited k d ≡ part_of r entered d
   limited_low k d le = rw (le-ltb k (part_of r entered d) le) refl
 
+  -- and a dart of a part above k has the number 0, of u
   limited_high : (k d : ℕ) → k < part_of r entered d → limited k d ≡ 0
   limited_high k d lt = rw (lt-ltb k (part_of r entered d) lt) refl
 
@@ -97,15 +99,19 @@ module _ (r : System) (is : IsRotation r) (u : ℕ) (ltu : u < r.vertices) (part
   abbrev pub takes : ℕ → ℕ → Bool
   takes k e = eqb (edge_part r entered e) (k + 2)
 
+  -- the vertex of a dart at a stage
   stage_at : (k d : ℕ) → d < 2 * edges r → vertex_of (stage k) d ≡ star_at r u (limited k) d
   stage_at k d lt = system_at (r.vertices + k) (edges r) (star_at r u (limited k)) (star_lists r u (limited k)) d lt
 
+  -- the list of a vertex at a stage
   stage_list : (k x : ℕ) → x < r.vertices + k → list_of (stage k) x ≡ star_lists r u (limited k) x
   stage_list k x lt = system_list (r.vertices + k) (edges r) (star_at r u (limited k)) (star_lists r u (limited k)) x lt
 
+  -- and the list of u: its darts of the parts that are still there
   stage_list_u : (k : ℕ) → list_of (stage k) u ≡ star_row (limited k) (list_of r u) 0
   stage_list_u k = stage_list k u (omega arith) ∙ star_lists_first r u (limited k)
 
+  -- each stage has the same darts
   stage-darts : (k : ℕ) → darts (stage k) ≡ 2 * edges r
   stage-darts k = length-values (2 * edges r) (star_at r u (limited k))
 
@@ -113,6 +119,7 @@ module _ (r : System) (is : IsRotation r) (u : ℕ) (ltu : u < r.vertices) (part
   part_taken : (k d : ℕ) → IsDartOf r u d → part_of r entered d ≡ suc k → takes k (d / 2) ≡ true
   part_taken k d dart e = eq-eqb (edge_part r entered (d / 2)) (k + 2) (omega (arith, edge_part_far r u parts entered a d dart.stands, a.seen d dart))
 
+  -- a dart of u in another part is of an edge that is not taken
   part_left : (k d : ℕ) → IsDartOf r u d → (part_of r entered d ≡ suc k → ⊥) → takes k (d / 2) ≡ false
   part_left k d dart ne = ne_eqb (edge_part r entered (d / 2)) (k + 2) (λ e. ne (omega (arith, edge_part_far r u parts entered a d dart.stands, a.seen d dart)))
 
@@ -189,6 +196,7 @@ module _ (r : System) (is : IsRotation r) (u : ℕ) (ltu : u < r.vertices) (part
           (λ other. ap (λ (x : ℕ). eqb x i) (limited_step k d other))
           (cases_eq (part_of r entered d) (suc k))
 
+  -- the lists of the vertices of the next stage
   next_list : (k x : ℕ) → x < r.vertices + k + 1 → split_list (stage k) u (takes k) x
       ≡ star_lists r u (limited (suc k)) x
   next_list k x lt =

@@ -72,6 +72,7 @@ pub child_at : (g : Clustered) (k c : ℕ) → k < length (all_vertices g)
     → slice_index_or (all_vertices g) k (Node 0) ≡ Child c → (c < clusters g) × (is_left g c ≡ true)
 child_at g k c lt at = subst (IsWithin g) at (vertex-IsWithin g k lt)
 
+-- and so is a cluster whose outside stands at a place
 pub outside_at : (g : Clustered) (k c : ℕ) → k < length (all_vertices g)
     → slice_index_or (all_vertices g) k (Node 0) ≡ Outside c → (c < clusters g) × (is_left g c ≡ true)
 outside_at g k c lt at = subst (IsWithin g) at (vertex-IsWithin g k lt)

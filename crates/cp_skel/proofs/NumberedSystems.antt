@@ -96,6 +96,7 @@ module _ (n m : ℕ) (ends : ℕ → ℕ × ℕ) (s : ℕ → List ℕ)
   abbrev first : ℕ → ℕ
   first e = rank (range_with_len 0 n) (ends e).0
 
+  -- the number of the vertex at the second end of an edge
   abbrev second : ℕ → ℕ
   second e = rank (range_with_len 0 n) (ends e).1
 

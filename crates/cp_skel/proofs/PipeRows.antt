@@ -35,6 +35,7 @@ length-zip : (a : ℕ) (cs : List ℕ) → length (zip (range_with_len a (length
 length-zip a [] = refl
 length-zip a (c ∷ cs) = ap suc (length-zip (a + 1) cs)
 
+-- some clusters have as many pipes
 pub length-pipes_of : (g : Clustered) (cs : List ℕ) → length (pipes_of g cs) ≡ length cs
 length-pipes_of g cs =
     let row : ℕ × ℕ → Pipe = λ x. skeleton_pipe g x.0 x.1 in

@@ -237,6 +237,7 @@ module _ (g : Clustered) (is : IsClustered g) (s : ℕ → List ℕ)
       ap₂ (λ (xs : List ℕ) (rows : List (List ℕ)). xs ∷ rows) (looped-are k (omega arith))
       (looped_lists-are (k + 1) n (omega arith))
 
+  -- and without loops they are those of the solution
   bare_lists-are : (k n : ℕ) → k + n ≤ nodes g
       → map (filter (keeps g)) (map (map (end_dart g)) (map (solved_node g s) (range_with_len k n)))
       ≡ bare_lists (map (λ v. (

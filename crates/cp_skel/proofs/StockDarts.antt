@@ -26,12 +26,15 @@ use Rattle.cp_skel.proofs.SkeletonVertices.{kept-IsVertex, vertex_name-apart}
 abbrev pub vertex_count : Clustered → ℕ
 vertex_count g = length (all_vertices g)
 
+-- how many edges the skeletons have
 abbrev pub edge_count : Clustered → ℕ
 edge_count g = length (kept_segments g)
 
+-- the two ends of an edge of the skeletons
 abbrev pub ends : Clustered → ℕ → ℕ × ℕ
 ends g = ends_of (skeletons g)
 
+-- the graph of the skeletons, by numbers
 abbrev pub skeleton_graph : Clustered → NamedGraph
 skeleton_graph g = numbers (vertex_count g) (edge_count g) (ends g)
 

@@ -12,6 +12,7 @@ use Rattle.cp_skel.specs.SolutionLayouts.{name_edge}
 pub length-node_names : (g : Clustered) → length (node_names g) ≡ nodes g
 length-node_names g = length-map-range_with_len (λ v. vertex_name g (Node v)) 0 (nodes g)
 
+-- at the place of a node stands the name of its vertex
 pub node_names-at : (g : Clustered) (v d : ℕ) → v < nodes g → slice_index_or (node_names g) v d ≡ vertex_name g (Node v)
 node_names-at g v d lt = get_or-map-range_with_len (λ v. vertex_name g (Node v)) 0 (nodes g) v v d lt (omega arith)
 
@@ -19,6 +20,7 @@ node_names-at g v d lt = get_or-map-range_with_len (λ v. vertex_name g (Node v)
 pub length-child_names : (g : Clustered) → length (child_names g) ≡ clusters g
 length-child_names g = length-map-range_with_len (name_if_left g Child) 0 (clusters g)
 
+-- at the place of a cluster stands the name of its vertex in its parent, if some edge leaves it
 pub child_names-at : (g : Clustered) (c : ℕ) → c < clusters g
     → slice_index_or (child_names g) c None ≡ name_if_left g Child c
 child_names-at g c lt = get_or-map-range_with_len (name_if_left g Child) 0 (clusters g) c c None lt (omega arith)
@@ -27,6 +29,7 @@ child_names-at g c lt = get_or-map-range_with_len (name_if_left g Child) 0 (clus
 pub length-outside_names : (g : Clustered) → length (outside_names g) ≡ clusters g
 length-outside_names g = length-map-range_with_len (name_if_left g Outside) 0 (clusters g)
 
+-- at the place of a cluster stands the name of its outside, if some edge leaves it
 pub outside_names-at : (g : Clustered) (c : ℕ) → c < clusters g
     → slice_index_or (outside_names g) c None ≡ name_if_left g Outside c
 outside_names-at g c lt = get_or-map-range_with_len (name_if_left g Outside) 0 (clusters g) c c None lt (omega arith)
@@ -35,6 +38,7 @@ outside_names-at g c lt = get_or-map-range_with_len (name_if_left g Outside) 0 (
 pub length-graph_edges : (g : Clustered) → length (graph_edges g) ≡ length (kept_segments g)
 length-graph_edges g = length-map-range_with_len (name_edge g) 0 (length (kept_segments g))
 
+-- at the place of a name stands the edge of the graph of its segment
 pub graph_edges-at : (g : Clustered) (n d : ℕ) → n < length (kept_segments g)
     → slice_index_or (graph_edges g) n d ≡ name_edge g n
 graph_edges-at g n d lt = get_or-map-range_with_len (name_edge g) 0 (length (kept_segments g)) n n d lt (omega arith)
@@ -43,6 +47,7 @@ graph_edges-at g n d lt = get_or-map-range_with_len (name_edge g) 0 (length (kep
 pub length-first_names : (g : Clustered) → length (first_names g) ≡ edges g
 length-first_names g = length-map-range_with_len (first_name g) 0 (edges g)
 
+-- at the place of an edge stands the name of its first segment
 pub first_names-at : (g : Clustered) (e d : ℕ) → e < edges g → slice_index_or (first_names g) e d ≡ first_name g e
 first_names-at g e d lt = get_or-map-range_with_len (first_name g) 0 (edges g) e e d lt (omega arith)
 
@@ -50,6 +55,7 @@ first_names-at g e d lt = get_or-map-range_with_len (first_name g) 0 (edges g) e
 pub length-left_clusters : (g : Clustered) → length (left_clusters g) ≡ clusters g
 length-left_clusters g = length-map-range_with_len (is_left g) 0 (clusters g)
 
+-- at the place of a cluster stands whether some edge leaves it
 pub left_clusters-at : (g : Clustered) (left : List Bool) (c : ℕ) (d : Bool) → left ≡ left_clusters g → c < clusters g
     → slice_index_or left c d ≡ is_left g c
 left_clusters-at g left c d is lt =

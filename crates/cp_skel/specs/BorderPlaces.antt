@@ -22,5 +22,6 @@ abbrev pub vertices_at : Clustered → Layout → ℕ → List ℕ
 vertices_at g l c =
     map (λ k. border_vertex g (slice_index (cluster_list l c) k) c) (range_with_len 0 (length (cluster_list l c)))
 
+-- the border vertices of some clusters, one cluster after another
 abbrev pub vertices_of : Clustered → Layout → List ℕ → List ℕ
 vertices_of g l cs = flat_map (vertices_at g l) cs

@@ -11,6 +11,7 @@ use Rattle.cp_border.specs.Borders.{cluster_list}
 abbrev pub ahead : Clustered → ℕ → ℕ → ℕ
 ahead g e c = cond (contains g c (source g e)) c (parent g c)
 
+-- and the cluster of the segment behind the border
 abbrev pub behind : Clustered → ℕ → ℕ → ℕ
 behind g e c = cond (contains g c (source g e)) (parent g c) c
 

@@ -14,6 +14,7 @@ crossing_place g e c = position_or_len (λ x. x == c) (crossings g e)
 abbrev pub dart_before : Clustered → ℕ → ℕ → ℕ
 dart_before g c e = 2 * (first_segment g e + crossing_place g e c) + 1
 
+-- and the dart of the segment that begins there
 abbrev pub dart_behind : Clustered → ℕ → ℕ → ℕ
 dart_behind g c e = 2 * (first_segment g e + crossing_place g e c + 1)
 
@@ -21,6 +22,7 @@ dart_behind g c e = 2 * (first_segment g e + crossing_place g e c + 1)
 abbrev pub in_dart : Clustered → ℕ → ℕ → ℕ
 in_dart g c e = cond (contains g c (source g e)) (dart_before g c e) (dart_behind g c e)
 
+-- and the dart outside the cluster
 abbrev pub out_dart : Clustered → ℕ → ℕ → ℕ
 out_dart g c e = cond (contains g c (source g e)) (dart_behind g c e) (dart_before g c e)
 

@@ -22,9 +22,11 @@ node_names g = map (λ v. vertex_name g (Node v)) (below (nodes g))
 abbrev pub name_if_left : Clustered → (ℕ → Vertex) → ℕ → Option ℕ
 name_if_left g F c = cond (is_left g c) (Some (vertex_name g (F c))) None
 
+-- for each cluster that some edge leaves the name of its vertex in the skeleton of its parent
 abbrev pub child_names : Clustered → List (Option ℕ)
 child_names g = map (name_if_left g Child) (below (clusters g))
 
+-- for each cluster that some edge leaves the name of its outside
 abbrev pub outside_names : Clustered → List (Option ℕ)
 outside_names g = map (name_if_left g Outside) (below (clusters g))
 

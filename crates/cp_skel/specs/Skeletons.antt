@@ -61,6 +61,7 @@ pub record IsVertex (g : Clustered) (p : Vertex) : Type 0 where
 abbrev pub ends_at_border : Clustered → ℕ → ℕ → Vertex
 ends_at_border g e c = cond (contains g c (source g e)) (Outside c) (Child c)
 
+-- where the segment of edge e stands that begins at the border of cluster c
 abbrev pub begins_at_border : Clustered → ℕ → ℕ → Vertex
 begins_at_border g e c = cond (contains g c (source g e)) (Child c) (Outside c)
 
@@ -74,6 +75,7 @@ edge_vertices g e =
 abbrev pub dart_vertices : Clustered → List Vertex
 dart_vertices g = flat_map (edge_vertices g) (below (edges g))
 
+-- the vertex at which a dart of a segment stands
 abbrev pub dart_vertex : Clustered → ℕ → Vertex
 dart_vertex g d = slice_index_or (dart_vertices g) d (Node 0)
 
@@ -81,6 +83,7 @@ dart_vertex g d = slice_index_or (dart_vertices g) d (Node 0)
 abbrev pub segments_of : Clustered → ℕ → List ℕ
 segments_of g e = cond (eqb (source g e) (target g e)) [] (range_with_len (first_segment g e) (crossed g e + 1))
 
+-- the segments of all edges that are no loops
 abbrev pub kept_segments : Clustered → List ℕ
 kept_segments g = flat_map (segments_of g) (below (edges g))
 

@@ -14,6 +14,7 @@ use Rattle.cp_skel.specs.Skeletons.{below, is_left, kept_segments, vertex_name}
 abbrev pub segment_edges : Clustered → List ℕ
 segment_edges g = flat_map (λ e. map (λ k. e) (range_with_len 0 (crossed g e + 1))) (below (edges g))
 
+-- the edge of the segment with a name
 abbrev pub name_edge : Clustered → ℕ → ℕ
 name_edge g n = slice_index_or (segment_edges g) (slice_index_or (kept_segments g) n 0) 0
 
@@ -30,6 +31,7 @@ loops_at g v = filter (λ e. eqb (source g e) v && eqb (target g e) v) (below (e
 abbrev pub solved_darts : Clustered → (ℕ → List ℕ) → ℕ → List ℕ
 solved_darts g s v = map (name_dart g v) (s (vertex_name g (Node v)))
 
+-- the whole list of a node: these darts, and behind them those of its loops
 abbrev pub solved_node : Clustered → (ℕ → List ℕ) → ℕ → List ℕ
 solved_node g s v = solved_darts g s v ++ loop_darts (map (λ e. 2 * e) (loops_at g v))
 

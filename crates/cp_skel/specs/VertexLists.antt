@@ -38,6 +38,7 @@ kept_list g l p = filter (keeps g) (vertex_list g l p)
 abbrev pub stock_dart : Clustered → ℕ → ℕ
 stock_dart g d = 2 * slice_index_or (kept_segments g) (d / 2) 0 + d % 2
 
+-- the list that s gives vertex v, as darts of segments
 abbrev pub stock_list : NamedGraph → Clustered → (ℕ → List ℕ) → ℕ → List ℕ
 stock_list graph g s v = map (stock_dart g) (map (dart graph v) (s v))
 

@@ -20,6 +20,7 @@ rest_greater x xs z up c =
 first_in : (x : ℕ) (xs : List ℕ) → Contains (x ∷ xs) x
 first_in x xs = (0, omega arith, refl)
 
+-- an item of the rest is one of the list
 later_in : (x z : ℕ) (xs : List ℕ) → Contains xs z → Contains (x ∷ xs) z
 later_in x z xs c = (suc c.0, omega (arith, c.1), c.2)
 

@@ -17,10 +17,12 @@ has-more xs x k = list_any-append (eqb k) xs (x ∷ []) ∙ ap (λ b. has xs k |
     or_none true = refl
     or_none false = refl
 
+-- whatever or true is true
 or_true : (b : Bool) → (b || true) ≡ true
 or_true true = refl
 or_true false = refl
 
+-- whatever or false is itself
 or_false : (b : Bool) → (b || false) ≡ b
 or_false true = refl
 or_false false = refl
@@ -98,6 +100,7 @@ take_full n xs ys full = ⊎_elim
 -- the first n numbers that pass, up to one more number: it passes and there is room, it passes and there is none, or
 -- it does not pass
 module _ (p : ℕ → Bool) (n k : ℕ) (names : List ℕ) (so : names ≡ take n (filter p (range_with_len 0 k))) where
+  -- one more that passes comes behind them where there is room
   pub first_passing-more : length names < n → p k ≡ true
       → names ++ k ∷ [] ≡ take n (filter p (range_with_len 0 (k + 1)))
   first_passing-more room t =
@@ -105,12 +108,14 @@ module _ (p : ℕ → Bool) (n k : ℕ) (names : List ℕ) (so : names ≡ take 
       ∙ sym (take_room n (filter p (range_with_len 0 k)) k (omega (arith, room, ap length so)))
       ∙ ap (take n) (ap (λ zs. filter p (range_with_len 0 k) ++ zs) (sym (cond-true (p k) (k ∷ []) [] t)) ∙ sym (filter-range_more p k))
 
+  -- where there is no room they stay the same
   pub first_passing-full : n ≤ length names → names ≡ take n (filter p (range_with_len 0 (k + 1)))
   first_passing-full full =
       so
       ∙ sym (take_full n (filter p (range_with_len 0 k)) (filter p (k ∷ [])) (omega (arith, full, ap length so)))
       ∙ ap (take n) (sym (filter-range_more p k))
 
+  -- where one more does not pass they stay the same
   pub first_passing-skip : p k ≡ false → names ≡ take n (filter p (range_with_len 0 (k + 1)))
   first_passing-skip f =
       so

@@ -36,6 +36,7 @@ kept_verts-more dropped kinds vs k v out lt is f =
     ∙ sym (kept_verts-append dropped kinds (take k vs) (v ∷ []))
     ∙ ap (kept_verts dropped kinds) (sym (take_more vs k v lt ∙ ap (λ x. take k vs ++ x ∷ []) (sym is))))
 
+-- a vertex that is dropped adds nothing to those that are kept
 pub kept_verts-less : (dropped : List ℕ) (kinds vs : List Vert) (k : ℕ) (v : Vert) → k < length vs
     → v ≡ slice_index_or vs k v
     → has dropped v.name ≡ true
@@ -58,6 +59,7 @@ kept_pipes-more dropped ps k p out lt is f =
     ∙ sym (filter-append (λ (q : Pipe). not (has dropped q.name)) (take k ps) (p ∷ []))
     ∙ ap (kept_pipes dropped) (sym (take_more ps k p lt ∙ ap (λ x. take k ps ++ x ∷ []) (sym is))))
 
+-- a pipe that is dropped adds nothing to those that are kept
 pub kept_pipes-less : (dropped : List ℕ) (ps : List Pipe) (k : ℕ) (p : Pipe) → k < length ps
     → p ≡ slice_index_or ps k p
     → has dropped p.name ≡ true
@@ -68,6 +70,7 @@ kept_pipes-less dropped ps k p lt is t =
     ∙ sym (filter-append (λ (q : Pipe). not (has dropped q.name)) (take k ps) (p ∷ []))
     ∙ ap (kept_pipes dropped) (sym (take_more ps k p lt ∙ ap (λ x. take k ps ++ x ∷ []) (sym is)))
 
+-- changes of vertices that agree on each make the same lists
 map_agree : (f g : Vert → Vert) → ((v : Vert) → f v ≡ g v) → (vs : List Vert) → map f vs ≡ map g vs
 map_agree f g agree [] = refl
 map_agree f g agree (v ∷ vs) = ap (λ w. w ∷ map f vs) (agree v) ∙ ap (λ ws. g v ∷ ws) (map_agree f g agree vs)
@@ -82,6 +85,7 @@ kept_verts-in_order dropped kinds vs once =
     (λ v. ap (λ o. option_map_or (λ (k : Vert). k) o v) (under-by_name (λ (k : Vert). k.name) v.name kinds (distinct-from (names_of_verts kinds) once)))
     (filter (λ v. not (has dropped v.name)) vs)
 
+-- and for the kept pipes the order of the dropped names does not matter either
 pub kept_pipes-in_order : (dropped : List ℕ) (ps : List Pipe)
     → kept_pipes (by_name (λ (n : ℕ). n) dropped) ps ≡ kept_pipes dropped ps
 kept_pipes-in_order dropped ps =

@@ -28,6 +28,7 @@ pub names-moved : (m : EdgeMove) (es : List EdgeRow) → names_of_edges (map (mo
 names-moved m [] = refl
 names-moved m (e ∷ es) = ap (λ n. n ∷ names_of_edges (map (moved_end m) es)) (moved_end-name m e) ∙ ap (λ ns. e.name ∷ ns) (names-moved m es)
 
+-- and all names are kept by several moves
 pub names-after_moves : (ms : List EdgeMove) (es : List EdgeRow)
     → names_of_edges (after_moves ms es) ≡ names_of_edges es
 names-after_moves [] es = refl
@@ -39,6 +40,7 @@ after_moves-append : (ms : List EdgeMove) (m : EdgeMove) (es : List EdgeRow)
 after_moves-append [] m es = refl
 after_moves-append (n ∷ ms) m es = after_moves-append ms m (map (moved_end n) es)
 
+-- the edges after one move more of a list of moves
 pub after_moves-more : (ms : List EdgeMove) (k : ℕ) (m : EdgeMove) (es : List EdgeRow) → k < length ms
     → m ≡ slice_index_or ms k m
     → map (moved_end m) (after_moves (take k ms) es) ≡ after_moves (take (k + 1) ms) es

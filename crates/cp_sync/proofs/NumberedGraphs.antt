@@ -47,6 +47,7 @@ rank_there names k up lt =
 
 module _ (g : NamedGraph)
     (live : (e : ℕ) → Contains g.edges e → Contains g.verts (g.ends e).0 × Contains g.verts (g.ends e).1) where
+  -- the edge at a place is an edge
   edge_at : (k : ℕ) → k < length g.edges → Contains g.edges (slice_index g.edges k)
   edge_at k lt = (k, lt, get_or_default g.edges k (slice_index g.edges k) 0 lt)
 
@@ -62,10 +63,12 @@ module _ (g : NamedGraph)
 abbrev pub two_each : (ℕ → ℕ × ℕ) → List ℕ → List ℕ
 two_each f es = flat_map (λ e. (f e).0 ∷ (f e).1 ∷ []) es
 
+-- there are twice as many as edges
 length-two_each : (f : ℕ → ℕ × ℕ) (es : List ℕ) → length (two_each f es) ≡ 2 * length es
 length-two_each f [] = refl
 length-two_each f (e ∷ es) = omega (arith, length-two_each f es)
 
+-- the first number of an edge stands at twice its place
 two_each-first : (f : ℕ → ℕ × ℕ) (es : List ℕ) (k : ℕ) → k < length es
     → slice_index (two_each f es) (2 * k) ≡ (f (slice_index es k)).0
 two_each-first f [] k lt = absurd (omega (arith, lt))
@@ -74,6 +77,7 @@ two_each-first f (e ∷ es) (suc k) lt =
     ap (slice_index (two_each f (e ∷ es))) (let h : 2 * suc k ≡ suc (suc (2 * k)) = omega arith in h)
     ∙ two_each-first f es k (omega (arith, lt))
 
+-- and the second stands directly behind it
 two_each-second : (f : ℕ → ℕ × ℕ) (es : List ℕ) (k : ℕ) → k < length es
     → slice_index (two_each f es) (2 * k + 1) ≡ (f (slice_index es k)).1
 two_each-second f [] k lt = absurd (omega (arith, lt))
@@ -108,9 +112,11 @@ module _
     (differ : (e : ℕ) → Contains g.edges e → (g.ends e).0 ≢ (g.ends e).1)
     (s : ℕ → List ℕ)
     (arranged : All (λ v. ArrangesEdges g v (s v)) g.verts) where
+  -- the vertices of the darts, by their places
   abbrev at : List ℕ
   at = (system g s).at
 
+  -- there are two darts for each edge
   length-at : length at ≡ 2 * length g.edges
   length-at = length-two_each (numbered_ends g) g.edges
 
@@ -127,6 +133,7 @@ module _
   first_dart : (n e : ℕ) → (g.ends e).0 ≡ n → dart g n e ≡ 2 * rank g.edges e
   first_dart n e a = let bit = cond-true {A = ℕ} (eqb (g.ends e).0 n) 0 1 (eq-eqb (g.ends e).0 n a) in omega (arith, bit)
 
+  -- and an edge with another first end has its second dart at the vertex
   second_dart : (n e : ℕ) → (g.ends e).0 ≢ n → dart g n e ≡ 2 * rank g.edges e + 1
   second_dart n e a = let bit = cond-false {A = ℕ} (eqb (g.ends e).0 n) 0 1 (ne_eqb (g.ends e).0 n a) in omega (arith, bit)
 
@@ -136,6 +143,7 @@ module _
       let here = rank_at g.edges e c in
       two_each-first (numbered_ends g) g.edges (rank g.edges e) here.0 ∙ ap (λ f. rank g.verts (g.ends f).0) here.1
 
+  -- and the second dart of an edge stands at its second end
   at_second : (e : ℕ) → Contains g.edges e → slice_index at (2 * rank g.edges e + 1) ≡ rank g.verts (g.ends e).1
   at_second e c =
       let here = rank_at g.edges e c in
@@ -212,6 +220,7 @@ module _
         (halves x);
   }
 
+  -- the lists make a rotation system of the numbered graph
   pub IsRotation-system : IsRotation (system g s)
   IsRotation-system = record {
     paired = omega (arith, length-at);

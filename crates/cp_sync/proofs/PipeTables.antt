@@ -206,6 +206,7 @@ lacks-pipe_with (p ∷ ps) v lacks =
     cond-false (eqb p.a v || eqb p.b v) (Some p) (pipe_with ps v) (ap (λ b. b || eqb p.b v) (ne_eqb p.a v lacks.0) ∙ ne_eqb p.b v lacks.1.0)
     ∙ lacks-pipe_with ps v lacks.1.1
 
+-- where no name of a pipe is found, no pipe is
 unmapped : (found : Option Pipe) → option_map (λ q. q.name) found ≡ None → found ≡ None
 unmapped None e = refl
 unmapped (Some q) e = cc
@@ -228,17 +229,20 @@ found_vertex (x ∷ xs) v kind e = ⊎_elim
 
 module _ (i : Synchronized) (at : List (Option ℕ)) (k : ℕ) (up : IsStrictlyIncreasing (vert_names i))
     (so : ArePiped i.verts (take k i.pipes) at) where
+  -- a vertex that the table tells as a free end is a P-vertex
   free_kind : (v : ℕ) → IsFreeEnd i.verts at v → kind_in i.verts v ≡ Some P
   free_kind v free =
       ap (option_map (λ (x : Vert). x.kind)) (found_place (λ (x : Vert). x.name) v i.verts free.place (vert_at i.verts free.place) up free.within
       (get_or_default i.verts free.place record { name = 0; kind = P } (vert_at i.verts free.place) free.within) free.named)
       ∙ ap Some free.any_order
 
+  -- and it is no end of the pipes before
   free_lacks : (v : ℕ) → IsFreeEnd i.verts at v → Lacks v (flat_map ends (take k i.pipes))
   free_lacks v free = pipe_with-lacks (take k i.pipes) v
       (unmapped (pipe_with (take k i.pipes) v)
       (ap (λ n. option_map (λ q. q.name) (pipe_with (take k i.pipes) n)) (sym free.named) ∙ sym (so.each free.place free.within) ∙ free.unpiped))
 
+  -- a P-vertex that is no end of the pipes before is told as a free end
   free_from : (v : ℕ) → kind_in i.verts v ≡ Some P → Lacks v (flat_map ends (take k i.pipes)) → IsFreeEnd i.verts at v
   free_from v kind lacks =
       let found = found_vertex i.verts v P kind in
@@ -257,6 +261,7 @@ module _ (i : Synchronized) (at : List (Option ℕ)) (k : ℕ) (up : IsStrictlyI
     (free_lacks (pipe_row i.pipes k).a free.0, free_lacks (pipe_row i.pipes k).b free.1),
   )
 
+  -- and the table tells the ends of a pipe as free where the rule is kept
   pub PipeEnds-to : Keeps i PipeEnds (PipeAt k) → IsFreePipe i.verts at (pipe_row i.pipes k)
   PipeEnds-to keep = (
     free_from (pipe_row i.pipes k).a keep.0.free_a keep.1.0,

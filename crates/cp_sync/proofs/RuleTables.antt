@@ -50,6 +50,7 @@ before_names i Lists lt = absurd (omega (arith, lt))
 before_names i PipeEnds lt = absurd (omega (arith, lt))
 before_names i Partners lt = absurd (omega (arith, lt))
 
+-- before the second rule stands the first alone
 pub before_ends : (i : Synchronized) → All (Keeps i Names) (parts i)
     → (other : Rule) → number other < 2 → All (Keeps i other) (parts i)
 before_ends i names Names lt = names
@@ -58,6 +59,7 @@ before_ends i names Lists lt = absurd (omega (arith, lt))
 before_ends i names PipeEnds lt = absurd (omega (arith, lt))
 before_ends i names Partners lt = absurd (omega (arith, lt))
 
+-- before the third rule stand the first two
 pub before_lists : (i : Synchronized) → All (Keeps i Names) (parts i) → All (Keeps i Ends) (parts i)
     → (other : Rule) → number other < 3 → All (Keeps i other) (parts i)
 before_lists i names ends Names lt = names
@@ -66,6 +68,7 @@ before_lists i names ends Lists lt = absurd (omega (arith, lt))
 before_lists i names ends PipeEnds lt = absurd (omega (arith, lt))
 before_lists i names ends Partners lt = absurd (omega (arith, lt))
 
+-- before the fourth rule stand the first three
 pub before_pipe_ends : (i : Synchronized) → All (Keeps i Names) (parts i) → All (Keeps i Ends) (parts i)
     → All (Keeps i Lists) (parts i)
     → (other : Rule) → number other < 4 → All (Keeps i other) (parts i)
@@ -75,6 +78,7 @@ before_pipe_ends i names ends lists Lists lt = lists
 before_pipe_ends i names ends lists PipeEnds lt = absurd (omega (arith, lt))
 before_pipe_ends i names ends lists Partners lt = absurd (omega (arith, lt))
 
+-- before the fifth rule stand the first four
 pub before_partners : (i : Synchronized) → All (Keeps i Names) (parts i) → All (Keeps i Ends) (parts i)
     → All (Keeps i Lists) (parts i) → All (Keeps i PipeEnds) (parts i)
     → (other : Rule) → number other < 5 → All (Keeps i other) (parts i)
@@ -84,6 +88,7 @@ before_partners i names ends lists pipe_ends Lists lt = lists
 before_partners i names ends lists pipe_ends PipeEnds lt = pipe_ends
 before_partners i names ends lists pipe_ends Partners lt = absurd (omega (arith, lt))
 
+-- parts that keep each of the five rules keep any rule
 pub all_rules : (i : Synchronized) → All (Keeps i Names) (parts i) → All (Keeps i Ends) (parts i)
     → All (Keeps i Lists) (parts i) → All (Keeps i PipeEnds) (parts i) → All (Keeps i Partners) (parts i)
     → (rule : Rule) → All (Keeps i rule) (parts i)
@@ -97,6 +102,7 @@ all_rules i names ends lists pipe_ends partners Partners = partners
 pub verts_rise : (i : Synchronized) → All (Keeps i Names) (parts i) → IsStrictlyIncreasing (vert_names i)
 verts_rise i keep = (AreNames-from (vert_names i) (λ k lt. (Keeps-vert i Names keep k (omega (arith, lt, length-map i.verts (λ (v : Vert). v.name)))).0)).rise
 
+-- and the names of edges rise
 pub edges_rise : (i : Synchronized) → All (Keeps i Names) (parts i) → IsStrictlyIncreasing (edge_names i)
 edges_rise i keep = (AreNames-from (edge_names i) (λ k lt. Keeps-edge i Names keep k (omega (arith, lt, length-map i.edges (λ (e : EdgeRow). e.name))))).rise
 
@@ -107,6 +113,7 @@ ends_live i keep k d lt =
     let h = Keeps-edge i Ends keep k lt in
     subst (λ (e : EdgeRow). Contains (vert_names i) e.a × Contains (vert_names i) e.b) (get_or_default i.edges k record { name = 0; a = 0; b = 0 } d lt) (h.0, h.1)
 
+-- and the two ends of each edge are different
 pub ends_differ : (i : Synchronized) → All (Keeps i Ends) (parts i) → All (λ (e : EdgeRow). e.a ≢ e.b) i.edges
 ends_differ i keep k d lt =
     let h = Keeps-edge i Ends keep k lt in
@@ -118,6 +125,7 @@ pub names_at-graph : (i : Synchronized) (v : ℕ) → IsStrictlyIncreasing (edge
 names_at-graph i v up =
     sym (names_passing (λ x. eqb x.0 v || eqb x.1 v) i.edges (distinct_from_rises (λ e. e.name) i.edges (rises_from (edge_names i) up)))
 
+-- the lists of a table of the edges of the vertices rise
 pub lists_rise : (i : Synchronized) (at : List (List ℕ)) → IsStrictlyIncreasing (edge_names i)
     → AreAdjacent i.verts i.edges at
     → AllRise at
@@ -133,10 +141,12 @@ module _ (i : Synchronized) (at : List (List ℕ)) (up : IsStrictlyIncreasing (e
   pub at-graph : (k : ℕ) → k < length i.verts → slice_index_or at k [] ≡ edges_at (graph i) (vert_at i.verts k).name
   at-graph k lt = adjacent.each k lt ∙ names_at-graph i (vert_at i.verts k).name up
 
+  -- a kind that is right for the edges of its vertex is right in the graph
   kind_right : (v : ℕ) (kind : Kind) → IsRightList (edges_at (graph i) v) kind → IsRightKind (graph i) v kind
   kind_right v P h = tt
   kind_right v (Q cell psi) h = h
 
+  -- and back
   right_kind : (v : ℕ) (kind : Kind) → IsRightKind (graph i) v kind → IsRightList (edges_at (graph i) v) kind
   right_kind v P h = tt
   right_kind v (Q cell psi) h = h
@@ -146,6 +156,7 @@ module _ (i : Synchronized) (at : List (List ℕ)) (up : IsStrictlyIncreasing (e
   Lists-from k lt h = kind_right (vert_at i.verts k).name (vert_at i.verts k).kind
       (subst (λ es. IsRightList es (vert_at i.verts k).kind) (at-graph k lt) h)
 
+  -- and back
   pub Lists-to : (k : ℕ) → k < length i.verts → Keeps i Lists (VertAt k) → HasRightList i.verts at k
   Lists-to k lt h = subst (λ es. IsRightList es (vert_at i.verts k).kind) (sym (at-graph k lt))
       (right_kind (vert_at i.verts k).name (vert_at i.verts k).kind h)
@@ -163,6 +174,7 @@ module _ (i : Synchronized) (at : List (List ℕ)) (up : IsStrictlyIncreasing (e
         second = subst (λ es. IsPermutation es (map (λ x. x.1) (pipe_row i.pipes k).pairs)) (at-graph b lb ∙ ap (edges_at (graph i)) is_b) pairs.1;
       }
 
+  -- and back
   pub Partners-to : (k : ℕ) → Keeps i Partners (PipeAt k) → HasRightPartners i.verts at i.pipes k
   Partners-to k keep a b la lb is_a is_b = (
     keep.first ∙ sym (at-graph a la ∙ ap (edges_at (graph i)) is_a),

@@ -10,6 +10,7 @@ use Rattle.cp_board.specs.Rows as rows
 abbrev pub edge_row : ℕ × ℕ × ℕ → EdgeRow
 edge_row x = rows.edge x.0 x.1 x.2
 
+-- a move of an edge, from its name, the end that it leaves and the one that it takes
 abbrev pub edge_move : ℕ × ℕ × ℕ → EdgeMove
 edge_move x = record { edge = x.0; from = x.1; to = x.2 }
 
