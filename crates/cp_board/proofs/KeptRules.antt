@@ -17,16 +17,7 @@ use Rattle.cp_board.specs.declared.parts.EdgeRow.{EdgeRow}
 use Rattle.cp_board.specs.declared.parts.Pipe.{Pipe}
 use Rattle.cp_board.specs.Instances.{AreNames, Synchronized, IsSynchronized, cell_of, edge_names, pipe_names, vert_names}
 use Rattle.cp_board.specs.Faults.{EdgeAt, Ends, IsFirstBroken, IsNextName, Keeps, Lists, Names, Part, Partners, PipeAt, PipeEnds, Rule, VertAt, parts, pipe_in_place}
-
--- what holds of all items of two lists holds of those of the first
-All-first : {A : Type 0} (holds : A → Type 0) (xs ys : List A) → All holds (xs ++ ys) → All holds xs
-All-first holds xs ys all k d lt =
-    subst holds (get_or-append xs ys d k lt) (all k d (omega (arith, lt, length-append xs ys)))
-
--- and of those of the second
-All-second : {A : Type 0} (holds : A → Type 0) (xs ys : List A) → All holds (xs ++ ys) → All holds ys
-All-second holds xs ys all k d lt =
-    subst holds (get_or-append-add xs ys k d) (all (length xs + k) d (omega (arith, lt, length-append xs ys)))
+use Rattle.cp_board.proofs.Rules.{All-first, All-second}
 
 -- what holds of all items of some pieces holds of those of each
 All-piece : {A B : Type 0} (holds : B → Type 0) (f : A → List B) (xs : List A) → All holds (flat_map f xs)

@@ -17,12 +17,12 @@ use Rattle.cp_board.specs.Instances.{Synchronized, IsSynchronized, AreNames, IsR
 use Rattle.cp_board.specs.Faults.{Part, VertAt, EdgeAt, PipeAt, parts, Rule, Names, Ends, Lists, PipeEnds, Partners, Keeps, IsNextName}
 
 -- what holds of all items of two lists holds of those of the first
-All-first : {A : Type 0} (holds : A → Type 0) (xs ys : List A) → All holds (xs ++ ys) → All holds xs
+pub All-first : {A : Type 0} (holds : A → Type 0) (xs ys : List A) → All holds (xs ++ ys) → All holds xs
 All-first holds xs ys all k d lt =
     subst holds (get_or-append xs ys d k lt) (all k d (omega (arith, lt, length-append xs ys)))
 
 -- and of those of the second
-All-second : {A : Type 0} (holds : A → Type 0) (xs ys : List A) → All holds (xs ++ ys) → All holds ys
+pub All-second : {A : Type 0} (holds : A → Type 0) (xs ys : List A) → All holds (xs ++ ys) → All holds ys
 All-second holds xs ys all k d lt =
     subst holds (get_or-append-add xs ys k d) (all (length xs + k) d (omega (arith, lt, length-append xs ys)))
 
@@ -76,7 +76,7 @@ module _ (i : Synchronized) (rule : Rule) (all : All (Keeps i rule) (parts i)) w
   Keeps-pipe = All-at (Keeps i rule) PipeAt (length i.pipes)
       (All-second (Keeps i rule) (verts_before ++ edges_between) pipes_behind all)
 
--- the next name is greater than the one before it
+-- the next name is greater than the one directly before it
 pub IsNextName-greater : (names : List ℕ) (k : ℕ) → k + 1 < length names → IsNextName names (k + 1)
     → slice_index names k < slice_index names (k + 1)
 IsNextName-greater names k lt next =

@@ -9,7 +9,7 @@ use Rattle.cp_base.specs.declared.shape.Branch.TheOpen.{Branch-F}
 use Rattle.cp_base.specs.declared.shape.Branch.TheFolds.{fold-roll-Branch}
 use Rattle.cp_base.specs.Shapes.{leaves, leaves_step, branches, branches_step}
 
--- the equations of `leaves` and `branches`, one for each kind of branch
+-- the lists of some items, one behind the other
 flat_map_map : {A : Type 0} (f : A → List ℕ) (ks : List A) → flat_map (λ ls. ls) (map f ks) ≡ flat_map f ks
 flat_map_map f [] = refl
 flat_map_map f (k ∷ ks) = ap (λ zs. f k ++ zs) (flat_map_map f ks)

@@ -6,10 +6,6 @@ use Rattle.cp_board.specs.declared.rewrite.Rewrite.{Rewrite}
 use Rattle.cp_board.specs.Rewrites.{rewritten}
 use Rattle.cp_board.specs.Rows as rows
 
--- the moves of some edges from one vertex to another
-abbrev moves_of : ℕ → ℕ → List ℕ → List EdgeMove
-moves_of from to es = map (λ e. record { edge = e; from = from; to = to }) es
-
 -- the rewrite of the Join: two vertices and a pipe go, eight vertices, four edges and four pipes come
 abbrev join_rewrite : Rewrite
 join_rewrite = record {

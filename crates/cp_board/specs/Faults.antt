@@ -39,7 +39,7 @@ edge_in_place i k = slice_index_or i.edges k record { name = 0; a = 0; b = 0 }
 abbrev pub pipe_in_place : Synchronized → ℕ → Pipe
 pipe_in_place i k = slice_index_or i.pipes k record { name = 0; a = 0; b = 0; pairs = [] }
 
--- the name at place k fits and is greater than the one before it
+-- the name at place k fits and is greater than all before it
 abbrev pub IsNextName : List ℕ → ℕ → Type 0
 IsNextName names k = (slice_index names k < 2 ^ 63) × All (λ n. n < slice_index names k) (take k names)
 

@@ -71,7 +71,7 @@ joined = record {
   pipes = pipe_1 ∷ pipe_2 ∷ pipe_3 ∷ pipe_4 ∷ [];
 }
 
--- after the Small at pipe 1, then at pipe 3, then at pipe 2
+-- after the Small at pipe 1
 abbrev pub second : Synchronized
 second = record {
   verts =

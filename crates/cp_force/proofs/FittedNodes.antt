@@ -329,29 +329,6 @@ module _ (place : ℕ → ℕ) where
     below = λ vars h. subst (AreBelow vars) (sym ties) tt;
   }
 
--- what a fitted node reads as a whole order by rising places
-pub whole_read : (place : ℕ → ℕ) (n : Node) (f : Fitted) (order : List ℕ) → IsFitted place n f → Rises place order
-    → f.word ≡ order → IsTiedReading n order f.ties
-whole_read place n f order fit rise e = record {
-  reads = λ may. (
-    λ r. (fit.only may order r rise).1,
-    λ l. subst (Reads may n) e (fit.reads may l),
-  );
-  below = fit.below;
-}
-
--- and a fitted row
-pub whole_row_read : (place : ℕ → ℕ) (ks : List Node) (turned : Bool) (f : Fitted) (order : List ℕ)
-    → IsFittedRow place ks turned f → Rises place order → f.word ≡ order → IsTiedRow ks order turned f.ties
-whole_row_read place ks turned f order fit rise e = record {
-  reads = λ may way. (
-    λ r. let h = fit.only may way order r rise in (h.0, h.2),
-    λ l. subst (λ w. ReadsAll may (in_direction w ks) order) (sym l.0)
-        (subst (ReadsAll may (in_direction turned ks)) e (fit.reads may l.1)),
-  );
-  below = fit.below;
-}
-
 -- a P-node that branches has two kids, which branch
 pub branching_kids_P : (owner : ℕ) (ks : List Node) → is_branching (P owner ks) ≡ true
     → (2 ≤ length ks) × (list_all is_branching ks ≡ true)

@@ -228,10 +228,6 @@ module _ (order : List ℕ) (var : ℕ) (tree : PQTree) (hole : Hole) (kids : Li
 
 module _ (order : List ℕ) (var : ℕ) (tree : PQTree) (hole : Hole) (kids : List Node) (v : ℕ)
     (o : IsOpened order var tree hole (record { kids = kids; var = Some v })) where
-  -- the kids are two or more
-  pub two_kids : 2 ≤ length kids
-  two_kids = o.opened.part_is.0
-
   -- the place is in the Q-node
   pub in_place : IsInQ v hole.frames
   in_place = o.opened.part_is.1

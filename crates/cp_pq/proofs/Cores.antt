@@ -23,6 +23,7 @@ use Rattle.cp_pq.proofs.Zips.{zip_keeps, zip_long}
 use Rattle.cp_pq.proofs.Runs.{given_turn}
 use Rattle.cp_pq.proofs.KeepingLaws.{Keeps_refl, Keeps_weaken, Keeps_trans, Keeps_append, Keeps_permuted, Keeps_grouped, Keeps_into_Q}
 use Rattle.cp_pq.proofs.TopP.{middle_done}
+use Rattle.cp_pq.proofs.WordLaws.{opposite_sym}
 
 -- the same ties, said in another way
 pub done_again : (q p : ℕ → Bool) (old : Bool) (y : ℕ) (L M : (ℕ → Bool → Bool) → Type 0) (n m : Node)
@@ -158,10 +159,6 @@ torn_ends fs gs f g h = let x = or_false (is_torn f) (list_any is_torn (fs ++ g 
     last (d ∷ es) e = last es (or_false (is_torn d) (list_any is_torn (es ++ g ∷ [])) e).1
 
 module _ (q p : ℕ → Bool) (opp : Opposite q p) (y o : ℕ) (ks outs ins : List Node) where
-  -- outside and inside are opposite the other way round too
-  opp_back : Opposite p q
-  opp_back x = elim (p x) as (λ b. q x ≡ not b → b ≡ not (q x)) [ true ↦ λ e. sym (ap (λ z. not z) e) | false ↦ λ e. sym (ap (λ z. not z) e) ] (opp x)
-
   -- a row of which two things were found has two nodes, each with its own
   two_given : (f g : Found) (ms : List Node) → AllZip (IsGiven q p) ms (f ∷ g ∷ [])
       → (k j : Node) × (ms ≡ k ∷ j ∷ []) × IsGiven q p k f × IsGiven q p j g
@@ -279,7 +276,7 @@ module _ (q p : ℕ → Bool) (opp : Opposite q p) (y o : ℕ) (ks outs ins : Li
       kept t =
           let ends = torn_ends (map Found.In (group_of o ins)) [] f (turn_found g) t in
           let k = one_keeps q p opp h.0 f h.3 ends.0 in
-          let j = one_keeps p q opp_back h.1 (turn_found g) (given_turn q p opp h.1 g h.4) ends.1 in
+          let j = one_keeps p q (opposite_sym q p opp) h.1 (turn_found g) (given_turn q p opp h.1 g h.4) ends.1 in
           let l1 = k.1 in let l2 = j.1 in
           let l3 = length-append (line_of f) (group_of o ins ++ line_of (turn_found g)) in
           let l4 = length-append (group_of o ins) (line_of (turn_found g)) in

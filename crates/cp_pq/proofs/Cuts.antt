@@ -225,21 +225,6 @@ add_remains before run after b r a b2 r2 a2 f left some m d none =
         )
     go [] [] [] e eb er ea entered out = absurd cc
 
--- the whole row is left at the start
-pub all_remains : (before run after : List Node) (fs : List Found) → IsCut fs before run after
-    → Remains before run after [] [] [] fs
-all_remains before run after fs c = record {
-  more_before = before;
-  more_run = run;
-  more_after = after;
-  left_is = c;
-  before_is = refl;
-  run_is = refl;
-  after_is = refl;
-  entered = λ n. absurd (n refl);
-  out = λ n. absurd (n refl);
-}
-
 -- where nothing is left the parts are whole
 pub none_remains : (before run after b r a : List Node) (left : List Found) → left ≡ []
     → Remains before run after b r a left

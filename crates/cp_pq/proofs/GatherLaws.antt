@@ -31,12 +31,6 @@ module _ (q p : ℕ → Bool) (opp : Opposite q p) (total : ℕ) where
     list_all-append (λ k. nat_lt (count_in p k) total) ks (k ∷ []) ∙ and_from _ _ g.2 (and_from _ _ (lt-ltb (count_in p k) total (subst (λ z. z < total) s.1 s.2)) refl),
   )
 
-  -- a row without a place, and a node with one, are a row with this place
-  pub open_root : (ks : List Node) (k : Node) (founds after : List Found) (count : ℕ) (place : Place) → after ≡ []
-      → IsGathered q p total ks (Row.Open founds count) → IsStep q p total k (Step.Root place)
-      → IsGathered q p total (ks ++ k ∷ []) (Row.Root founds place after)
-  open_root ks k founds after count place e g s = (ks, [], k, refl, g.0, subst (AllZip (IsGiven q p) []) (sym e) tt, s.0, s.1)
-
   -- a row with a place, and a node without one, are a row with this place
   pub root_open : (ks : List Node) (k : Node) (before after : List Found) (place : Place) (f : Found) (more : ℕ)
       → IsGathered q p total ks (Row.Root before place after) → IsStep q p total k (Step.Open f more)

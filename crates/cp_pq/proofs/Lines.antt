@@ -123,10 +123,6 @@ mixed_full true y h e = refl
 mixed_full false true h e = refl
 mixed_full false false h e = absurd (false≢true e)
 
--- a mixed kid is not outside
-mixed_not_out : (x y : Bool) → (not x && not y) ≡ true → not x ≡ true
-mixed_not_out x y h = (and_parts _ _ h).0
-
 -- in a row of clear kids outside, mixed ones and kids inside the three kinds are its three pieces
 pub kinds : (q p : ℕ → Bool) (a m b : List Node) → list_all (is_clear q p) (a ++ (m ++ b)) ≡ true
     → list_all (has_all q) a ≡ true → list_all (is_mixed q p) m ≡ true → list_all (has_all p) b ≡ true

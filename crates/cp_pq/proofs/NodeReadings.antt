@@ -63,7 +63,7 @@ mutual
   read_all_below m may wide w _ _ none h = none
   read_all_below m may wide w _ _ (more k ks xs ys a b) h = let g = and_parts (has_vars_below m k) (list_all (has_vars_below m) ks) h in more k ks xs ys (read_below m may wide w k xs a g.0) (read_all_below m may wide w ks ys b g.1)
 
--- vars below a number are below a greater one
+-- where all vars of the node are below m, they are below n
 abbrev Rises : ℕ → ℕ → Node → Type 0
 Rises m n k = has_vars_below m k ≡ true → has_vars_below n k ≡ true
 

@@ -14,7 +14,7 @@ use Rattle.cp_pq.specs.Founds.{IsGiven, is_out, is_in, is_torn, found_sorted, fo
 use Rattle.cp_pq.specs.Keeping.{any_bound, Keeps}
 use Rattle.cp_pq.specs.Grants.{Grant, Grants}
 use Rattle.cp_pq.proofs.Permutations.{IsPermutation-filter, filter_none}
-use Rattle.cp_pq.proofs.WordLaws.{together_front, together_start, together_whole, together_reverse, sorted_reverse}
+use Rattle.cp_pq.proofs.WordLaws.{opposite_sym, together_front, together_start, together_whole, together_reverse, sorted_reverse}
 use Rattle.cp_pq.proofs.ReadingLaws.{ReadsAll_cons, ReadsAll_one, Reads_P, Reads_Q}
 use Rattle.cp_pq.proofs.Mirrors.{like_reverse, like_again, mirror_all, mirror_row, turned_licence, licence_turned, ties_turned, turned_ties}
 use Rattle.cp_pq.proofs.Rows.{class_read, class_row, like_front, run_here, row_sorted_of}
@@ -58,10 +58,6 @@ module _ (q p : ℕ → Bool) (opp : Opposite q p) where
   zip_turn [] (f ∷ fs) z = absurd z
   zip_turn (k ∷ ks) [] z = absurd z
   zip_turn (k ∷ ks) (f ∷ fs) z = (given_turn k f z.0, zip_turn ks fs z.1)
-
-  -- outside and inside are opposite the other way round too
-  opp_turn : Opposite p q
-  opp_turn x = elim (p x) as (λ b. q x ≡ not b → b ≡ not (q x)) [ true ↦ λ e. sym (ap (λ z. not z) e) | false ↦ λ e. sym (ap (λ z. not z) e) ] (opp x)
 
   -- behind a first kid that meets the set, where two meet it, not all are outside
   pub met_rest : (k : Node) (ks : List Node) → has_all q k ≡ false → 2 ≤ length (filter (is_met q) (k ∷ ks))
@@ -110,7 +106,7 @@ module _ (q p : ℕ → Bool) (opp : Opposite q p) where
       → IsLike (together q p) (λ may. Grants may (f ∷ map turn_found fs)) (k ∷ ks) (flat_line (f ∷ map turn_found fs))
   turn_rest k ks f fs g out rest z h like =
       run_here q p (λ may. Grant may f) (λ may. Grants may (map turn_found fs)) k ks (line_of f) (flat_line (map turn_found fs)) out rest like
-      (zip_like p q opp_turn ks (map turn_found fs) (zip_turn ks fs z) (leaving_turned fs ∙ h))
+      (zip_like p q (opposite_sym q p opp) ks (map turn_found fs) (zip_turn ks fs z) (leaving_turned fs ∙ h))
 
   -- a row that the set runs through, by what its nodes are
   pub zip_run : (ks : List Node) (fs : List Found) → AllZip (IsGiven q p) ks fs → 2 ≤ length (filter (is_met q) ks)

@@ -37,16 +37,6 @@ module _ (q p : ℕ → Bool) (opp : Opposite q p) where
       → list_all (is_met q) ks ≡ true
   met_full ks c h = all_weaker (is_clear q p) (has_all p) (is_met q) (λ k x y. ap (λ z. not z) (clear_other q p k x y)) ks c h
 
-  -- kids that are clear of a set are clear of the other leaves
-  clear_turn : (ks : List Node) → list_all (is_clear q p) ks ≡ true → list_all (is_clear p q) ks ≡ true
-  clear_turn ks c = all_weaker (is_clear q p) (is_clear q p) (is_clear p q) (λ k x y. go (has_all q k) (has_all p k) x) ks c c
-    where
-      go : (x y : Bool) → not (x && y) ≡ true → not (y && x) ≡ true
-      go true true h = h
-      go true false h = refl
-      go false true h = refl
-      go false false h = refl
-
   -- the kids that meet the set stand side by side
   pub run_of : (may : ℕ → Bool → Bool) (ks : List Node) (xs : List ℕ) → list_all (is_clear q p) ks ≡ true
       → ReadsAll may ks xs → together q p xs ≡ true → Run q ks

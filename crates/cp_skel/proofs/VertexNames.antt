@@ -28,12 +28,6 @@ owner g (Node v) = home g v
 owner g (Child c) = parent g c
 owner g (Outside c) = c
 
--- there are three kinds
-kind-lt : (p : Vertex) → kind p < 3
-kind-lt (Node v) = omega arith
-kind-lt (Child c) = omega arith
-kind-lt (Outside c) = omega arith
-
 -- x is the number of a vertex in the skeleton of cluster c
 record IsOwned (g : Clustered) (c x : ℕ) : Type 0 where
   pub vertex : Vertex

@@ -86,7 +86,7 @@ two_each-second f (e ∷ es) (suc k) lt =
     ap (slice_index (two_each f (e ∷ es))) (let h : 2 * suc k + 1 ≡ suc (suc (2 * k + 1)) = omega arith in h)
     ∙ two_each-second f es k (omega (arith, lt))
 
--- the second bit of a dart
+-- the last bit of a dart is below 2
 bit_less : (b : Bool) → cond b 0 1 < 2
 bit_less true = omega arith
 bit_less false = omega arith
@@ -174,7 +174,7 @@ module _
   list_once n c = IsDistinct-IsPermutation eqb eqb_comm (edges_at g n) (s n) (arranged_at n c)
       (IsDistinct-rising (edges_at g n) (IsStrictlyIncreasing-filter (ends_at g n) g.edges edges_rise))
 
-  -- each number below the number of darts is twice a place, or one more
+  -- each number is twice its half, or one more
   halves : (x : ℕ) → (x ≡ 2 * (x / 2)) ⊎ (x ≡ 2 * (x / 2) + 1)
   halves x = ⊎_elim (λ (l : 2 * (x / 2) < x). inr (omega arith)) (λ (h : x ≤ 2 * (x / 2)). inl (omega arith)) (cases_lt (2 * (x / 2)) x)
 
