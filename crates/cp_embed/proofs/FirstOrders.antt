@@ -140,7 +140,7 @@ module _ (block : ListedGraph) (well : IsListedBlock block) (order later : List 
       first-no_P new forced new_formed = forced-no_P row s star new forced new_formed lacks size pair
         where
           -- the edges of the star
-          abbrev rest : List ℕ
+          rest : List ℕ
           rest = but root (edges_at ends s)
 
           row_is : IsArrangementOf row rest

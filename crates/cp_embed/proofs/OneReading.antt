@@ -170,7 +170,7 @@ forced-no_P row var old new forced formed lacks size pair o ks h =
     pair.2.word pair.2.reads one
   where
     -- the row in the direction of the bit
-    abbrev there : List ℕ
+    there : List ℕ
     there = in_direction (bit_of pair.1 var) row
 
     there_lacks : (b : Bool) → Lacks old.root (in_direction b row)

@@ -9,7 +9,7 @@ use Rattle.cp_pq.specs.declared.node.Node.{Node}
 use Rattle.cp_pq.specs.declared.node.Node.TheOpen.{Node-F}
 use Rattle.cp_pq.specs.declared.node.Node.TheViews.{roll-Node}
 use Rattle.cp_pq.specs.declared.node.Node.TheFolds.{map-Node, ind-Node}
-use Rattle.cp_pq.specs.declared.node.Node.TheVariants.{Leaf, P, Q, rolls-Leaf, rolls-P, rolls-Q}
+use Rattle.cp_pq.specs.declared.node.Node.TheVariants.{Q, rolls-Leaf, rolls-P, rolls-Q}
 use Rattle.cp_pq.specs.Nodes.{has_vars_below}
 use Rattle.cp_pq.specs.Readings.{Reads, ReadsAll, leaf, any_order, forward, backward, none, more}
 use Rattle.cp_pq.proofs.NodeTests.{below_P, below_Q}

@@ -7,7 +7,7 @@ use Rattle.std.proofs.lemmas.List.Sorted.{IsPermutation-trans}
 use Rattle.cp_lists.specs.CyclicLists.{Has, Distinct}
 use Rattle.cp_lists.proofs.DistinctLists.{Has-append_cases, Distinct-append_left}
 use Rattle.cp_pq.specs.declared.node.Node.{Node}
-use Rattle.cp_pq.specs.declared.node.Node.TheVariants.{P, Q}
+use Rattle.cp_pq.specs.declared.node.Node.TheVariants.{Q}
 use Rattle.cp_pq.specs.declared.found.Found.{Found}
 use Rattle.cp_pq.specs.declared.frame.Label.{Label}
 use Rattle.cp_pq.specs.declared.frame.Frame.{Frame}
