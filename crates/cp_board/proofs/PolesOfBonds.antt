@@ -173,8 +173,12 @@ two_allowed = (
 
 -- the new pipe is 2 from 2 to 3
 two_after : After two_pipes
-    (FusePoles 0 0 1) record { verts = one_pipe.verts; edges = one_pipe.edges; pipes = pipe 2 2 3
-    ((4, 4) ∷ (5, 5) ∷ (6, 6) ∷ (7, 7) ∷ []) ∷ [] }
+    (FusePoles 0 0 1) record {
+      verts = one_pipe.verts;
+      edges = one_pipe.edges;
+      pipes = pipe 2 2 3
+          ((4, 4) ∷ (5, 5) ∷ (6, 6) ∷ (7, 7) ∷ []) ∷ [];
+    }
 two_after = (
   pipe 0 0 2 across,
   refl,

@@ -166,8 +166,14 @@ module _ (block : ListedGraph) (well : IsListedBlock block) (order later : List 
               let bits : List Bool = replicate n false in
               let there : List ℕ = in_direction (bit_of bits s) row in
               let more = forced.keeps (root ∷ there) bits
-              ((is.pairs (root ∷ there) bits).1 (length-replicate n false, (there, refl,
-              (IsPermutation-arranges rest there star-distinct.1).1 (directed_is (bit_of bits s)))))
+              ((is.pairs (root ∷ there) bits).1 (
+                length-replicate n false,
+                (
+                  there,
+                  refl,
+                  (IsPermutation-arranges rest there star-distinct.1).1 (directed_is (bit_of bits s)),
+                ),
+              ))
               (root ∷ [], [], ap (λ us. root ∷ us) (sym (append-nil there))) in
               (root ∷ there, bits ++ more.0, more.1)
 

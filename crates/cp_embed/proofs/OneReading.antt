@@ -59,19 +59,34 @@ kid_exchange : (may : ℕ → Bool → Bool) (n : Node) (kids : List Node) → A
 kid_exchange may n kids inner k h w r = ⊎_elim
     (λ o.
     let z = Reads_P may o.0 kids w (subst (λ m. Reads may m w) o.1 r) in
-    let e = row_exchange may z.0 w z.2 k (kid-permuted k kids z.0 z.1 h) in
-    (e.0, e.1, e.2, e.3, λ t s. subst (λ m. Reads may m (e.0 ++ (t ++ e.2))) (sym o.1)
-    (any_order o.0 kids z.0 (e.0 ++ (t ++ e.2)) z.1 (e.4 t s))))
+    let e = row_exchange may z.0 w z.2 k (kid-permuted k kids z.0 z.1 h) in (
+      e.0,
+      e.1,
+      e.2,
+      e.3,
+      λ t s. subst (λ m. Reads may m (e.0 ++ (t ++ e.2))) (sym o.1)
+          (any_order o.0 kids z.0 (e.0 ++ (t ++ e.2)) z.1 (e.4 t s)),
+    ))
     (λ v. ⊎_elim
     (λ f.
-    let e = row_exchange may kids w f.1 k h in
-    (e.0, e.1, e.2, e.3, λ t s. subst (λ m. Reads may m (e.0 ++ (t ++ e.2))) (sym v.1)
-    (forward v.0 kids (e.0 ++ (t ++ e.2)) f.0 (e.4 t s))))
+    let e = row_exchange may kids w f.1 k h in (
+      e.0,
+      e.1,
+      e.2,
+      e.3,
+      λ t s. subst (λ m. Reads may m (e.0 ++ (t ++ e.2))) (sym v.1)
+          (forward v.0 kids (e.0 ++ (t ++ e.2)) f.0 (e.4 t s)),
+    ))
     (λ b.
     let e = row_exchange may (reverse kids) w b.1 k (kid-permuted k kids (reverse kids) (IsPermutation-reverse kids) h)
-    in
-    (e.0, e.1, e.2, e.3, λ t s. subst (λ m. Reads may m (e.0 ++ (t ++ e.2))) (sym v.1)
-    (backward v.0 kids (e.0 ++ (t ++ e.2)) b.0 (e.4 t s))))
+    in (
+      e.0,
+      e.1,
+      e.2,
+      e.3,
+      λ t s. subst (λ m. Reads may m (e.0 ++ (t ++ e.2))) (sym v.1)
+          (backward v.0 kids (e.0 ++ (t ++ e.2)) b.0 (e.4 t s)),
+    ))
     (Reads_Q may v.0 kids w (subst (λ m. Reads may m w) v.1 r)))
     inner
 
