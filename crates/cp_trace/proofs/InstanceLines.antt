@@ -20,7 +20,7 @@ head_byte ([] ∷ lines) = 0
 head_byte ((byte ∷ bytes) ∷ lines) = byte
 
 -- the first of some lines
-abbrev first_line : List (List ℕ) → List ℕ
+abbrev pub first_line : List (List ℕ) → List ℕ
 first_line [] = []
 first_line (line ∷ lines) = line
 

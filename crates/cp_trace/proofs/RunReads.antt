@@ -15,7 +15,7 @@ abbrev Same : ℕ → ℕ → Type 0
 Same a b = a ≡ b
 
 -- no line of a reduction is left where an instance comes
-no_step_left : (more : List Step) (i : Synchronized) (x y : List (List ℕ))
+pub no_step_left : (more : List Step) (i : Synchronized) (x y : List (List ℕ))
     → map step_line more ++ x ≡ instance_lines i ++ y → (more ≡ []) × (x ≡ instance_lines i ++ y)
 no_step_left [] i x y h = (refl, h)
 no_step_left (m ∷ more) i x y h =
