@@ -10,26 +10,10 @@ use Rattle.cp_trace.specs.Faults.{AreAllowed, AreSmall, IsDraft, IsToldInstance,
 use Rattle.cp_trace.specs.Reading.{GoesNoFurther, StopsInInstance}
 use Rattle.cp_trace.specs.Texts.{end_line, instance_lines, step_line, text_of, trace_lines}
 use Rattle.cp_trace.specs.Traces.{reason_numbers}
-use Rattle.cp_trace.proofs.InstanceLines.{first_line, head_byte, instance_with, lines_after}
+use Rattle.cp_trace.proofs.InstanceLines.{Same, first_line, head_byte, lines_after, nothing, nothing_told}
 use Rattle.cp_trace.proofs.RunLines.{head_of_step, instance_same, steps_compare, trace_grouped}
 use Rattle.cp_trace.proofs.RunReads.{no_step_left}
 use Rattle.cp_trace.proofs.ToldLists.{all_push}
-
--- two bytes are the same
-abbrev Same : ℕ → ℕ → Type 0
-Same a b = a ≡ b
-
--- the instance without parts
-abbrev pub nothing : Synchronized
-nothing = instance_with [] [] []
-
--- its lines are right
-pub nothing_told : IsToldInstance nothing
-nothing_told = record {
-  verts = record { rise = λ k lt. absurd (omega (arith, lt)); told = tt };
-  edges = record { rise = λ k lt. absurd (omega (arith, lt)); told = tt };
-  pipes = record { rise = λ k lt. absurd (omega (arith, lt)); told = tt };
-}
 
 -- the run between these instances by these steps, with this end
 abbrev pub run_with : Synchronized → List Step → Synchronized → Option Reason → Trace

@@ -1,5 +1,5 @@
 -- Which line of bytes that are no run is at fault.
-use Rattle.std.proofs.Common.{◌≡◌, ℕ, suc, Bool, true, eqb, codes, List, [], ◌∷◌, ◌++◌, length, map, refl, sym, ap, ◌∙◌, subst, arith, append_assoc, length-append}
+use Rattle.std.proofs.Common.{◌≡◌, ℕ, Bool, true, eqb, codes, List, [], ◌∷◌, ◌++◌, length, map, refl, sym, ap, ◌∙◌, subst, arith, append_assoc, length-append}
 use Rattle.std.specs.Prelude.{Option, None}
 use Rattle.std.specs.List.{AllByRecursion}
 use Rattle.std.proofs.lemmas.Bool.{eqb-true}
@@ -13,20 +13,16 @@ use Rattle.cp_trace.specs.Reading.{AreLines, GoesNoFurther, StopsInInstance, Sto
 use Rattle.cp_trace.specs.Texts.{end_line, instance_lines, step_line, text_of, trace_lines, trace_text}
 use Rattle.cp_trace.specs.Traces.{IsTextOf, IsTrace, reason_numbers}
 use Rattle.cp_trace.proofs.DraftLines.{draft_free, draft_trace, trace_begins, trace_draft}
-use Rattle.cp_trace.proofs.InstanceLines.{text-append}
+use Rattle.cp_trace.proofs.InstanceLines.{nothing, nothing_told, text-append}
 use Rattle.cp_trace.proofs.KeptTold.{kept_told}
 use Rattle.cp_trace.proofs.RunLines.{trace_grouped}
 use Rattle.cp_trace.proofs.RunReads.{prefix_free, text_compare}
-use Rattle.cp_trace.proofs.RunStops.{headed, lines_with, lines_with-append, no_line_yet, nothing, nothing_told, only_end, only_heading, only_last, run_with, stops_in_first, stops_in_last, text_headed}
+use Rattle.cp_trace.proofs.RunStops.{headed, lines_with, lines_with-append, no_line_yet, only_end, only_heading, only_last, run_with, stops_in_first, stops_in_last, text_headed}
 use Rattle.cp_trace.proofs.ToldLists.{all_front}
 
 -- a list that is found empty has no item
 pub emptied : (b : Bool) (xs : List ℕ) → b ≡ eqb (length xs) 0 → b ≡ true → xs ≡ []
 emptied b xs is holds = nil_from_length xs (eqb-true (length xs) 0 (sym is ∙ holds))
-
--- two numbers are the same
-abbrev Same : ℕ → ℕ → Type 0
-Same a b = a ≡ b
 
 -- no line may stand behind those lines
 abbrev NoneFollows : List (List ℕ) → List ℕ → Type 0
@@ -53,7 +49,7 @@ module _ (bytes rest : List ℕ) (before : List (List ℕ)) (front : bytes ≡ t
       by_more [] same text =
           let none_due : due ∷ later ≡ [] = prefix_free t s (due ∷ later) told draft
           (lines ∙ ap (λ ls. ls ++ due ∷ later) (sym (same ∙ append-nil before))) in
-          absurd (let f : Same (suc (length later)) 0 = ap (length {A = List ℕ}) none_due in omega (arith, f))
+          absurd (omega (arith, ap (length {A = List ℕ}) none_due))
       by_more (m ∷ more) same text =
           none m (text_of more) (text ∙ append_assoc m (10 ∷ []) (text_of more))
           (s, trace_begins s (before ++ m ∷ []) more is.trace (same ∙ sym (append_assoc before (m ∷ []) more)))

@@ -12,16 +12,12 @@ use Rattle.cp_trace.specs.Texts.{instance_lines, step_line, text_of, trace_lines
 use Rattle.cp_trace.specs.Traces.{IsTextOf}
 use Rattle.cp_trace.proofs.CutLemmas.{cut_unique}
 use Rattle.cp_trace.proofs.DraftLines.{draft_free, trace_draft}
-use Rattle.cp_trace.proofs.InstanceLines.{first_line, lines_after, text-append}
+use Rattle.cp_trace.proofs.InstanceLines.{Same, first_line, lines_after, text-append}
 use Rattle.cp_trace.proofs.RunLines.{head_of_step, instance_same, rows_same, trace_grouped}
 use Rattle.cp_trace.proofs.RunReads.{text_compare}
 use Rattle.cp_trace.proofs.RunStops.{no_line_yet, run_with, text_headed}
 use Rattle.cp_trace.proofs.StepSame.{end_same, step_same}
 use Rattle.cp_trace.proofs.ToldLists.{all_at, all_front}
-
--- two bytes are the same
-abbrev Same : ℕ → ℕ → Type 0
-Same a b = a ≡ b
 
 -- runs of the same parts are the same
 parts_same : (t s : Trace) → t.first ≡ s.first → t.steps ≡ s.steps → t.last ≡ s.last → t.solved ≡ s.solved → t ≡ s

@@ -331,12 +331,30 @@ const FAULTS: [(&str, usize); 14] = [
     ("cplan-trace 1\ninstance\nvertex 0 Q 0: 2 1\n", 3),
     ("cplan-trace 1\ninstance\nvertex 9223372036854775808 P\n", 3),
     ("cplan-trace 1\ninstance\npipe 0 0 1: 1/0 1/1\n", 3),
-    ("cplan-trace 1\ninstance\nvertex 0 P\nedge 0 0 0\ninstance end\n", 5),
-    ("cplan-trace 1\ninstance\ninstance end\nstep small 0\nstep small 00\n", 5),
-    ("cplan-trace 1\ninstance\ninstance end\ninstance\ninstance end\nfailed\n", 6),
-    ("cplan-trace 1\ninstance\ninstance end\ninstance\ninstance end\nsolved\n", 7),
-    ("cplan-trace 1\ninstance\ninstance end\ninstance\ninstance end\nsolved\nend", 7),
-    ("cplan-trace 1\ninstance\ninstance end\ninstance\ninstance end\nsolved\nend\n\n", 8),
+    (
+        "cplan-trace 1\ninstance\nvertex 0 P\nedge 0 0 0\ninstance end\n",
+        5,
+    ),
+    (
+        "cplan-trace 1\ninstance\ninstance end\nstep small 0\nstep small 00\n",
+        5,
+    ),
+    (
+        "cplan-trace 1\ninstance\ninstance end\ninstance\ninstance end\nfailed\n",
+        6,
+    ),
+    (
+        "cplan-trace 1\ninstance\ninstance end\ninstance\ninstance end\nsolved\n",
+        7,
+    ),
+    (
+        "cplan-trace 1\ninstance\ninstance end\ninstance\ninstance end\nsolved\nend",
+        7,
+    ),
+    (
+        "cplan-trace 1\ninstance\ninstance end\ninstance\ninstance end\nsolved\nend\n\n",
+        8,
+    ),
 ];
 
 #[test]
