@@ -50,7 +50,7 @@ no_reason line planar cycles cross conflict (BlocksCross vertex) small h =
 no_reason line planar cycles cross conflict Conflict small h = conflict (ap words h ∙ words-reason_line Conflict small)
 
 -- no line feed stands in the line of a reason
-reason_line_free : (r : Reason) → AreSmall (reason_numbers (Some r)) → Lacks 10 (reason_line r)
+pub reason_line_free : (r : Reason) → AreSmall (reason_numbers (Some r)) → Lacks 10 (reason_line r)
 reason_line_free (NotPlanar edge) small = keyed_free (codes "failed not-planar") (edge ∷ []) refl small
 reason_line_free (CyclesDiffer a b) small = keyed_free (codes "failed cycles") (a ∷ b ∷ []) refl small
 reason_line_free (BlocksCross vertex) small = keyed_free (codes "failed cross") (vertex ∷ []) refl small

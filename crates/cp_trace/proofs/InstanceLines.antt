@@ -20,7 +20,7 @@ head_byte ([] ∷ lines) = 0
 head_byte ((byte ∷ bytes) ∷ lines) = byte
 
 -- the first of some lines
-abbrev first_line : List (List ℕ) → List ℕ
+abbrev pub first_line : List (List ℕ) → List ℕ
 first_line [] = []
 first_line (line ∷ lines) = line
 
@@ -29,8 +29,8 @@ abbrev pub lines_after : List (List ℕ) → List (List ℕ)
 lines_after [] = []
 lines_after (line ∷ lines) = lines
 
--- two bytes are the same
-abbrev Same : ℕ → ℕ → Type 0
+-- two numbers are the same
+abbrev pub Same : ℕ → ℕ → Type 0
 Same a b = a ≡ b
 
 -- two rows of lines of one kind, each told by its first byte, of which the first one ends: it goes on behind the second
@@ -65,6 +65,18 @@ end_lines behind = codes "instance end" ∷ behind
 -- an instance of these parts
 abbrev pub instance_with : List Vert → List EdgeRow → List Pipe → Synchronized
 instance_with vs es ps = record { verts = vs; edges = es; pipes = ps }
+
+-- the instance without parts
+abbrev pub nothing : Synchronized
+nothing = instance_with [] [] []
+
+-- its lines are right
+pub nothing_told : IsToldInstance nothing
+nothing_told = record {
+  verts = record { rise = λ k lt. absurd (omega (arith, lt)); told = tt };
+  edges = record { rise = λ k lt. absurd (omega (arith, lt)); told = tt };
+  pipes = record { rise = λ k lt. absurd (omega (arith, lt)); told = tt };
+}
 
 -- the last line is none of pipes
 pub end_not_pipe : (behind : List (List ℕ)) → head_byte (end_lines behind) ≢ 112
@@ -215,13 +227,9 @@ no_first_line bytes none = record {
   before = [];
   next = codes "instance";
   later = codes "instance end" ∷ [];
-  part = instance_with [] [] [];
+  part = nothing;
   front = refl;
-  told = record {
-    verts = record { rise = λ k lt. absurd (omega (arith, lt)); told = tt };
-    edges = record { rise = λ k lt. absurd (omega (arith, lt)); told = tt };
-    pipes = record { rise = λ k lt. absurd (omega (arith, lt)); told = tt };
-  };
+  told = nothing_told;
   begun = refl;
   stops = λ i line after behind more told cut h rules. none after (cut ∙ ap (λ t. t ++ 10 ∷ after) (sym (ap
       first_line h)));

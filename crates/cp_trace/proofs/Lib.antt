@@ -23,3 +23,9 @@ mod RunLines
 mod RunReads
 mod EndLines
 mod FeedFree
+mod DraftLines
+mod StepSame
+mod RunStops
+mod TraceFaults
+mod TraceLaws
+mod FeedCounts

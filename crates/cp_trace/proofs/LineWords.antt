@@ -41,7 +41,7 @@ module _ (c : ℕ) (low : c < 47) where
       ((λ e. omega (arith, low, e)), number_free pair.1 small.1)
 
   -- nor in spellings
-  all_free : {A : Type 0} (spelled : A → List ℕ) (Small : A → Type 0) → ((x : A) → Small x → Lacks c (spelled x))
+  pub all_free : {A : Type 0} (spelled : A → List ℕ) (Small : A → Type 0) → ((x : A) → Small x → Lacks c (spelled x))
       → (xs : List A) → AllByRecursion Small xs → AllByRecursion (Lacks c) (map spelled xs)
   all_free spelled Small free [] small = tt
   all_free spelled Small free (x ∷ xs) small = (free x small.0, all_free spelled Small free xs small.1)

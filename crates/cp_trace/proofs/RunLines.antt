@@ -39,7 +39,7 @@ nothing_more spell byte head (m ∷ more) x y ends h =
     absurd (ends (ap head_byte (sym h) ∙ head m (map spell more ++ x)))
 
 -- where both rows end they are the same
-rows_same : {A : Type 0} (spell : A → List ℕ) (Told : A → Type 0) (byte : ℕ)
+pub rows_same : {A : Type 0} (spell : A → List ℕ) (Told : A → Type 0) (byte : ℕ)
     → ((x : A) (lines : List (List ℕ)) → head_byte (spell x ∷ lines) ≡ byte)
     → ((x y : A) → Told x → Told y → spell x ≡ spell y → x ≡ y)
     → (xs ys : List A) (x y : List (List ℕ)) → AllByRecursion Told xs → AllByRecursion Told ys → head_byte x ≢ byte

@@ -7,15 +7,11 @@ use Rattle.cp_trace.specs.declared.trace.Trace.{Trace}
 use Rattle.cp_trace.specs.Faults.{IsDraft, IsLine, lines_behind_first, lines_behind_last}
 use Rattle.cp_trace.specs.Texts.{instance_lines, step_line, text_of, trace_lines}
 use Rattle.cp_trace.proofs.CutLemmas.{cut_unique}
-use Rattle.cp_trace.proofs.InstanceLines.{head_byte, lines_after}
+use Rattle.cp_trace.proofs.InstanceLines.{Same, head_byte, lines_after}
 use Rattle.cp_trace.proofs.RunLines.{head_of_step, instance_same, steps_compare, trace_grouped}
 
--- two bytes are the same
-abbrev Same : ℕ → ℕ → Type 0
-Same a b = a ≡ b
-
 -- no line of a reduction is left where an instance comes
-no_step_left : (more : List Step) (i : Synchronized) (x y : List (List ℕ))
+pub no_step_left : (more : List Step) (i : Synchronized) (x y : List (List ℕ))
     → map step_line more ++ x ≡ instance_lines i ++ y → (more ≡ []) × (x ≡ instance_lines i ++ y)
 no_step_left [] i x y h = (refl, h)
 no_step_left (m ∷ more) i x y h =

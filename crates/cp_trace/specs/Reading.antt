@@ -1,6 +1,6 @@
 -- What the parts of the reader say of words, numbers and lines.
-use Rattle.std.specs.Prelude.{◌≡◌, ◌≢◌, ℕ, ◌<◌, ◌≤◌, ◌==◌, codes, List, [], ◌∷◌, ◌++◌, length, map, Option, Some, None}
-use Rattle.std.specs.List.{AllByRecursion, slice_split}
+use Rattle.std.specs.Prelude.{◌≡◌, ◌≢◌, ℕ, ◌+◌, ◌<◌, ◌≤◌, ◌==◌, codes, List, [], ◌∷◌, ◌++◌, length, map, Option, Some, None}
+use Rattle.std.specs.List.{AllByRecursion, count_by, slice_split}
 use Rattle.std.specs.Fmt.{decimal}
 use Rattle.cp_board.specs.declared.parts.Kind.{Kind}
 use Rattle.cp_board.specs.declared.parts.Kind.TheVariants.{P, Q}
@@ -8,7 +8,7 @@ use Rattle.cp_board.specs.declared.parts.Vert.{Vert}
 use Rattle.cp_board.specs.declared.parts.EdgeRow.{EdgeRow}
 use Rattle.cp_board.specs.declared.parts.Pipe.{Pipe}
 use Rattle.cp_board.specs.Instances.{Synchronized, IsSynchronized}
-use Rattle.cp_trace.specs.Faults.{AreToldEdges, AreToldPipes, AreToldVerts, IsToldInstance}
+use Rattle.cp_trace.specs.Faults.{AreToldEdges, AreToldPipes, AreToldVerts, IsFaultAt, IsLine, IsToldInstance}
 use Rattle.cp_trace.specs.Texts.{edge_line, instance_lines, pipe_line, text_of, vert_line}
 
 -- the byte stands nowhere
@@ -96,3 +96,14 @@ pub record StopsInInstance (text rest : List ℕ) : Type 0 where
   pub stops : (i : Synchronized) (line after : List ℕ) (behind more : List (List ℕ)) → IsToldInstance i
       → rest ≡ line ++ 10 ∷ after → instance_lines i ++ behind ≡ before ++ line ∷ more
       → (length more ≤ length behind → IsSynchronized i) → ⊥
+
+-- how many lines end in the bytes
+abbrev pub feeds : List ℕ → ℕ
+feeds bytes = count_by (λ byte. byte == 10) bytes
+
+-- the bytes are some whole lines and the rest, and the line that begins there is at fault
+pub record StopsInRun (bytes rest : List ℕ) : Type 0 where
+  pub before : List (List ℕ)
+  pub whole : AllByRecursion IsLine before
+  pub front : bytes ≡ text_of before ++ rest
+  pub fault : IsFaultAt bytes (length before + 1)

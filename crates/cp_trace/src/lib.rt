@@ -2,8 +2,10 @@
 #![tactic(auto)]
 
 mod fault;
+mod laws;
 mod named_parts;
 mod numbers;
+mod read;
 mod read_body;
 mod read_end;
 mod read_instance;
@@ -18,6 +20,8 @@ mod word;
 mod write;
 
 pub use fault::TraceFault;
+pub use laws::one_run;
+pub use read::read_trace;
 pub use trace::Trace;
 pub use write::write_trace;
 

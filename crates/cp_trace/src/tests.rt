@@ -2,7 +2,7 @@
 use crate::read_instance::read_instance;
 use crate::read_steps::step_of;
 use crate::write::{push_body, push_instance, push_reason, push_step};
-use crate::write_trace;
+use crate::{TraceFault, one_run, read_trace, write_trace};
 use cp_base::{Branch, Branches, CycList, Items, Memory};
 use cp_board::{EdgeRow, EdgeRows, Kind, Pairs, Pipe, Pipes, Reason, Step, Vert, Verts};
 use cp_sync::{Instance, Outcome, PartsFault, Solution};
@@ -290,6 +290,78 @@ fn steps_are_read_back(rt: HostRuntime) -> Result<(), Fail> {
         "step join 1 ",
     ] {
         assert!(rt; step_of(rt.alloc(), line.as_bytes())?.is_none(), "{line}");
+    }
+    Ok(())
+}
+
+// Writes the run that the text tells.
+fn again(alloc: Global, text: &str) -> Result<Vec<u8>, TraceFault> {
+    let trace = read_trace(alloc, text.as_bytes())?;
+    let outcome = match trace.solved {
+        None => Outcome::Solved(Solution::new(alloc)),
+        Some(reason) => Outcome::Failed(reason),
+    };
+    Ok(write_trace(
+        alloc,
+        &trace.first,
+        trace.steps.items(),
+        &trace.last,
+        &outcome,
+    )?)
+}
+
+#[test]
+fn the_worked_run_is_read_back(rt: HostRuntime) -> Result<(), Fail> {
+    let trace = read_trace(rt.alloc(), WORKED.as_bytes())?;
+    assert_eq!(rt; trace.steps.len(), 5);
+    assert!(rt; trace.solved.is_none());
+    let text = again(rt.alloc(), WORKED)?;
+    assert_eq!(rt; text.as_slice(), WORKED.as_bytes());
+    one_run();
+    Ok(())
+}
+
+// Texts of no run, and the line at fault.
+const FAULTS: [(&str, usize); 14] = [
+    ("", 1),
+    ("cplan-trace 2\n", 1),
+    ("cplan-trace 1", 1),
+    ("cplan-trace 1\n", 2),
+    ("cplan-trace 1\ninstance\nvertex 1 P\nvertex 0 P\n", 4),
+    ("cplan-trace 1\ninstance\nvertex 0 Q 0: 2 1\n", 3),
+    ("cplan-trace 1\ninstance\nvertex 9223372036854775808 P\n", 3),
+    ("cplan-trace 1\ninstance\npipe 0 0 1: 1/0 1/1\n", 3),
+    (
+        "cplan-trace 1\ninstance\nvertex 0 P\nedge 0 0 0\ninstance end\n",
+        5,
+    ),
+    (
+        "cplan-trace 1\ninstance\ninstance end\nstep small 0\nstep small 00\n",
+        5,
+    ),
+    (
+        "cplan-trace 1\ninstance\ninstance end\ninstance\ninstance end\nfailed\n",
+        6,
+    ),
+    (
+        "cplan-trace 1\ninstance\ninstance end\ninstance\ninstance end\nsolved\n",
+        7,
+    ),
+    (
+        "cplan-trace 1\ninstance\ninstance end\ninstance\ninstance end\nsolved\nend",
+        7,
+    ),
+    (
+        "cplan-trace 1\ninstance\ninstance end\ninstance\ninstance end\nsolved\nend\n\n",
+        8,
+    ),
+];
+
+#[test]
+fn the_line_at_fault_is_told(rt: HostRuntime) -> Result<(), Fail> {
+    for (text, line) in FAULTS {
+        let fault = read_trace(rt.alloc(), text.as_bytes()).err();
+        assert_eq!(rt; fault, Some(TraceFault::Bad { line }), "{text}");
     }
     Ok(())
 }
