@@ -19,3 +19,4 @@ mod PartSteps
 mod JoinRewrites
 mod JoinedPipes
 mod NewPartings
+mod CutParts
