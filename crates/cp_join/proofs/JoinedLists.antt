@@ -1,22 +1,26 @@
--- Join on maps of darts, from a solution before to one after: what it makes of a flat map is flat in both its parts.
-use Rattle.std.proofs.Common.{◌≡◌, ◌≢◌, ℕ, ◌*◌, ◌/◌, ◌<◌, List, [], ◌∷◌, ◌++◌, map, sym, refl, ap, ◌∙◌, subst, inl, inr}
+-- Join on maps of darts: what it makes of a flat map is flat in both its parts, and the other way round.
+use Rattle.std.proofs.Common.{◌≡◌, ◌≢◌, ◌⊎◌, ℕ, ◌*◌, ◌/◌, ◌<◌, List, [], ◌∷◌, ◌++◌, map, sym, refl, ap, ◌∙◌, subst, inl, inr, ⊎_elim}
 use Rattle.std.specs.List.{Contains}
 use Rattle.cp_lists.specs.Crossings.{NoCross}
 use Rattle.cp_lists.specs.CyclicLists.{Distinct, Has, Lacks}
 use Rattle.cp_lists.specs.Rows.{flat}
+use Rattle.cp_lists.proofs.DistinctLists.{Distinct-apart, Has-append_left, has_lacks}
 use Rattle.cp_orbits.proofs.Twins.{half_twin}
 use Rattle.cp_faces.specs.Twins.{twin}
+use Rattle.cp_faces.proofs.Twins.{twin-twin}
 use Rattle.cp_conn.specs.NamedGraphs.{NamedGraph, edges_at}
 use Rattle.cp_maps.specs.Genus.{CanBeFlat, IsFlat}
 use Rattle.cp_maps.specs.Maps.{IsMapOf}
 use Rattle.cp_maps.specs.Mirrors.{mirror}
+use Rattle.cp_maps.proofs.ListFacts.{below_item}
 use Rattle.cp_maplaw.specs.NamedDarts.{AreDartsOf, IsArrangedBy, dart_list}
 use Rattle.cp_maplaw.proofs.NamedRests.{dart_edge}
-use Rattle.cp_mergelaw.specs.Sides.{EachList}
-use Rattle.cp_join.proofs.CopiesApart.{HasOneValue, HaveOtherValues-AllApart, divided_ends-IsFlat}
-use Rattle.cp_join.proofs.InnerMaps.{inner-CanBeFlat}
+use Rattle.cp_mergelaw.specs.Sides.{AreSides, EachList, IsMergeOf, IsMergedSide, RestrictsTo}
+use Rattle.cp_join.proofs.CopiesApart.{HasOneValue, HaveOtherValues, HaveOtherValues-AllApart, assembled_ends-CanBeFlat, divided_ends-IsFlat}
+use Rattle.cp_join.proofs.InnerMaps.{inner-CanBeFlat, mirror-Has, mirror-IsMergeOf}
 use Rattle.cp_join.proofs.PartCopies.{TellsParts, copies-AreCopiesOf, copies-Distinct, copies-HasOneValue, copies-HaveOtherValues, copies-IsMergeOf, copy-Has, Has-copies, part_copies}
 use Rattle.cp_join.proofs.PartValues.{part_value, part_value-at}
+use Rattle.cp_join.proofs.UncrossedValues.{IsMergeOf-NoCross}
 
 -- a property of each list of two rows is one of both rows
 pub EachList-append : (good : List ℕ → Type 0) (rows others : List (List ℕ)) → EachList good rows → EachList good others
@@ -43,6 +47,42 @@ inner_parts-CanBeFlat e hats key_a key_b value_a value_b parts_a parts_b once lo
     (copies-Distinct key_b (mirror hats) value_b parts_b tells_b once_mirror)
     (λ d h. Has-copies key_a hats parts_a d h (each_a d h))
     (λ d h. Has-copies key_b (mirror hats) parts_b d h (each_b d h))
+
+-- the order of the new edges: the inner vertices of the one end keep it, those of the other end its mirror, and neither
+-- their parts at the one end cross in it nor those at the other end in its mirror
+pub record IsHatOrder (value_a value_b : ℕ → ℕ) (inner_a inner_b : List (List ℕ)) (hats : List ℕ) : Type 0 where
+  pub kept_a : EachList (RestrictsTo hats) inner_a
+  pub kept_b : EachList (RestrictsTo (mirror hats)) inner_b
+  pub apart_a : NoCross value_a hats
+  pub apart_b : NoCross value_b (mirror hats)
+
+-- where the inner vertices of one end are made one vertex, its list is such an order: a value that tells them apart, and
+-- one that tells those of the other end apart, do not cross; each dart is of one of them
+pub merged_side-IsHatOrder : (e : ℕ) (side others : List (List ℕ)) (hats : List ℕ) (value_a value_b : ℕ → ℕ)
+    → IsMergedSide e side others hats → AreSides side others
+    → ((d : ℕ) → d < 2 * e → Has d (flat side) ⊎ Has d (flat others))
+    → EachList (HasOneValue value_a) side → HaveOtherValues value_a side
+    → EachList (HasOneValue value_b) others → HaveOtherValues value_b others
+    → IsHatOrder value_a value_b side others hats
+merged_side-IsHatOrder e side others hats value_a value_b merged sides stock one_a other_a one_b other_b = record {
+  kept_a = merged.merge.restricted;
+  kept_b = back.restricted;
+  apart_a = IsMergeOf-NoCross value_a hats side merged.merge all one_a other_a;
+  apart_b = IsMergeOf-NoCross value_b (mirror hats) others back
+      (λ d h. subst (λ y. Has y (flat others)) (twin-twin d)
+      (sides.across (twin d) (all (twin d) (mirror-Has d hats h)))) one_b other_b;
+}
+  where
+    back : IsMergeOf (mirror hats) others
+    back = mirror-IsMergeOf hats e side others merged
+
+    all : (d : ℕ) → Has d hats → Has d (flat side)
+    all d h = ⊎_elim
+        (λ k. k)
+        (λ k. absurd (has_lacks d (flat others) k
+        (Distinct-apart d hats (flat others) merged.can_be_flat.1.once h)))
+        (stock d (below_item (2 * e) d (hats ++ flat others) merged.can_be_flat.1.below
+        (Has-append_left d hats (flat others) h)))
 
 -- a rotation of a graph without loops, and the names of the edges of its darts
 module _ (g : NamedGraph) (dart : ℕ → ℕ → ℕ) (s : ℕ → List ℕ) (darts : AreDartsOf g dart) (arr : IsArrangedBy g s)
@@ -133,3 +173,24 @@ module _ (g : NamedGraph) (dart : ℕ → ℕ → ℕ) (s : ℕ → List ℕ) (d
         (part_copies edge_of (lists u) parts_u) (copies-HaveOtherValues edge_of (lists u) (value_at u) parts_u tells_u))
         (HaveOtherValues-AllApart n h outer is_h (value_at w) one_value_w (twins w)
         (part_copies edge_of (lists w) parts_w) (copies-HaveOtherValues edge_of (lists w) (value_at w) parts_w tells_w))
+
+    -- with u whole and w divided, the part at w is one on each list
+    half_value_w : EachList (HasOneValue (value_at w)) (part_copies edge_of (lists w) parts_w ++ lists u ∷ map lists names)
+    half_value_w =
+        EachList-append (HasOneValue (value_at w)) (part_copies edge_of (lists w) parts_w) (lists u ∷ map lists names)
+        (copies-HasOneValue edge_of (lists w) (value_at w) parts_w tells_w)
+        (other-HasOneValue w u live_u differ, others-HasOneValue w names not_w)
+
+    -- a flat map of both divided by their parts comes from a flat one, where the parts do not cross in the two lists
+    pub outer_parts-CanBeFlat_back : (f : ℕ → ℕ) → IsMapOf (2 * n) f outer → IsFlat n f → Distinct (lists u)
+        → Distinct (lists w) → NoCross (value_at u) (lists u) → NoCross (value_at w) (lists w)
+        → CanBeFlat n (lists u ∷ lists w ∷ map lists names)
+    outer_parts-CanBeFlat_back f is z once_u once_w apart_u apart_w =
+        assembled_ends-CanBeFlat n f (lists u) (lists w) (part_copies edge_of (lists u) parts_u)
+        (part_copies edge_of (lists w) parts_w) (map lists names) is z
+        (copies-IsMergeOf edge_of (lists u) (value_at u) parts_u tells_u apart_u)
+        (copies-IsMergeOf edge_of (lists w) (value_at w) parts_w tells_w apart_w) once_u once_w
+        (λ d h. Has-copies edge_of (lists u) parts_u d h (each_u d h))
+        (λ d h. Has-copies edge_of (lists w) parts_w d h (each_w d h)) (value_at u) (value_at w) (twins u) (twins w)
+        one_value_u half_value_w (copies-HaveOtherValues edge_of (lists u) (value_at u) parts_u tells_u)
+        (copies-HaveOtherValues edge_of (lists w) (value_at w) parts_w tells_w)

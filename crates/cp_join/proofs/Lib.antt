@@ -29,3 +29,4 @@ mod PartValues
 mod PartCrossings
 mod PartCopies
 mod JoinedLists
+mod ToldParts
