@@ -19,3 +19,14 @@ mod PartSteps
 mod JoinRewrites
 mod JoinedPipes
 mod NewPartings
+mod CutParts
+-- Join on maps of darts, on which solutions rest
+mod CopiesApart
+mod TakenApart
+mod InnerMaps
+mod UncrossedValues
+mod PartValues
+mod PartCrossings
+mod PartCopies
+mod JoinedLists
+mod ToldParts

@@ -7,3 +7,6 @@ mod vertex_parts;
 
 pub use joins::join;
 pub use vertex_parts::parts_at;
+
+#[cfg(test)]
+mod tests;

@@ -81,7 +81,7 @@ pub(crate) fn partings<B: Board>(
 }
 
 // Whether the edge is one of these. Linear.
-fn holds(part: &[usize], edge: usize) -> bool
+pub(crate) fn holds(part: &[usize], edge: usize) -> bool
     ensures { result ≡ has part.now edge }
 {
     for e in part {
