@@ -1,7 +1,7 @@
 -- A block of an instance has a rotation with given directions exactly where it has a rotation system with these
 -- directions when it is cut out.
-use Rattle.std.proofs.Common.{◌≡◌, ◌≢◌, ℕ, ◌+◌, ◌*◌, ◌/◌, ◌%◌, ◌<◌, ◌↔◌, Bool, true, false, cond, eqb, List, [], ◌∷◌, length, filter, map, reverse, slice_index, slice_index_or, sym, refl, ap, ap₂, ◌∙◌, subst, inl, inr, ⊎_elim, arith}
-use Rattle.std.specs.Prelude.{Option, Some, None}
+use Rattle.std.proofs.Common.{◌≡◌, ◌≢◌, ℕ, ◌*◌, ◌/◌, ◌%◌, ◌<◌, ◌↔◌, Bool, true, false, cond, eqb, List, [], ◌∷◌, length, filter, map, slice_index, slice_index_or, sym, refl, ap, ap₂, ◌∙◌, subst, inl, inr, ⊎_elim, arith}
+use Rattle.std.specs.Prelude.{Some, None}
 use Rattle.std.specs.List.{All, Contains}
 use Rattle.std.specs.List.Sorted.{IsPermutation, IsStrictlyIncreasing}
 use Rattle.std.proofs.lemmas.Bool.{cases_Bool, cases_eq, cond-false, cond-true, eq-eqb, eqb-true, false≢true, ne_eqb, or_cases}
@@ -13,7 +13,7 @@ use Rattle.cp_lists.specs.CyclicLists.{Distinct, Has, follow}
 use Rattle.cp_lists.specs.Turns.{IsTurn}
 use Rattle.cp_lists.proofs.DistinctLists.{Exactly-Distinct, Has-Contains}
 use Rattle.cp_lists.proofs.FilteredLists.{Has-filter, filter-Has, filter_agree}
-use Rattle.cp_lists.proofs.MappedLists.{Distinct-map_on, Has-map_on, map_agree_on, map_on-Has, map_undone}
+use Rattle.cp_lists.proofs.MappedLists.{Distinct-map_on, Has-map_on, map_on-Has, map_undone}
 use Rattle.cp_lists.proofs.PermutedLists.{IsPermutation-from}
 use Rattle.cp_lists.proofs.ReversedLists.{map-reverse}
 use Rattle.cp_lists.proofs.TurnedLists.{Has-of_turn, turn-Distinct, turn-Has, turn-follow, turn-map, turn-refl, turn-sym, turn-trans}
@@ -30,7 +30,7 @@ use Rattle.cp_maps.specs.Genus.{IsFlat}
 use Rattle.cp_maps.proofs.FlatMaps.{IsFlat-agree}
 use Rattle.cp_maplaw.proofs.Systems.{system_flat}
 use Rattle.cp_board.specs.Names.{has}
-use Rattle.cp_board.specs.Instances.{IsSynchronized, Synchronized, edge_names, graph, is_q, psi_at, vert_names}
+use Rattle.cp_board.specs.Instances.{IsSynchronized, Synchronized, graph, is_q, psi_at}
 use Rattle.cp_board.specs.Rotations.{ArrangesEdges, IsRotationOf, dart, system}
 use Rattle.cp_board.specs.Solutions.{directed}
 use Rattle.cp_embed.specs.BoardBlocks.{AreBlockEdges, list_among, listed_part, part_with}
@@ -43,7 +43,7 @@ use Rattle.cp_flip.specs.DirectedRotations.{IsDirectedRotation}
 use Rattle.cp_flip.proofs.DirectedTrees.{no_items}
 use Rattle.cp_flip.proofs.FlatBlocks.{dart_half, dart_placed}
 use Rattle.cp_flip.proofs.RoundEdges.{edges_at-Has, listed-start, round-IsArrangementOf, start-listed, darts_are as round_darts}
-use Rattle.cp_flip.proofs.NamedSystems.{dart-back, darts-are, edge-at_end, edges-are, end-live, end_of, is_rotation, list-is, stands-at, system-IsFlat, turn-Permutes, turn_of}
+use Rattle.cp_flip.proofs.NamedSystems.{dart-back, darts-are, edge-at_end, edges-are, end-live, end_of, is_rotation, list-is, stands-at, system-IsFlat, turn_of}
 
 -- the two ways to write a direction
 embed-directed : (b : Bool) (xs : List ℕ) → embed.directed b xs ≡ directed b xs

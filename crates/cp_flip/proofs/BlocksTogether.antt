@@ -1,5 +1,5 @@
 -- A rotation of an instance has genus zero exactly where that of each block has and no two blocks cross at a vertex.
-use Rattle.std.proofs.Common.{◌≡◌, ◌≢◌, ℕ, ◌+◌, ◌-◌, ◌*◌, ◌/◌, ◌%◌, ◌<◌, ◌≤◌, ◌↔◌, Bool, true, false, cond, eqb, List, [], ◌∷◌, length, filter, map, slice_index, slice_index_or, sym, refl, ap, ap₂, ◌∙◌, subst, inl, inr, ⊎_elim, arith}
+use Rattle.std.proofs.Common.{◌≡◌, ◌≢◌, ℕ, ◌+◌, ◌*◌, ◌/◌, ◌%◌, ◌<◌, ◌≤◌, ◌↔◌, Bool, true, false, cond, eqb, List, [], ◌∷◌, length, filter, map, slice_index, slice_index_or, sym, refl, ap, ap₂, ◌∙◌, subst, inl, inr, ⊎_elim, arith}
 use Rattle.std.specs.List.{All, Contains}
 use Rattle.std.specs.List.Sorted.{IsPermutation, IsStrictlyIncreasing}
 use Rattle.std.proofs.lemmas.Bool.{cases_Bool, cases_eq}
@@ -7,12 +7,11 @@ use Rattle.std.proofs.lemmas.List.{get_or_default}
 use Rattle.std.proofs.lemmas.List.Elements.{All-contains}
 use Rattle.std.proofs.lemmas.List.Sorted.{Contains-permutation, IsPermutation-sym}
 use Rattle.std.proofs.lemmas.List.Kept.{IsStrictlyIncreasing-filter}
-use Rattle.cp_lists.specs.CyclicLists.{Distinct, Has, Lacks}
+use Rattle.cp_lists.specs.CyclicLists.{Distinct, Has}
 use Rattle.cp_lists.specs.Rows.{flat}
-use Rattle.cp_lists.proofs.DistinctLists.{Distinct-append, Has-Contains, Lacks-from, has_lacks}
-use Rattle.cp_lists.proofs.FilteredLists.{filter-Distinct, filter-Has, filter_agree, filter_no, filter_yes}
+use Rattle.cp_lists.proofs.DistinctLists.{Has-Contains}
+use Rattle.cp_lists.proofs.FilteredLists.{filter-Distinct, filter-Has, filter_no, filter_yes}
 use Rattle.cp_lists.proofs.FlatLists.{flat-filter}
-use Rattle.cp_lists.proofs.MappedLists.{map_agree_on}
 use Rattle.cp_orbits.proofs.Twins.{half_twin, twin_even, twin_odd}
 use Rattle.cp_conn.specs.Blocks.{AreInOneBlock}
 use Rattle.cp_conn.specs.NamedGraphs.{NamedGraph, edges_at, ends_at, rank}
@@ -23,15 +22,14 @@ use Rattle.cp_faces.specs.Twins.{twin}
 use Rattle.cp_pq.proofs.Permutations.{IsPermutation-filter}
 use Rattle.cp_rot.specs.Genus.{HasGenusZero}
 use Rattle.cp_maps.specs.Blocks.{NoneCross}
-use Rattle.cp_maps.specs.Genus.{CanBeFlat, IsFlat, OneGenus}
-use Rattle.cp_maps.specs.Maps.{Below, IsMapOf, Ring, Rings, next_by}
+use Rattle.cp_maps.specs.Genus.{CanBeFlat, OneGenus}
+use Rattle.cp_maps.specs.Maps.{Below, IsMapOf, next_by}
 use Rattle.cp_maps.specs.Names.{Names}
 use Rattle.cp_maps.proofs.Genus.{OneGenus-IsFlat, OneGenus-sym}
 use Rattle.cp_maps.proofs.ListFacts.{Below-from, below_item}
 use Rattle.cp_maps.proofs.MapLists.{IsMapOf-by}
 use Rattle.cp_maps.proofs.Names.{named_lists-OneGenus}
 use Rattle.cp_maplaw.specs.NamedDarts.{dart_list}
-use Rattle.cp_maplaw.proofs.NamedRests.{named_some}
 use Rattle.cp_sync.specs.Numbering.{numbered}
 use Rattle.cp_board.specs.Instances.{IsSynchronized, Synchronized, graph, vert_names}
 use Rattle.cp_board.specs.Rotations.{ArrangesEdges, dart, system}

@@ -1,13 +1,15 @@
 -- The order tree of a vertex, forced to the list of this vertex, has the directions in which the block keeps all its
 -- lists.
-use Rattle.std.proofs.Common.{◌≡◌, ◌≢◌, ℕ, ◌<◌, ◌≤◌, ◌⊎◌, ◌↔◌, zero, suc, Bool, true, false, List, [], ◌∷◌, ◌++◌, length, take, drop, reverse, sym, refl, ap, ◌∙◌, subst, inl, inr, ⊎_elim, arith}
+use Rattle.std.proofs.Common.{◌≡◌, ◌≢◌, ℕ, ◌<◌, ◌≤◌, ◌⊎◌, ◌↔◌, zero, suc, Bool, true, false, List, [], ◌∷◌, ◌++◌, length, take, drop, reverse, filter, slice_index, ◌+◌, sym, refl, ap, ◌∙◌, subst, inl, inr, ⊎_elim, arith}
 use Rattle.std.specs.Prelude.{Option, Some, None}
-use Rattle.std.proofs.lemmas.Bool.{cases_eq}
+use Rattle.std.specs.List.{range_with_len}
+use Rattle.std.proofs.lemmas.Bool.{cases_Bool, cases_eq}
 use Rattle.std.proofs.lemmas.List.{append-nil}
 use Rattle.std.proofs.lemmas.List.Sorted.{IsPermutation-sym}
 use Rattle.cp_lists.specs.CyclicLists.{Distinct, Has, Lacks, head_or}
 use Rattle.cp_lists.specs.Turns.{IsTurn}
-use Rattle.cp_lists.proofs.DistinctLists.{Distinct-append_left, Distinct-append_right, Distinct-apart, Has-append_left, Has-append_right, Lacks-from, has_lacks}
+use Rattle.cp_lists.proofs.DistinctLists.{Distinct-append_right, Distinct-apart, Has-append_left, Has-append_right, Has-place, Has_at, Lacks-from, has_lacks}
+use Rattle.cp_lists.proofs.FilteredLists.{filter-Has, filter_no, filter_yes}
 use Rattle.cp_lists.proofs.ReversedLists.{Has-reverse, reverse-Has}
 use Rattle.cp_lists.proofs.TurnedLists.{Has-of_turn, turn-Distinct, turn-Has, turn-reverse, turn-sym, turn-trans, turn_reverse_head, turn_same, turn_to_item}
 use Rattle.cp_lists.proofs.PermutedLists.{Has-IsPermutation}
@@ -21,12 +23,12 @@ use Rattle.cp_pq.proofs.GivenBits.{bit_append}
 use Rattle.cp_pq.proofs.ReadingLaws.{read_leaves, read_wider}
 use Rattle.cp_rot.specs.Systems.{System}
 use Rattle.cp_embed.specs.Directions.{KeepsDirection, directed}
-use Rattle.cp_embed.specs.Embeddings.{HasSomePair, HasTwoEdges, IsEmbedded, IsEmbeddingTree, IsNeverEmbedded}
-use Rattle.cp_embed.specs.ListedBlocks.{IsListedBlock, ListedGraph, MayBeGiven, edges_at, list_given}
+use Rattle.cp_embed.specs.Embeddings.{HasSomePair, HasTwoEdges, IsEmbedded, IsEmbeddingTree, IsLeastEdge, IsNeverEmbedded}
+use Rattle.cp_embed.specs.ListedBlocks.{IsListedBlock, ListedGraph, MayBeGiven, edges_at, list_given, touches}
 use Rattle.cp_embed.specs.Realisations.{edges_round}
 use Rattle.cp_embed.specs.TreePairs.{pairs_of}
-use Rattle.cp_flip.specs.DirectedBlocks.{BeginWith, CanBeDirected, HasPairWith, IsDirectedBy, IsDirectedTree}
-use Rattle.cp_flip.proofs.RoundEdges.{edges_at-Has, round-IsArrangementOf}
+use Rattle.cp_flip.specs.DirectedBlocks.{CanBeDirected, HasPairWith, IsDirectedBy, IsDirectedTree}
+use Rattle.cp_flip.proofs.RoundEdges.{edges_at-Has, range-Has, round-IsArrangementOf}
 
 -- a bit among the first ones
 bit_of-take : (m : ℕ) (bits : List Bool) (v : ℕ) → v < m → bit_of (take m bits) v ≡ bit_of bits v
@@ -92,6 +94,63 @@ directed-turn true list row root turn =
     turn-trans (reverse list) (reverse (root ∷ row)) (root ∷ reverse row) (turn-reverse list (root ∷ row) turn)
     (turn_reverse_head root row)
 
+-- where the block is never embedded it has no directions
+pub never-directed : (block : ListedGraph) (t : ℕ) → IsNeverEmbedded block t → (bit : ℕ → Bool)
+    → CanBeDirected block bit → ⊥
+never-directed block t never bit d =
+    never (edges_round d.0 t) bit (
+      d.0,
+      record {
+        of_graph = d.1.of_graph;
+        plane = d.1.plane;
+        order_is = (0, omega arith, sym (append-nil (edges_round d.0 t)));
+        lists_kept = λ v lt other. d.1.lists_kept v lt;
+      },
+    )
+
+-- the first of those of a range that pass a test is the least
+first_kept-least : (p : ℕ → Bool) (a n x : ℕ) → Has x (filter p (range_with_len a n))
+    → slice_index (filter p (range_with_len a n)) 0 ≤ x
+first_kept-least p a zero x h = absurd h
+first_kept-least p a (suc n) x h = ⊎_elim
+    (λ t.
+    let whole = filter_yes p a (range_with_len (a + 1) n) t in
+    let first = ap (λ xs. slice_index xs 0) whole in
+    let le = ((range-Has x a (suc n)).0 (filter-Has p x (range_with_len a (suc n)) h).0).0 in
+    omega (arith, first, le))
+    (λ f.
+    let whole = filter_no p a (range_with_len (a + 1) n) f in
+    subst (λ xs. slice_index xs 0 ≤ x) (sym whole)
+    (first_kept-least p (a + 1) n x (subst (Has x) whole h)))
+    (cases_Bool (p a))
+
+-- a vertex with two edges has a first one
+pub first-edge : (ends : List (ℕ × ℕ)) (v : ℕ) → HasTwoEdges ends v → 0 < length (edges_at ends v)
+first-edge ends v two =
+    let p = Has-place two.second (edges_at ends v) ((edges_at-Has ends v two.second).1 (two.within, two.second_at)) in
+    omega (arith, p.1)
+
+-- which is the least
+pub first-root : (ends : List (ℕ × ℕ)) (v root : ℕ) → HasTwoEdges ends v → IsLeastEdge ends v root
+    → slice_index (edges_at ends v) 0 ≡ root
+first-root ends v root two least =
+    let first = (edges_at-Has ends v (slice_index (edges_at ends v) 0)).0
+    (Has_at (edges_at ends v) 0 (first-edge ends v two)) in
+    let le = first_kept-least (touches ends v) 0 (length ends) root
+    ((edges_at-Has ends v root).1 (least.within, least.is_end)) in
+    let ge = least.least (slice_index (edges_at ends v) 0) first.0 first.1 in
+    omega (arith, le, ge)
+
+-- it is in a list that arranges the edges
+pub first-in-list : (block : ListedGraph) → IsListedBlock block → (t : ℕ) → t < block.graph.vertices → (list : List ℕ)
+    → list_given block.lists t ≡ Some list → HasTwoEdges block.graph.ends t
+    → Has (slice_index (edges_at block.graph.ends t) 0) list
+first-in-list block is_block t lt list given_is two =
+    let arranged : MayBeGiven block.graph.ends t (Some list) =
+    subst (MayBeGiven block.graph.ends t) given_is (is_block.arranged t lt) in
+    (arranged.items (slice_index (edges_at block.graph.ends t) 0)).1
+    (Has_at (edges_at block.graph.ends t) 0 (first-edge block.graph.ends t two))
+
 module _ (block : ListedGraph) (is_block : IsListedBlock block) (t : ℕ) (lt_t : t < block.graph.vertices)
     (old : PQTree) (is : IsEmbeddingTree block t old) where
   -- how many vertices the block has
@@ -147,19 +206,6 @@ module _ (block : ListedGraph) (is_block : IsListedBlock block) (t : ℕ) (lt_t 
           → KeepsDirection list b vs
       kept_turn None b us vs k turn = tt
       kept_turn (Some list) b us vs k turn = turn-trans (directed b list) us vs k turn
-
-  -- where the block is never embedded it has no directions
-  pub never-directed : IsNeverEmbedded block t → (bit : ℕ → Bool) → CanBeDirected block bit → ⊥
-  never-directed never bit d =
-      never (edges_round d.0 t) bit (
-        d.0,
-        record {
-          of_graph = d.1.of_graph;
-          plane = d.1.plane;
-          order_is = (0, omega arith, sym (append-nil (edges_round d.0 t)));
-          lists_kept = λ v lt other. d.1.lists_kept v lt;
-        },
-      )
 
   -- without a list at t the tree is that of all directions
   pub free-IsDirectedTree : list_given block.lists t ≡ None → IsDirectedTree block t old old

@@ -1,14 +1,13 @@
 -- The edges of an instance by their blocks, and the first block without a rotation.
-use Rattle.std.proofs.Common.{◌≡◌, ◌≢◌, ℕ, ◌+◌, ◌<◌, ◌≤◌, ◌↔◌, Bool, true, false, eqb, List, [], ◌∷◌, length, filter, map, slice_index, slice_index_or, sym, refl, ap, ◌∙◌, subst, inl, inr, ⊎_elim, arith}
+use Rattle.std.proofs.Common.{◌≡◌, ◌≢◌, ℕ, ◌<◌, ◌≤◌, eqb, List, length, slice_index, sym, refl, ap, subst, ⊎_elim, arith}
 use Rattle.std.specs.List.{Contains}
 use Rattle.std.specs.List.Sorted.{IsStrictlyIncreasing}
 use Rattle.std.proofs.lemmas.Bool.{cases_lt, eq-eqb}
-use Rattle.std.proofs.lemmas.List.{get_or_default}
 use Rattle.std.proofs.lemmas.List.Elements.{Contains-get_or}
 use Rattle.std.proofs.lemmas.List.Kept.{AllPairs-from_increasing, IsStrictlyIncreasing-filter}
 use Rattle.cp_lists.proofs.ExactLists.{place_of}
 use Rattle.cp_conn.specs.Blocks.{AreInOneBlock}
-use Rattle.cp_conn.specs.NamedGraphs.{InOneBlock, pairs, rank}
+use Rattle.cp_conn.specs.NamedGraphs.{pairs, rank}
 use Rattle.cp_conn.specs.Numbering.{AreNumbered}
 use Rattle.cp_conn.proofs.BlockClasses.{block-sym, block-trans}
 use Rattle.cp_conn.proofs.CutVertices.{kept_of, kept_pair}
@@ -19,7 +18,7 @@ use Rattle.cp_board.specs.Reasons.{IsEmbeddable, IsFirstReason}
 use Rattle.cp_board.specs.declared.steps.Reason.TheVariants.{NotPlanar}
 use Rattle.cp_embed.specs.BoardBlocks.{AreBlockEdges}
 use Rattle.cp_embed.proofs.BoardBlocks.{pairs-HaveNoLoop}
-use Rattle.cp_embed.proofs.NumberedBlocks.{number_of, numbered-AreBlockEdges}
+use Rattle.cp_embed.proofs.NumberedBlocks.{numbered-AreBlockEdges}
 use Rattle.cp_flip.specs.BlockTrees.{row_with}
 
 -- the first of rising numbers is the least

@@ -1,5 +1,5 @@
 -- Rotations of the blocks of an instance, put together at each vertex.
-use Rattle.std.proofs.Common.{◌≡◌, ◌≢◌, ℕ, ◌*◌, ◌/◌, ◌<◌, Bool, true, false, eqb, List, [], ◌∷◌, length, filter, map, slice_index, slice_index_or, sym, refl, ap, ◌∙◌, subst, inl, inr, ⊎_elim, arith}
+use Rattle.std.proofs.Common.{◌≡◌, ◌≢◌, ℕ, ◌*◌, ◌/◌, ◌<◌, Bool, true, false, eqb, List, [], ◌∷◌, length, filter, map, slice_index, refl, ap, inl, inr, ⊎_elim}
 use Rattle.std.specs.List.{All, Contains}
 use Rattle.std.specs.List.Sorted.{IsStrictlyIncreasing}
 use Rattle.std.proofs.lemmas.Bool.{cases_Bool}
@@ -17,8 +17,7 @@ use Rattle.cp_maps.specs.Blocks.{NoneCross}
 use Rattle.cp_maps.proofs.FlatMaps.{IsFlat-agree}
 use Rattle.cp_maplaw.specs.NamedDarts.{dart_list}
 use Rattle.cp_sync.specs.Numbering.{numbered}
-use Rattle.cp_board.specs.Blocks.{HaveCrossing}
-use Rattle.cp_board.specs.Instances.{IsSynchronized, Synchronized, graph, is_q, psi_at, vert_names}
+use Rattle.cp_board.specs.Instances.{IsSynchronized, Synchronized, graph, is_q, psi_at}
 use Rattle.cp_board.specs.Reasons.{HasNoCrossing}
 use Rattle.cp_board.specs.Rotations.{ArrangesEdges, IsRotationOf, dart, system}
 use Rattle.cp_board.specs.Solutions.{directed}

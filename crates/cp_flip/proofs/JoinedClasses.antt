@@ -1,6 +1,6 @@
 -- Lists of different classes one behind the other: no two classes stand crosswise, and what is kept of a class is its list.
-use Rattle.std.proofs.Common.{◌≡◌, ◌≢◌, ℕ, ◌⊎◌, suc, ◌+◌, Bool, true, false, eqb, List, [], ◌∷◌, ◌++◌, length, drop, take, filter, map, sym, refl, ap, ◌∙◌, subst, inl, inr, ⊎_elim, arith, append-nil, length-append}
-use Rattle.std.proofs.lemmas.Bool.{cases_eq, eq-eqb, ne_eqb}
+use Rattle.std.proofs.Common.{◌≡◌, ◌≢◌, ℕ, ◌⊎◌, Bool, false, eqb, List, [], ◌∷◌, ◌++◌, length, drop, take, filter, map, sym, refl, ap, ◌∙◌, subst, inl, inr, ⊎_elim, arith, append-nil}
+use Rattle.std.proofs.lemmas.Bool.{eq-eqb, ne_eqb}
 use Rattle.std.proofs.lemmas.List.Elements.{filter-append}
 use Rattle.cp_lists.specs.Crossings.{InOrder, NoCross}
 use Rattle.cp_lists.specs.CyclicLists.{Distinct, Has, Lacks, head_or}

@@ -1,16 +1,16 @@
 -- The step from each dart to the next in the list of its vertex is the map of these lists.
-use Rattle.std.proofs.Common.{◌≡◌, ◌≢◌, ℕ, ◌*◌, ◌/◌, ◌<◌, List, [], ◌∷◌, length, map, slice_index, sym, ap, ◌∙◌, subst, refl, inl, inr, ⊎_elim, arith}
+use Rattle.std.proofs.Common.{◌≡◌, ◌≢◌, ℕ, ◌*◌, ◌/◌, ◌<◌, List, [], ◌∷◌, length, map, sym, ap, ◌∙◌, subst, refl, inl, inr, arith}
 use Rattle.std.specs.List.{All, Contains}
 use Rattle.std.specs.List.Sorted.{IsStrictlyIncreasing}
 use Rattle.std.proofs.lemmas.List.Elements.{All-contains}
 use Rattle.std.proofs.lemmas.List.Sorted.{Contains-permutation, IsPermutation-sym}
-use Rattle.cp_lists.specs.CyclicLists.{Distinct, Has, Lacks, follow}
+use Rattle.cp_lists.specs.CyclicLists.{Distinct, Has, follow}
 use Rattle.cp_lists.specs.Rows.{flat}
 use Rattle.cp_lists.proofs.DistinctLists.{Distinct-append, Has-Contains, Lacks-from, has_lacks}
 use Rattle.cp_lists.proofs.MappedLists.{map_on-Has}
 use Rattle.cp_conn.specs.NamedGraphs.{NamedGraph, edges_at, rank}
 use Rattle.cp_conn.proofs.NamedGraphs.{edges_at-Contains, rank_at}
-use Rattle.cp_maps.specs.Maps.{IsMapOf, Ring, Rings}
+use Rattle.cp_maps.specs.Maps.{IsMapOf, Rings}
 use Rattle.cp_maps.proofs.ListFacts.{Below-from}
 use Rattle.cp_maps.proofs.NamedLists.{named_item}
 use Rattle.cp_maplaw.specs.NamedDarts.{dart_list}

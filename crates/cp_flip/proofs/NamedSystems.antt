@@ -1,8 +1,8 @@
 -- The rotation system of a graph with names is flat exactly where the step from each dart to the next in the list of its
 -- vertex is: vertices without edges, and where the lists begin, make no difference.
-use Rattle.std.proofs.Common.{◌≡◌, ◌≢◌, ℕ, ◌+◌, ◌*◌, ◌/◌, ◌%◌, ◌<◌, ◌↔◌, true, false, ◌||◌, cond, eqb, List, [], ◌∷◌, length, map, slice_index, slice_index_or, sym, refl, ap, ◌∙◌, subst, inl, inr, ⊎_elim, arith}
+use Rattle.std.proofs.Common.{◌≡◌, ◌≢◌, ℕ, ◌*◌, ◌/◌, ◌%◌, ◌<◌, ◌↔◌, cond, eqb, List, [], ◌∷◌, length, map, slice_index, sym, refl, ap, ◌∙◌, subst, ⊎_elim, arith}
 use Rattle.std.specs.List.{All, Contains, flat_map}
-use Rattle.std.specs.List.Sorted.{IsPermutation, IsStrictlyIncreasing}
+use Rattle.std.specs.List.Sorted.{IsStrictlyIncreasing}
 use Rattle.std.proofs.lemmas.Bool.{cases_eq, cond-false, cond-true, eq-eqb, eqb-true, ne_eqb, or_left, or_right}
 use Rattle.std.proofs.lemmas.List.{get_or_default, get_or-map}
 use Rattle.std.proofs.lemmas.List.Elements.{All-contains}
@@ -13,7 +13,7 @@ use Rattle.cp_lists.proofs.DistinctLists.{Exactly-Distinct, Exactly-Has, Has-Con
 use Rattle.cp_lists.proofs.MappedLists.{Has-map_on}
 use Rattle.cp_lists.proofs.TurnedLists.{turn-follow, turn-map}
 use Rattle.cp_orbits.specs.Orbits.{Permutes}
-use Rattle.cp_conn.specs.NamedGraphs.{NamedGraph, edges_at, ends_at, rank}
+use Rattle.cp_conn.specs.NamedGraphs.{NamedGraph, edges_at, rank}
 use Rattle.cp_conn.proofs.NamedGraphs.{Contains-edges_at, rank_at, rank_is}
 use Rattle.cp_rot.specs.Genus.{HasGenusZero}
 use Rattle.cp_rot.specs.Systems.{IsRotation, System, darts, edges, list_of, next, vertex_of}

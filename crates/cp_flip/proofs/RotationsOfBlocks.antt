@@ -1,18 +1,17 @@
 -- A block of an instance has a rotation exactly where it can be directed when it is cut out.
-use Rattle.std.proofs.Common.{◌≡◌, ℕ, ◌<◌, ◌↔◌, Bool, true, false, cond, eqb, List, [], length, filter, map, slice_index, slice_index_or, sym, refl, ap, ◌∙◌, subst, inl, inr, ⊎_elim, arith}
-use Rattle.std.specs.Prelude.{Option, Some, None}
+use Rattle.std.proofs.Common.{◌≡◌, ℕ, ◌<◌, Bool, true, false, cond, eqb, List, [], length, filter, slice_index, slice_index_or, sym, refl, ap, ◌∙◌, subst, arith}
+use Rattle.std.specs.Prelude.{Some}
 use Rattle.std.specs.List.{All, Contains}
 use Rattle.std.specs.Option.{option_map, option_map_or}
-use Rattle.std.proofs.lemmas.Bool.{cases_Bool, false≢true}
+use Rattle.std.proofs.lemmas.Bool.{false≢true}
 use Rattle.std.proofs.lemmas.List.{get_or_default, get_or-map, length-map}
 use Rattle.std.proofs.lemmas.List.Sorted.{Contains-permutation, IsPermutation-sym}
-use Rattle.cp_lists.specs.CyclicLists.{Has}
 use Rattle.cp_lists.specs.Turns.{IsTurn}
 use Rattle.cp_lists.proofs.Choices.{choose}
 use Rattle.cp_lists.proofs.DistinctLists.{Has-Contains}
-use Rattle.cp_lists.proofs.FilteredLists.{Has-filter, filter-Has, filter_agree}
+use Rattle.cp_lists.proofs.FilteredLists.{filter_agree}
 use Rattle.cp_lists.proofs.TurnedLists.{turn-refl}
-use Rattle.cp_conn.specs.NamedGraphs.{InOneBlock, IsBlockOf, edges_at, only, rank}
+use Rattle.cp_conn.specs.NamedGraphs.{edges_at, rank}
 use Rattle.cp_conn.proofs.NamedGraphs.{edges_at-Contains, rank_at, rank_is}
 use Rattle.cp_board.specs.declared.parts.Kind.{Kind}
 use Rattle.cp_board.specs.declared.parts.Kind.TheVariants.{P, Q}
@@ -21,7 +20,6 @@ use Rattle.cp_board.specs.Blocks.{HasNoRotation, IsBlockRotation, IsKept}
 use Rattle.cp_board.specs.Instances.{IsSynchronized, Synchronized, edge_names, graph, is_q, is_q_kind, kind_of, kind_psi, psi_at, vert_names}
 use Rattle.cp_board.specs.Solutions.{directed}
 use Rattle.cp_board.proofs.NamedLists.{found_at, rises_from}
-use Rattle.cp_rot.specs.Systems.{System}
 use Rattle.cp_embed.specs.BoardBlocks.{AreBlockEdges, listed_part, part_with}
 use Rattle.cp_embed.specs.Realisations.{edges_round}
 use Rattle.cp_embed.proofs.BoardBlocks.{psi-ArrangesEdges, rising_distinct, verts_rise}

@@ -1,8 +1,8 @@
 -- The edges round a vertex of a rotation system of a graph.
-use Rattle.std.proofs.Common.{◌≡◌, ◌≢◌, ℕ, zero, suc, ◌+◌, ◌*◌, ◌/◌, ◌%◌, ◌<◌, ◌≤◌, ◌⊎◌, ◌↔◌, true, false, ◌||◌, eqb, List, length, map, slice_index, slice_index_or, sym, refl, ap, ◌∙◌, subst, inl, inr, ⊎_elim, arith}
+use Rattle.std.proofs.Common.{◌≡◌, ◌≢◌, ℕ, zero, suc, ◌+◌, ◌*◌, ◌/◌, ◌%◌, ◌<◌, ◌≤◌, ◌↔◌, true, eqb, List, length, slice_index, slice_index_or, sym, ap, ◌∙◌, subst, inl, inr, ⊎_elim, arith}
 use Rattle.std.specs.List.{range_with_len}
 use Rattle.std.proofs.lemmas.Bool.{cases_eq, eq-eqb, eqb-true, or_cases, or_left, or_right}
-use Rattle.cp_lists.specs.CyclicLists.{Distinct, Has}
+use Rattle.cp_lists.specs.CyclicLists.{Has}
 use Rattle.cp_lists.proofs.DistinctLists.{Exactly-Distinct, Exactly-Has}
 use Rattle.cp_lists.proofs.FilteredLists.{Has-filter, filter-Has}
 use Rattle.cp_lists.proofs.MappedLists.{Distinct-map_on, Has-map_on, map_on-Has}
@@ -10,14 +10,14 @@ use Rattle.cp_base.specs.Graphs.{PlainGraph}
 use Rattle.cp_conn.specs.Blocks.{HaveNoLoop}
 use Rattle.cp_conn.specs.Darts.{start}
 use Rattle.cp_conn.proofs.DartChains.{start_even, start_odd}
-use Rattle.cp_rot.specs.Systems.{System, darts, edges, list_of, vertex_of}
+use Rattle.cp_rot.specs.Systems.{System, darts, list_of, vertex_of}
 use Rattle.cp_embed.specs.Arrangements.{IsArrangementOf}
 use Rattle.cp_embed.specs.Directions.{edge_of}
 use Rattle.cp_embed.specs.ListedBlocks.{edges_at, touches}
 use Rattle.cp_embed.specs.Realisations.{IsRotationOfGraph, edges_round}
 
 -- the items of a range
-range-Has : (d a n : ℕ) → Has d (range_with_len a n) ↔ ((a ≤ d) × (d < a + n))
+pub range-Has : (d a n : ℕ) → Has d (range_with_len a n) ↔ ((a ≤ d) × (d < a + n))
 range-Has d a zero = ((λ h. absurd h), (λ h. absurd (omega (arith, h.0, h.1))))
 range-Has d a (suc n) = (
   λ h. ⊎_elim (λ e. (omega arith, omega arith))

@@ -1,8 +1,8 @@
 -- A block of one edge has a rotation in each choice of directions.
-use Rattle.std.proofs.Common.{◌≡◌, ◌≢◌, ℕ, ◌+◌, ◌*◌, ◌<◌, ◌≤◌, ◌↔◌, Bool, true, false, cond, eqb, List, [], ◌∷◌, length, filter, map, reverse, slice_index, slice_index_or, sym, refl, ap, ◌∙◌, subst, inl, inr, ⊎_elim, arith}
+use Rattle.std.proofs.Common.{◌≡◌, ◌≢◌, ℕ, ◌*◌, ◌<◌, ◌≤◌, ◌↔◌, Bool, true, false, cond, eqb, List, [], ◌∷◌, length, filter, map, reverse, slice_index_or, sym, refl, ap, ◌∙◌, subst, ⊎_elim, arith}
 use Rattle.std.specs.List.{All, Contains}
-use Rattle.std.specs.List.Sorted.{IsPermutation, IsStrictlyIncreasing}
-use Rattle.std.proofs.lemmas.Bool.{cases_Bool, eqb-true}
+use Rattle.std.specs.List.Sorted.{IsStrictlyIncreasing}
+use Rattle.std.proofs.lemmas.Bool.{cases_Bool}
 use Rattle.std.proofs.lemmas.List.{length-map}
 use Rattle.std.proofs.lemmas.List.Kept.{IsStrictlyIncreasing-filter}
 use Rattle.std.proofs.lemmas.List.Sorted.{Contains-permutation, IsPermutation-refl, IsPermutation-sym}
@@ -20,7 +20,7 @@ use Rattle.cp_conn.proofs.NamedGraphs.{Contains-edges_at, edges_at-Contains}
 use Rattle.cp_rot.specs.Genus.{HasGenusZero}
 use Rattle.cp_maps.specs.Genus.{IsFlat}
 use Rattle.cp_maps.proofs.FlatMaps.{IsFlat-agree}
-use Rattle.cp_board.specs.Instances.{IsSynchronized, Synchronized, graph, is_q, psi_at, vert_names}
+use Rattle.cp_board.specs.Instances.{IsSynchronized, Synchronized, graph, is_q, psi_at}
 use Rattle.cp_board.specs.Rotations.{ArrangesEdges, IsRotationOf, dart, system}
 use Rattle.cp_board.specs.Solutions.{directed}
 use Rattle.cp_embed.specs.BoardBlocks.{AreBlockEdges}
