@@ -65,7 +65,7 @@ module _ (g : NamedGraph) (differ : (e : ℕ) → Contains g.edges e → (g.ends
   dart_named w e c = ap (slice_index g.edges) (dart_half w e) ∙ (rank_at g.edges e (edges_at-Contains g w e c).0).1
 
   -- and so is the end
-  dart_placed : (w e : ℕ) → Contains (edges_at g w) e → named_end (dart g w e) ≡ w
+  pub dart_placed : (w e : ℕ) → Contains (edges_at g w) e → named_end (dart g w e) ≡ w
   dart_placed w e c = ⊎_elim
       (λ a. let d = first_dart w e a in let even : dart g w e % 2 ≡ 0 = omega (arith, d) in
       cond-true {A = ℕ} (eqb (dart g w e % 2) 0) (g.ends (named_edge (dart g w e))).0

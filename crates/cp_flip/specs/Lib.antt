@@ -2,3 +2,6 @@
 pub mod FreeFaults
 -- what functions inside promise each other
 pub mod TakingTurns
+pub mod DirectedBlocks
+pub mod DirectedRotations
+pub mod BlockTrees

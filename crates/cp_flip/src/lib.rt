@@ -1,11 +1,13 @@
-//! Instances of synchronized planarity without pipes (Bläsius, Fink, Rutter 2021): whether two blocks cross at a
-//! Q-vertex.
+//! Instances of synchronized planarity without pipes (Bläsius, Fink, Rutter 2021): in which directions a block keeps the
+//! lists of its Q-vertices, and whether two blocks cross at a Q-vertex.
 #![tactic(auto)]
 
 mod crossing;
+mod directions;
 mod turns;
 
 pub use crossing::first_crossing;
+pub use directions::{DirectedBlock, directed};
 
 #[cfg(test)]
 mod tests;
