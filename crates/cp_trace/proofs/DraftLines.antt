@@ -17,7 +17,8 @@ use Rattle.cp_trace.proofs.KeptTold.{kept_told}
 use Rattle.cp_trace.proofs.LineWords.{all_free, edge_line_free, pipe_line_free, vert_line_free}
 
 -- lines of one kind hold no line feed
-rows_free : {A : Type 0} (spell : A → List ℕ) (Told : A → Type 0) → ((x : A) → Told x → IsLine (spell x)) → (xs : List A)
+rows_free : {A : Type 0} (spell : A → List ℕ) (Told : A → Type 0) → ((x : A) → Told x → IsLine (spell x))
+    → (xs : List A)
     → AllByRecursion Told xs → AllByRecursion IsLine (map spell xs)
 rows_free = all_free 10 (omega arith)
 

@@ -29,8 +29,8 @@ abbrev NoneFollows : List (List ℕ) → List ℕ → Type 0
 NoneFollows before rest = (next after : List ℕ) → rest ≡ next ++ 10 ∷ after → AreAllowed (before ++ next ∷ []) → ⊥
 
 -- where a draft has these lines and goes on
-module _ (bytes rest : List ℕ) (before : List (List ℕ)) (front : bytes ≡ text_of before ++ rest) (t : Trace) (due : List ℕ)
-    (later : List (List ℕ)) (lines : trace_lines t ≡ before ++ due ∷ later) where
+module _ (bytes rest : List ℕ) (before : List (List ℕ)) (front : bytes ≡ text_of before ++ rest) (t : Trace)
+    (due : List ℕ) (later : List (List ℕ)) (lines : trace_lines t ≡ before ++ due ∷ later) where
   -- the lines so far are whole lines
   whole_lines : IsDraft t → AllByRecursion IsLine before
   whole_lines draft = all_front IsLine before (due ∷ later) (subst (AllByRecursion IsLine) lines (draft_free t draft))
@@ -135,7 +135,8 @@ module _ (bytes inside : List ℕ) (heading : bytes ≡ codes "cplan-trace 1" ++
       }
 
   -- behind the first instance and the steps
-  module _ (first : Synchronized) (behind_first behind_steps : List ℕ) (steps : List Step) (rules : IsSynchronized first)
+  module _ (first : Synchronized) (behind_first behind_steps : List ℕ) (steps : List Step)
+      (rules : IsSynchronized first)
       (told : inside ≡ text_of (instance_lines first) ++ behind_first)
       (lines : AreLines step_line (AllByRecursion IsToldStep) behind_first steps behind_steps) where
     -- the text of the lines so far
@@ -181,7 +182,8 @@ module _ (bytes inside : List ℕ) (heading : bytes ≡ codes "cplan-trace 1" ++
     module _ (last : Synchronized) (behind_last : List ℕ) (rules_last : IsSynchronized last)
         (told_last : behind_steps ≡ text_of (instance_lines last) ++ behind_last) where
       -- a run with this end
-      is_trace : (solved : Option Reason) → AreSmall (reason_numbers solved) → IsTrace (run_with first steps last solved)
+      is_trace : (solved : Option Reason) → AreSmall (reason_numbers solved)
+          → IsTrace (run_with first steps last solved)
       is_trace solved small =
           draft_trace (run_with first steps last solved)
           record {
@@ -198,7 +200,8 @@ module _ (bytes inside : List ℕ) (heading : bytes ≡ codes "cplan-trace 1" ++
       stop_at_end none =
           stop_at bytes behind_last (lines_with first steps (instance_lines last))
           (text_with (instance_lines last) behind_last told_last) run (codes "solved") (codes "end" ∷ []) whole
-          (trace_begins run (lines_with first steps (instance_lines last)) (lines_behind_last run) (is_trace None tt) whole)
+          (trace_begins run (lines_with first steps (instance_lines last)) (lines_behind_last run) (is_trace None tt)
+          whole)
           (only_end behind_last first last steps (kept_told first rules) (kept_told last rules_last) none)
         where
           run : Trace

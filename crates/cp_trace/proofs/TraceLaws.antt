@@ -78,7 +78,8 @@ not_behind : (bytes : List ℕ) (line : ℕ) (f : IsFaultAt bytes line) (next : 
     (rest : List ℕ) → IsLine next → AreAllowed (f.before ++ next ∷ more) → f.rest ≡ text_of (next ∷ more) ++ rest → ⊥
 not_behind bytes line f next more rest whole allowed h =
     f.stops next (text_of more ++ rest) whole (h ∙ text_headed next rest more)
-    (front_allowed (f.before ++ next ∷ []) more (subst AreAllowed (sym (append_assoc f.before (next ∷ []) more)) allowed))
+    (front_allowed (f.before ++ next ∷ []) more
+    (subst AreAllowed (sym (append_assoc f.before (next ∷ []) more)) allowed))
 
 -- of two texts of lines that begin alike one goes on behind the other
 texts_compare : (xs ys : List (List ℕ)) (a b : List ℕ) → AllByRecursion IsLine xs → AllByRecursion IsLine ys
