@@ -32,6 +32,7 @@ HaveOtherValues value (xs ∷ copies) =
 -- a map, and a value of its darts that is one on each list and on twins
 module _ (e : ℕ) (f : ℕ → ℕ) (rows : List (List ℕ)) (is : IsMapOf (2 * e) f rows) (value : ℕ → ℕ)
     (one : EachList (HasOneValue value) rows) (twins : (d : ℕ) → d < 2 * e → value (twin d) ≡ value d) where
+  -- the test for one value has one value on each list
   evenly : (a : ℕ) (lists : List (List ℕ)) → EachList (HasOneValue value) lists → Evenly (λ d. eqb (value d) a) lists
   evenly a [] each = tt
   evenly a (xs ∷ lists) each = ((λ c d hc hd. ap (λ k. eqb k a) (each.0 c d hc hd)), evenly a lists each.1)
@@ -56,20 +57,27 @@ abbrev singles : List (List ℕ) → List (List ℕ × List (List ℕ))
 singles [] = []
 singles (xs ∷ rows) = (xs, xs ∷ []) ∷ singles rows
 
+-- the lists of these pairs are the lists themselves
 singles-lists : (rows : List (List ℕ)) → map (λ x. x.0) (singles rows) ≡ rows
 singles-lists [] = refl
 singles-lists (xs ∷ rows) = ap (λ zs. xs ∷ zs) (singles-lists rows)
 
+-- and so are all copies
 singles-copies : (rows : List (List ℕ)) → all_copies (singles rows) ≡ rows
 singles-copies [] = refl
 singles-copies (xs ∷ rows) = ap (λ zs. xs ∷ zs) (singles-copies rows)
 
+-- each list is a copy of itself, and apart from no other
 singles-AreDivided : (e : ℕ) (g : ℕ → ℕ) (rows : List (List ℕ)) → AreDivided e g (singles rows)
 singles-AreDivided e g [] = tt
 singles-AreDivided e g (xs ∷ rows) = (
   (
     record {
-      turned = (subst (λ zs. IsTurn zs xs) (sym (filter_all (λ d. has d xs) xs (λ d h. has_yes d xs h))) (turn-refl xs), tt);
+      turned = (
+        subst (λ zs. IsTurn zs xs) (sym (filter_all (λ d. has d xs) xs (λ d h. has_yes d xs h)))
+            (turn-refl xs),
+        tt,
+      );
       all = λ d h. Has-append_left d xs [] h;
     },
     ((λ c d hc hd same. absurd hd), tt),
@@ -79,7 +87,8 @@ singles-AreDivided e g (xs ∷ rows) = (
 
 -- two vertices of a flat map, each divided into copies that are in different components: the map stays flat
 pub divided_ends-IsFlat : (e : ℕ) (f g : ℕ → ℕ) (us ws : List ℕ) (firsts seconds rows : List (List ℕ))
-    → IsMapOf (2 * e) f (us ∷ ws ∷ rows) → IsFlat e f → IsMapOf (2 * e) g (firsts ++ (seconds ++ rows)) → AreCopiesOf us firsts
+    → IsMapOf (2 * e) f (us ∷ ws ∷ rows) → IsFlat e f → IsMapOf (2 * e) g (firsts ++ (seconds ++ rows))
+    → AreCopiesOf us firsts
     → AreCopiesOf ws seconds → AllApart e g firsts → AllApart e g seconds → IsFlat e g
 divided_ends-IsFlat e f g us ws firsts seconds rows is z is_g copies_u copies_w apart_u apart_w =
     copies-IsFlat e f g ((us, firsts) ∷ (ws, seconds) ∷ singles rows)
@@ -101,11 +110,13 @@ assembled_ends-CanBeFlat e f us ws firsts seconds rows is z merge_u merge_w once
     twins_u twins_w one_u one_w other_u other_w =
     let half : Becomes e f (us ∷ (seconds ++ rows)) =
     merged_copies-Becomes e f us firsts (seconds ++ rows) is
-    (HaveOtherValues-AllApart e f (firsts ++ (seconds ++ rows)) is first one_u twins_u firsts other_u) merge_u once_u all_u in
+    (HaveOtherValues-AllApart e f (firsts ++ (seconds ++ rows)) is first one_u twins_u firsts other_u) merge_u
+    once_u all_u in
     let is_half : IsMapOf (2 * e) half.0 (seconds ++ us ∷ rows) = IsMapOf-among (2 * e) half.0 us seconds rows half.1 in
     let whole : Becomes e half.0 (ws ∷ us ∷ rows) =
     merged_copies-Becomes e half.0 ws seconds (us ∷ rows) is_half
-    (HaveOtherValues-AllApart e half.0 (seconds ++ us ∷ rows) is_half second one_w twins_w seconds other_w) merge_w once_w all_w in (
+    (HaveOtherValues-AllApart e half.0 (seconds ++ us ∷ rows) is_half second one_w twins_w
+    seconds other_w) merge_w once_w all_w in (
       whole.0,
       IsMapOf-swap (2 * e) whole.0 ws us rows whole.1,
       SameGenus-IsFlat e half.0 whole.0 whole.2 (SameGenus-IsFlat e f half.0 half.2 z),

@@ -17,7 +17,8 @@ use Rattle.cp_join.proofs.PartLists.{all_from, all_once, part_is}
 use Rattle.cp_join.proofs.RisingLists.{Has-flat_map}
 
 -- the edges of a vertex in parts
-module _ (i : Synchronized) (is : IsSynchronized i) (u : ℕ) (parts : List (List ℕ)) (are : ArePartsAt (graph i) u parts) where
+module _ (i : Synchronized) (is : IsSynchronized i) (u : ℕ) (parts : List (List ℕ))
+    (are : ArePartsAt (graph i) u parts) where
   -- the first edge of a part
   abbrev first : ℕ → ℕ
   first k = slice_index_or (slice_index_or parts k []) 0 0

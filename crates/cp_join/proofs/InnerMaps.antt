@@ -32,6 +32,7 @@ pub Has-mirror : (d : ℕ) (xs : List ℕ) → Has (twin d) xs → Has d (mirror
 Has-mirror d xs h =
     Has-reverse d (map twin xs) (subst (λ y. Has y (map twin xs)) (twin-twin d) (Has-map_on twin (twin d) xs h))
 
+-- the mirror of a list of different darts has different darts
 pub mirror-Distinct : (xs : List ℕ) → Distinct xs → Distinct (mirror xs)
 mirror-Distinct xs once =
     Distinct-reverse (map twin xs)
@@ -66,7 +67,8 @@ mirrored-CanBeFlat e (x ∷ xs) once low no_twin = (
 
     low_second : (d : ℕ) → Has d (mirror whole) → d < 2 * e
     low_second d h =
-        subst (λ y. y < 2 * e) (twin-twin d) (twin-below (2 * e) (twin d) (omega arith) (low (twin d) (mirror-Has d whole h)))
+        subst (λ y. y < 2 * e) (twin-twin d)
+        (twin-below (2 * e) (twin d) (omega arith) (low (twin d) (mirror-Has d whole h)))
 
     is : IsMapOf (2 * e) (next_by rows) rows
     is = IsMapOf-by (2 * e) rows
@@ -83,13 +85,16 @@ module _ (e : ℕ) (whole : List ℕ) (firsts seconds : List (List ℕ)) (once :
     (merge_a : IsMergeOf whole firsts) (merge_b : IsMergeOf (mirror whole) seconds) (once_a : Distinct (flat firsts))
     (once_b : Distinct (flat seconds)) (all_a : (d : ℕ) → Has d whole → Has d (flat firsts))
     (all_b : (d : ℕ) → Has d (mirror whole) → Has d (flat seconds)) where
+  -- the list and its mirror as two vertices
   dipole : CanBeFlat e (whole ∷ mirror whole ∷ [])
   dipole = mirrored-CanBeFlat e whole once low no_twin
 
+  -- the second of them taken apart
   half : CanBeFlat e (seconds ++ whole ∷ [])
   half = taken_apart-CanBeFlat e (mirror whole) seconds (whole ∷ [])
       (dipole.0, IsMapOf-swap (2 * e) dipole.0 whole (mirror whole) [] dipole.1, dipole.2) merge_b once_b all_b
 
+  -- both taken apart
   pub inner-CanBeFlat : CanBeFlat e (firsts ++ seconds)
   inner-CanBeFlat = subst (λ zs. CanBeFlat e (firsts ++ zs)) (append-nil seconds)
       (taken_apart-CanBeFlat e whole firsts (seconds ++ [])
@@ -115,20 +120,26 @@ mirror-leads_to whole xs =
 
 -- lists that read a whole list in reverse and do not cross in it: its mirror is put together of them
 module _ (whole : List ℕ) where
-  restricted_each : (rows : List (List ℕ)) → EachList (IsMirrorIn whole) rows → EachList (RestrictsTo (mirror whole)) rows
+  -- what reads the whole list in reverse has the order of its mirror
+  restricted_each : (rows : List (List ℕ)) → EachList (IsMirrorIn whole) rows
+      → EachList (RestrictsTo (mirror whole)) rows
   restricted_each [] each = tt
   restricted_each (xs ∷ rows) each =
       (subst (IsTurn xs) (sym (mirror-leads_to whole xs)) each.0, restricted_each rows each.1)
 
+  -- what does not cross in the whole list does not in its mirror
   uncrossed_one : (xs ys : List ℕ) → Uncrossed leads_to whole xs ys → Uncrossed is_of (mirror whole) xs ys
   uncrossed_one xs ys apart cross =
-      apart (map-Crosses twin (is_of xs) (is_of ys) whole (reverse-Crosses (is_of xs) (is_of ys) (map twin whole) cross))
+      apart (map-Crosses twin (is_of xs) (is_of ys) whole
+      (reverse-Crosses (is_of xs) (is_of ys) (map twin whole) cross))
 
+  -- the same for one list and each of several
   uncrossed_each : (xs : List ℕ) (rows : List (List ℕ)) → EachList (Uncrossed leads_to whole xs) rows
       → EachList (Uncrossed is_of (mirror whole) xs) rows
   uncrossed_each xs [] each = tt
   uncrossed_each xs (ys ∷ rows) each = (uncrossed_one xs ys each.0, uncrossed_each xs rows each.1)
 
+  -- and for any two of several
   uncrossed_all : (rows : List (List ℕ)) → AllUncrossed leads_to whole rows → AllUncrossed is_of (mirror whole) rows
   uncrossed_all [] all = tt
   uncrossed_all (xs ∷ rows) all = (uncrossed_each xs rows all.0, uncrossed_all rows all.1)

@@ -56,8 +56,8 @@ pub record IsHatOrder (value_a value_b : ℕ → ℕ) (inner_a inner_b : List (L
   pub apart_a : NoCross value_a hats
   pub apart_b : NoCross value_b (mirror hats)
 
--- where the inner vertices of one end are made one vertex, its list is such an order: a value that tells them apart, and
--- one that tells those of the other end apart, do not cross; each dart is of one of them
+-- where the inner vertices of one end are made one vertex, its list is such an order: a value that tells them apart,
+-- and one that tells those of the other end apart, do not cross; each dart is of one of them
 pub merged_side-IsHatOrder : (e : ℕ) (side others : List (List ℕ)) (hats : List ℕ) (value_a value_b : ℕ → ℕ)
     → IsMergedSide e side others hats → AreSides side others
     → ((d : ℕ) → d < 2 * e → Has d (flat side) ⊎ Has d (flat others))
@@ -111,6 +111,7 @@ module _ (g : NamedGraph) (dart : ℕ → ℕ → ℕ) (s : ℕ → List ℕ) (d
       part_value-at g u w (edge_of c) other (listed_edge w c live hc)
       ∙ sym (part_value-at g u w (edge_of d) other (listed_edge w d live hd))
 
+  -- the same for several other vertices
   others-HasOneValue : (u : ℕ) (names : List ℕ) → ((w : ℕ) → Has w names → Has w g.verts × (w ≢ u))
       → EachList (HasOneValue (value_at u)) (map lists names)
   others-HasOneValue u [] each = tt
@@ -141,6 +142,7 @@ module _ (g : NamedGraph) (dart : ℕ → ℕ → ℕ) (s : ℕ → List ℕ) (d
     abbrev pub outer : List (List ℕ)
     outer = part_copies edge_of (lists u) parts_u ++ (part_copies edge_of (lists w) parts_w ++ map lists names)
 
+    -- twins are of one part
     twins : (x d : ℕ) → d < 2 * n → value_at x (twin d) ≡ value_at x d
     twins x d lt = ap (λ k. part_value g x (name k)) (half_twin d)
 
@@ -175,7 +177,8 @@ module _ (g : NamedGraph) (dart : ℕ → ℕ → ℕ) (s : ℕ → List ℕ) (d
         (part_copies edge_of (lists w) parts_w) (copies-HaveOtherValues edge_of (lists w) (value_at w) parts_w tells_w))
 
     -- with u whole and w divided, the part at w is one on each list
-    half_value_w : EachList (HasOneValue (value_at w)) (part_copies edge_of (lists w) parts_w ++ lists u ∷ map lists names)
+    half_value_w : EachList (HasOneValue (value_at w))
+        (part_copies edge_of (lists w) parts_w ++ lists u ∷ map lists names)
     half_value_w =
         EachList-append (HasOneValue (value_at w)) (part_copies edge_of (lists w) parts_w) (lists u ∷ map lists names)
         (copies-HasOneValue edge_of (lists w) (value_at w) parts_w tells_w)

@@ -30,3 +30,5 @@ mod PartCrossings
 mod PartCopies
 mod JoinedLists
 mod ToldParts
+mod MovedCrossings
+mod HatOrders

@@ -46,6 +46,7 @@ module _ (key : ℕ → ℕ) (whole : List ℕ) where
   copy-Has part d h =
       let r = filter-Has (λ y. has (key y) part) d whole h in (r.0, has_true (key d) part r.1)
 
+  -- and the other way round
   pub Has-copy : (part : List ℕ) (d : ℕ) → Has d whole → Has (key d) part → Has d (part_copy key whole part)
   Has-copy part d h k = Has-filter (λ y. has (key y) part) d whole h (has_yes (key d) part k)
 
@@ -58,6 +59,7 @@ module _ (key : ℕ → ℕ) (whole : List ℕ) where
       (λ k. let r = copies-Has parts d k in (r.0, Has-append_right (key d) part (flat parts) r.1))
       (Has-append_cases d (part_copy key whole part) (flat (part_copies key whole parts)) h)
 
+  -- and the other way round
   pub Has-copies : (parts : List (List ℕ)) (d : ℕ) → Has d whole → Has (key d) (flat parts)
       → Has d (flat (part_copies key whole parts))
   Has-copies [] d h k = absurd k
@@ -75,6 +77,7 @@ module _ (key : ℕ → ℕ) (whole : List ℕ) where
     copies-restricted parts,
   )
 
+  -- each copy is what the list has of its items
   copies-EachTurnOf : (parts : List (List ℕ)) → EachTurnOf whole (part_copies key whole parts)
   copies-EachTurnOf [] = tt
   copies-EachTurnOf (part ∷ parts) = (

@@ -41,10 +41,12 @@ module _ (n : ℕ) (g : NamedGraph) (dart : ℕ → ℕ → ℕ) (s : ℕ → Li
   blocks_apart =
       ((named_blocks-IsFlat n g dart s f darts arr is none number class
       (λ e k ce ck. same_block_of (pairs g) none (rank g.edges e) (rank g.edges k))
-      (λ d lt. let le = block_of-le (pairs g) (rank g.edges (name (d / 2))) in omega (arith, le, few (name (d / 2)), lt))
+      (λ d lt. let le = block_of-le (pairs g) (rank g.edges (name (d / 2))) in
+      omega (arith, le, few (name (d / 2)), lt))
       (λ d lt. ap (λ k. number (name k)) (half_twin d))
       (λ w e c. ap number (named w e c))).0 z).1
 
+  -- so they do not cross at one vertex
   at_vertex : (names : List ℕ) (u : ℕ) → Has u names → NoneCross class (map (dart_list dart s) names)
       → NoCross class (dart_list dart s u)
   at_vertex [] u h apart = absurd h

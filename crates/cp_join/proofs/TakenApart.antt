@@ -46,12 +46,14 @@ each_at good [] k lt each = absurd (omega (arith, lt))
 each_at good (xs ∷ rows) zero lt each = each.0
 each_at good (xs ∷ rows) (suc k) lt each = each_at good rows k (omega (arith, lt)) each.1
 
+-- a list of classes has at each place a class of the row
 class_at : (cls : ℕ → ℕ) (row : List ℕ) (rows : List (List ℕ)) (k : ℕ) → k < length rows → EachClassOf cls row rows
     → IsClassOf cls row (get_or rows k [])
 class_at cls row [] k lt each = absurd (omega (arith, lt))
 class_at cls row (xs ∷ rows) zero lt each = each.0
 class_at cls row (xs ∷ rows) (suc k) lt each = class_at cls row rows k (omega (arith, lt)) each.1
 
+-- a ring is one of the rings at its place
 ring_at : (f : ℕ → ℕ) (rows : List (List ℕ)) (k : ℕ) → k < length rows → Rings f rows → Ring f (get_or rows k [])
 ring_at f [] k lt rings = absurd (omega (arith, lt))
 ring_at f (xs ∷ rows) zero lt rings = rings.0
@@ -72,6 +74,7 @@ module _ (e : ℕ) (whole : List ℕ) (copies rows : List (List ℕ)) (can : Can
   abbrev class : ℕ → ℕ
   class = class_by is_of copies
 
+  -- each dart of the whole list has the place of one of the lists
   class_less : (d : ℕ) → Has d whole → class d < length copies
   class_less d h = class_by-is_of copies d (all d h)
 
@@ -111,7 +114,8 @@ module _ (e : ℕ) (whole : List ℕ) (copies rows : List (List ℕ)) (can : Can
         let r = flat-Has d made.0 (assembled_item whole made.0 d made.1 in_whole) in
         let zs : List ℕ = get_or made.0 r.0 [] in
         let is : IsClassOf class whole zs = class_at class whole made.0 r.0 r.1 made.2 in
-        let ring : Ring apart.0 zs = ring_at apart.0 made.0 r.0 r.1 (Rings-append_left apart.0 made.0 rows apart.1.rings) in
+        let ring : Ring apart.0 zs = ring_at apart.0 made.0 r.0 r.1
+        (Rings-append_left apart.0 made.0 rows apart.1.rings) in
         let mine : class d ≡ k = class_is k d lt h in_whole in
         let same : class is.one ≡ k = sym ((is.items d).0 r.2).1 ∙ mine in
         let kept : filter (λ y. eqb (class y) (class is.one)) whole ≡ filter (is_of ys) whole =

@@ -22,6 +22,7 @@ first_part : (part : List ℕ) (parts : List (List ℕ)) (e : ℕ) → Distinct 
 first_part part parts e once h =
     part_is (part ∷ parts) 0 e (subst Distinct (sym (all_of-flat (part ∷ parts))) once) (omega arith) h
 
+-- the place of the part of an item behind the first part
 later_part : (part : List ℕ) (parts : List (List ℕ)) (e : ℕ) → Distinct (part ++ flat parts) → Has e (flat parts)
     → part_of (part ∷ parts) e ≡ suc (part_of parts e)
 later_part part parts e once h =

@@ -27,6 +27,7 @@ module _ (value : ℕ → ℕ) (whole : List ℕ) (apart : NoCross value whole) 
       (λ x h t. eq-eqb (value x) (value cross.first) (one x cross.first (has_true x xs t) first))
       (λ x h t. eq-eqb (value x) (value cross.second) (two x cross.second (has_true x ys t) second)) cross)
 
+  -- one list crosses none of those behind it
   one_by_one : (xs : List ℕ) (rows : List (List ℕ)) → HasOneValue value xs → EachList (HasOneValue value) rows
       → ((c d : ℕ) → Has c xs → Has d (flat rows) → value c ≢ value d) → EachList (Uncrossed is_of whole xs) rows
   one_by_one xs [] one each other = tt
@@ -35,6 +36,7 @@ module _ (value : ℕ → ℕ) (whole : List ℕ) (apart : NoCross value whole) 
     one_by_one xs rows one each.1 (λ c d hc hd. other c d hc (Has-append_right d ys (flat rows) hd)),
   )
 
+  -- no two of the lists cross
   all_values-AllUncrossed : (rows : List (List ℕ)) → EachList (HasOneValue value) rows → HaveOtherValues value rows
       → AllUncrossed is_of whole rows
   all_values-AllUncrossed [] each other = tt
@@ -72,7 +74,8 @@ module _ (value : ℕ → ℕ) where
       later y t = cond-false (has y xs) 0 (suc (class_by is_of rows y)) t
 
       behind : (y : ℕ) → has y xs ≡ false → Has y (xs ++ flat rows) → Has y (flat rows)
-      behind y t h = ⊎_elim (λ k. absurd (false≢true (sym t ∙ has_yes y xs k))) (λ k. k) (Has-append_cases y xs (flat rows) h)
+      behind y t h =
+          ⊎_elim (λ k. absurd (false≢true (sym t ∙ has_yes y xs k))) (λ k. k) (Has-append_cases y xs (flat rows) h)
 
   -- and darts of one list have one value
   at_place : (rows : List (List ℕ)) (k : ℕ) → k < length rows → EachList (HasOneValue value) rows
@@ -81,6 +84,7 @@ module _ (value : ℕ → ℕ) where
   at_place (xs ∷ rows) zero lt each = each.0
   at_place (xs ∷ rows) (suc k) lt each = at_place rows k (omega (arith, lt)) each.1
 
+  -- and darts at one place have one value
   class-value : (rows : List (List ℕ)) (c d : ℕ) → EachList (HasOneValue value) rows → Has c (flat rows)
       → Has d (flat rows) → class_by is_of rows c ≡ class_by is_of rows d → value c ≡ value d
   class-value rows c d each hc hd same =
