@@ -1,0 +1,11 @@
+mod Places
+mod ExchangedItems
+mod Tables
+mod RewrittenItems
+mod EdgeMoves
+mod ManyExchanges
+mod ReadItems
+mod Listed
+mod BestPipes
+mod StoredStates
+mod StoredRewrites

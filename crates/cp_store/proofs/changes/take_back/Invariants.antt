@@ -1,0 +1,14 @@
+use Rattle.std.proofs.Common.{◌≡◌}
+use Rattle.std.specs.List.{All}
+use Rattle.cp_store.specs.Exchanges.{taken_back, entry_names, items_of, IsTable, IsReserved}
+use Rattle.cp_store.proofs.changes.take_back.Given as goal
+
+abbrev pub invariant-loop-entry : goal.invariant-loop-entry
+invariant-loop-entry g l =
+    IsTable g.T.Named.name l.table.entries.items
+    × (entry_names l.table.entries.items ≡ entry_names l.initial.table.entries.items)
+    × (taken_back g.T.Named.name l.rest.items (items_of l.table.entries.items) ≡ taken_back g.T.Named.name l.initial.rest.items (items_of l.initial.table.entries.items))
+    × All (IsReserved g.T.Named.name (entry_names l.initial.table.entries.items)) l.rest.items
+
+abbrev pub decreases-loop-entry : goal.decreases-loop-entry
+decreases-loop-entry g l = goal.left-loop-entry g l

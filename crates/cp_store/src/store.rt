@@ -1,0 +1,214 @@
+// A store.
+ghost use Rattle.std.specs.Prelude.{◌≡◌, ◌+◌, ◌∷◌, [], length, true, false, ltb, IfOk, OnOk, OnErr};
+ghost use Rattle.cp_board.specs.Instances.{IsSynchronized};
+ghost use Rattle.cp_board.specs.Rewrites.{rewritten, IsRewriteOf};
+ghost use Rattle.cp_board.specs.Runs.{slots};
+ghost use Rattle.cp_sync.specs.Faults.{with_parts};
+ghost use Rattle.cp_store.specs.Histories.{present_of};
+
+use crate::greatest::best_pipe;
+use crate::lists::table_of;
+use crate::lookups::{cell_under, ends_under, has_list, pairs_under, pipe_ends_under, psi_under};
+use crate::parts::{Change, Parts, empty_for, make_change, reserve_change, undo_change};
+use crate::plan::plan_of;
+use crate::reading::{copied_table, pipe_ending_at, slots_of};
+use cp_base::{CycList, Memory};
+use cp_board::{EdgeRow, NameKind, Pipe, Rewrite, Vert};
+use cp_sync::{Board, Instance, PartsFault};
+use std::alloc::Global;
+use std::marker::Model;
+
+/// A store: the instances of a run so far, of which the present one is stored, and for each rewrite what it changed.
+/// Contracts see it as the list of these instances, the present one first.
+#[derive(Debug, Drop)]
+pub struct Store {
+    parts: Parts,
+    log: Vec<Change>,
+}
+
+impl Model for Store {
+    ghost use Rattle.std.specs.Prelude.{List, reverse};
+    ghost use Rattle.cp_board.specs.Instances.{Synchronized};
+    ghost use Rattle.cp_store.specs.Parts.{told, states, IsStore};
+
+    ghost Value = { List Synchronized };
+
+    ghost view = { λ s. states (reverse s.log.items) (told s.parts) };
+
+    ghost invariant = { λ s. IsStore s.parts s.log.items };
+}
+
+impl Store {
+    /// A store of the instance with these lists, in memory of its own, with no rewrite to undo. Linear in them.
+    pub fn from_lists(
+        alloc: Global,
+        verts: &[Vert],
+        edges: &[EdgeRow],
+        pipes: &[Pipe],
+    ) -> Result<Store, Memory>
+        requires { IsSynchronized (with_parts verts.now edges.now pipes.now) }
+        ensures { IfOk result (λ s. s ≡ with_parts verts.now edges.now pipes.now ∷ []) }
+    {
+        let verts = table_of(alloc, verts)?;
+        let edges = table_of(alloc, edges)?;
+        let pipes = table_of(alloc, pipes)?;
+        Ok(Store {
+            parts: Parts {
+                verts,
+                edges,
+                pipes,
+            },
+            log: Vec::new(alloc),
+        })
+    }
+
+    // The law of each store: its present instance follows the rules.
+    fn present_follows_rules(&self)
+        ensures { IsSynchronized (present_of self.now) }
+    {
+        let _ = &self.parts;
+    }
+
+    /// The present instance, in memory of its own. Linear in the store's names and in the instance, up to a logarithm.
+    pub fn present(&self, alloc: Global) -> Result<Instance, Memory>
+        ensures { IfOk result (λ i. i ≡ present_of self.now) }
+    {
+        let verts = copied_table(alloc, &self.parts.verts)?;
+        let edges = copied_table(alloc, &self.parts.edges)?;
+        let pipes = copied_table(alloc, &self.parts.pipes)?;
+        match Instance::from_parts(alloc, verts, edges, pipes) {
+            Ok(i) => Ok(i),
+            Err(PartsFault::Memory) => Err(Memory),
+            Err(PartsFault::Broken { .. }) => unreachable!(),
+        }
+    }
+
+    /// The number of vertices, edges and pipes of the present instance. Linear in the store's names.
+    pub fn slots(&self) -> usize
+        ensures { result ≡ slots (present_of self.now) }
+    {
+        slots_of(&self.parts)
+    }
+
+    /// The number of rewrites that can be undone. Constant time.
+    pub fn depth(&self) -> usize
+        ensures { result + 1 ≡ length self.now }
+    {
+        self.log.len()
+    }
+
+    /// Takes the last rewrite back that is not undone, and answers true; or answers false, where there is none, and
+    /// changes nothing. It takes no memory, and as much time as the rewrite changed, up to a logarithm.
+    pub fn undo(&mut self) -> bool
+        ensures some { result ≡ true → self.old ≡ present_of self.old ∷ self.new }
+        ensures none { result ≡ false → self.new ≡ self.old }
+        ensures answer { result ≡ ltb 1 (length self.old) }
+    {
+        match self.log.pop() {
+            None => false,
+            Some(change) => {
+                undo_change(&mut self.parts, change);
+                true
+            }
+        }
+    }
+
+    // Rewrites the present instance. The old one stays behind it.
+    fn rewrite_present(&mut self, alloc: Global, w: &Rewrite) -> Result<(), Memory>
+        requires { IsRewriteOf (present_of self.old) w.now }
+        ensures ok { OnOk result (self.new ≡ rewritten w.now (present_of self.old) ∷ self.old) }
+        ensures err { OnErr result (self.new ≡ self.old) }
+    {
+        let plan = plan_of(alloc, w)?;
+        let mut done = empty_for(alloc, &plan, w.moves.len())?;
+        self.log.reserve(1)?;
+        reserve_change(&mut self.parts, &plan)?;
+        make_change(&mut self.parts, plan, w.moves.items(), &mut done);
+        self.log.push_reserved(done);
+        Ok(())
+    }
+}
+
+/// `is_q`, `cell`, `psi`, `ends`, `pipe_ends` and `pairs` take logarithmic time, beside the length of a list that they
+/// give, and `pipe_at` and `max_pipe` linear time in the names of pipes. `rewrite` takes logarithmic time for each part
+/// that it drops, adds or changes, beside copies of what it brings, and time linear in the names of a kind for each new
+/// name that lies below others and was never live. `verts`, `edges`, `edges_at` and `free_names` copy the present
+/// instance.
+impl Board for Store {
+    ghost instance = { λ s. present_of s };
+
+    fn verts(&self, alloc: Global) -> Result<Vec<usize>, Memory> {
+        self.present_follows_rules();
+        let i = self.present(alloc)?;
+        i.verts(alloc)
+    }
+
+    fn edges(&self, alloc: Global) -> Result<Vec<usize>, Memory> {
+        self.present_follows_rules();
+        let i = self.present(alloc)?;
+        i.edges(alloc)
+    }
+
+    fn edges_at(&self, alloc: Global, v: usize) -> Result<Vec<usize>, Memory> {
+        self.present_follows_rules();
+        let i = self.present(alloc)?;
+        i.edges_at(alloc, v)
+    }
+
+    fn is_q(&self, v: usize) -> bool {
+        self.present_follows_rules();
+        has_list(&self.parts, v)
+    }
+
+    fn cell(&self, v: usize) -> usize {
+        cell_under(&self.parts, v)
+    }
+
+    fn psi(&self, v: usize) -> &CycList {
+        psi_under(&self.parts, v)
+    }
+
+    fn ends(&self, e: usize) -> (usize, usize) {
+        self.present_follows_rules();
+        ends_under(&self.parts, e)
+    }
+
+    fn pipe_at(&self, v: usize) -> Option<usize> {
+        pipe_ending_at(&self.parts.pipes, v)
+    }
+
+    fn pipe_ends(&self, p: usize) -> (usize, usize) {
+        self.present_follows_rules();
+        pipe_ends_under(&self.parts, p)
+    }
+
+    fn pairs(&self, p: usize) -> &[(usize, usize)] {
+        pairs_under(&self.parts, p)
+    }
+
+    fn free_names(&self, alloc: Global, kind: NameKind, n: usize) -> Result<Vec<usize>, Memory> {
+        let i = self.present(alloc)?;
+        i.free_names(alloc, kind, n)
+    }
+
+    fn max_pipe(&self) -> Option<usize> {
+        self.present_follows_rules();
+        match best_pipe(&self.parts.pipes) {
+            None => None,
+            Some((_, name)) => Some(name),
+        }
+    }
+
+    fn rewrite(&mut self, alloc: Global, w: &Rewrite) -> Result<(), Memory>
+        requires { IsRewriteOf (present_of self.old) w.now }
+        ensures ok { OnOk result (present_of self.new ≡ rewritten w.now (present_of self.old)) }
+        ensures err { OnErr result (self.new ≡ self.old) }
+        ensures appended { OnOk result (self.new ≡ rewritten w.now (present_of self.old) ∷ self.old) }
+    {
+        self.rewrite_present(alloc, w)
+    }
+
+    fn follows_rules(&self) {
+        self.present_follows_rules();
+    }
+}
