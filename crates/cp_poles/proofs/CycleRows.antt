@@ -14,7 +14,7 @@ use Rattle.cp_orbits.proofs.OrbitLaws.{iterate-add}
 use Rattle.cp_poles.specs.Layers.{layers, leaders, lowest}
 
 -- the image of the rows
-layers-map : (m : ℕ → ℕ) (c : ℕ) (row : List ℕ) → map m (layers m c row) ≡ layers m c (map m row)
+pub layers-map : (m : ℕ → ℕ) (c : ℕ) (row : List ℕ) → map m (layers m c row) ≡ layers m c (map m row)
 layers-map m zero row = refl
 layers-map m (suc c) row =
     map-append m row (layers m c (map m row)) ∙ ap (λ us. map m row ++ us) (layers-map m c (map m row))
@@ -25,7 +25,7 @@ power_row m c [] = refl
 power_row m c (x ∷ xs) = ap (λ us. iterate m c (m x) ∷ us) (power_row m c xs)
 
 -- one row more at the end
-layers-last : (m : ℕ → ℕ) (c : ℕ) (row : List ℕ) → layers m (suc c) row ≡ layers m c row ++ map (iterate m c) row
+pub layers-last : (m : ℕ → ℕ) (c : ℕ) (row : List ℕ) → layers m (suc c) row ≡ layers m c row ++ map (iterate m c) row
 layers-last m zero row = append-nil row ∙ sym (map_same row)
   where
     map_same : (xs : List ℕ) → map (λ x. x) xs ≡ xs
@@ -54,7 +54,7 @@ layers_turn m (suc c) row same =
     (turn_parts row (layers m c (map m row)))
 
 -- an item of the rows is what a power makes of one of the first row
-layers-Has : (m : ℕ → ℕ) (c : ℕ) (row : List ℕ) (d : ℕ) → Has d (layers m c row)
+pub layers-Has : (m : ℕ → ℕ) (c : ℕ) (row : List ℕ) (d : ℕ) → Has d (layers m c row)
     → (k : ℕ) × (k < c) × ((x : ℕ) × Has x row × (iterate m k x ≡ d))
 layers-Has m zero row d h = absurd h
 layers-Has m (suc c) row d h = ⊎_elim
@@ -100,13 +100,13 @@ layers-Distinct m (suc (suc c)) row once apart =
     omega (arith, same.0)))
 
 -- what the test of the least item says
-lowest-at : (m : ℕ → ℕ) (n x y : ℕ) → lowest m n x y ≡ true → (k : ℕ) → k < n → x ≤ iterate m k y
+pub lowest-at : (m : ℕ → ℕ) (n x y : ℕ) → lowest m n x y ≡ true → (k : ℕ) → k < n → x ≤ iterate m k y
 lowest-at m zero x y t k lt = absurd (omega (arith, lt))
 lowest-at m (suc n) x y t zero lt = leb-true x y (and_parts (leb x y) (lowest m n x (m y)) t).0
 lowest-at m (suc n) x y t (suc k) lt =
     lowest-at m n x (m y) (and_parts (leb x y) (lowest m n x (m y)) t).1 k (omega (arith, lt))
 
-lowest-from : (m : ℕ → ℕ) (n x y : ℕ) → ((k : ℕ) → k < n → x ≤ iterate m k y) → lowest m n x y ≡ true
+pub lowest-from : (m : ℕ → ℕ) (n x y : ℕ) → ((k : ℕ) → k < n → x ≤ iterate m k y) → lowest m n x y ≡ true
 lowest-from m zero x y each = refl
 lowest-from m (suc n) x y each =
     and_from (leb x y) (lowest m n x (m y)) (le-leb x y (each 0 (omega arith)))

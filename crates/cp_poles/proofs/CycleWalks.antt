@@ -20,7 +20,7 @@ CycleLength-next n f perm x k lt cycle = record {
 }
 
 -- nothing is marked in a table without marks
-unmarked : (n k : ℕ) → get_or (replicate n false) k false ≡ false
+pub unmarked : (n k : ℕ) → get_or (replicate n false) k false ≡ false
 unmarked n k = ⊎_elim
     (λ l. get_or-replicate n k false false l)
     (λ g. get_or_past (replicate n false) k false (omega (arith, g, length-replicate n false)))
@@ -48,7 +48,7 @@ AreMarked-more to size seen at so cycle = record {
 module _ (es : List ℕ) (once : Distinct es) (m f : ℕ → ℕ) (perm : Permutes (length es) f)
     (carry : (k : ℕ) → k < length es → slice_index es (f k) ≡ m (slice_index es k)) where
   -- so do their powers
-  iterate-carry : (j k : ℕ) → k < length es → slice_index es (iterate f j k) ≡ iterate m j (slice_index es k)
+  pub iterate-carry : (j k : ℕ) → k < length es → slice_index es (iterate f j k) ≡ iterate m j (slice_index es k)
   iterate-carry zero k lt = refl
   iterate-carry (suc j) k lt = iterate-carry j (f k) (perm.below k lt) ∙ ap (iterate m j) (carry k lt)
 

@@ -25,3 +25,7 @@ mod TorusTurns
 mod TorusSolutions
 mod CycleWalks
 mod TurnedPlaces
+mod CycleOrders
+mod KeptOrders
+mod TestedPipes
+mod FusedSolutions

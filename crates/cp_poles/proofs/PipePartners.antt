@@ -25,7 +25,7 @@ use Rattle.cp_poles.proofs.InstanceDarts.{edges_once}
 use Rattle.cp_lists.proofs.PermutedLists.{Distinct-IsPermutation}
 
 -- in a list with names of its own each item is found under its name
-found_own : {A : Type 0} (name : A → ℕ) (xs : List A) → Distinct (map name xs)
+pub found_own : {A : Type 0} (name : A → ℕ) (xs : List A) → Distinct (map name xs)
     → All (λ x. find (λ y. eqb (name y) (name x)) xs ≡ Some x) xs
 found_own name [] once = All-nil (λ x. find (λ y. eqb (name y) (name x)) [] ≡ Some x)
 found_own {A} name (z ∷ xs) once =
@@ -104,7 +104,7 @@ module _ (i : Synchronized) (is : IsSynchronized i) (p : Pipe) (differ : p.a ≢
       let back = All-contains (λ z. first_of p z.1 ≡ z.0) p.pairs y.0 firsts_found y.1 in
       ap (λ z. first_of p (second_of p z)) (sym y.2) ∙ ap (first_of p) there ∙ back ∙ y.2
 
-  second_first : (x : ℕ) → Contains (edges_at g p.b) x → second_of p (first_of p x) ≡ x
+  pub second_first : (x : ℕ) → Contains (edges_at g p.b) x → second_of p (first_of p x) ≡ x
   second_first x c =
       let y = pair_of_second x c in
       let there = All-contains (λ z. second_of p z.0 ≡ z.1) p.pairs y.0 seconds_found y.1 in

@@ -51,13 +51,13 @@ module _ (i : Synchronized) (pipe : ℕ) (p : Pipe) (is : IsSynchronized i) (liv
   abbrev pub along : ℕ → ℕ
   along = first_onward (graph i) p.a p.b
 
-  abbrev back : ℕ → ℕ
+  abbrev pub back : ℕ → ℕ
   back = first_onward g p.b p.a
 
   pub is_along : IsAlong g p.a p.b along
   is_along = IsAlong-first_onward g p.a p.b bond
 
-  is_back : IsAlong g p.b p.a back
+  pub is_back : IsAlong g p.b p.a back
   is_back = IsAlong-first_onward g p.b p.a (bond_back g p.a p.b bond (edges_once i is) equal_ends)
 
   -- the map of the pipe and the bond

@@ -6,3 +6,5 @@ pub mod Layers
 pub mod Cycles
 pub mod Turned
 pub mod TorusFaults
+pub mod Kept
+pub mod PoleSteps

@@ -3,12 +3,13 @@ ghost use Rattle.std.specs.Prelude.{◌≡◌, ◌≢◌, ℕ, ◌<◌, true, fa
 ghost use Rattle.cp_base.specs.Permutations.{IsPerm};
 ghost use Rattle.cp_orbits.specs.Orbits.{CycleLength};
 ghost use Rattle.cp_poles.specs.Cycles.{AreMarked, HaveLength, IsOtherLength};
+ghost use Rattle.cp_poles.specs.Kept.{AddsCycle};
 
 use cp_base::{Memory, Perm, PermFault};
 use std::alloc::Global;
 
 // A list that is a permutation, as one. Linear.
-fn permutation(alloc: Global, to: &[usize]) -> Result<Perm, Memory>
+pub(crate) fn permutation(alloc: Global, to: &[usize]) -> Result<Perm, Memory>
     requires { IsPerm to.now }
     ensures { IfOk result (λ perm. perm ≡ to.now) }
 {
@@ -28,12 +29,13 @@ fn mark(seen: &mut Vec<bool>, at: usize)
 }
 
 // Marks the places of the cycle of a place. Linear in its length.
-fn mark_cycle(to: &[usize], seen: &mut Vec<bool>, start: usize, size: usize)
+pub(crate) fn mark_cycle(to: &[usize], seen: &mut Vec<bool>, start: usize, size: usize)
     requires permutes { IsPerm to.now }
     requires marks { AreMarked to.now size seen.old.items }
     requires within { start < length to.now }
     requires cycle { CycleLength (slice_index to.now) start size }
-    ensures { AreMarked to.now size seen.new.items }
+    ensures marks { AreMarked to.now size seen.new.items }
+    ensures added { AddsCycle to.now start seen.old.items seen.new.items }
 {
     let mut at = start;
     for step in 0..size {
@@ -63,7 +65,7 @@ fn visit(perm: &Perm, to: &[usize], seen: &mut Vec<bool>, at: usize, size: usize
 }
 
 // A table without marks.
-fn unmarked(alloc: Global, n: usize) -> Result<Vec<bool>, Memory>
+pub(crate) fn unmarked(alloc: Global, n: usize) -> Result<Vec<bool>, Memory>
     ensures { IfOk result (λ seen. seen.items ≡ replicate n false) }
 {
     let seen = vec![in alloc; false; n]?;

@@ -5,17 +5,22 @@ ghost use Rattle.cp_board.specs.declared.steps.Step.TheVariants.{Toroidal};
 ghost use Rattle.cp_board.specs.Instances.{Synchronized, IsSynchronized, graph, pipe_named};
 ghost use Rattle.cp_board.specs.Reasons.{HaveUnequalCycles};
 ghost use Rattle.cp_board.specs.Reductions.{KeepsSolvable, Performs};
-ghost use Rattle.cp_board.specs.Solutions.{IsSolvable};
+ghost use Rattle.cp_board.specs.Effects.{After};
+ghost use Rattle.cp_board.specs.Solutions.{IsSolution, IsSolvable};
 ghost use Rattle.cp_board.specs.Steps.{Allowed};
 ghost use Rattle.cp_conn.specs.Bonds.{IsBond};
+ghost use Rattle.cp_poles.specs.Kept.{IsKeptOrder};
 ghost use Rattle.cp_poles.specs.TorusFaults.{IsTorusFaultOf};
 
 use crate::cycles::unequal_lengths;
 use crate::free_poles::drop_pipe;
+use crate::reordered::reordered;
+use crate::rows::{edges_at_places, rows_of_cycles};
 use crate::torus_fault::TorusFault;
 use crate::turned::turning_places;
+use cp_base::{CycList, Memory};
 use cp_board::Rewrite;
-use cp_sync::Board;
+use cp_sync::{Board, Solution};
 use std::alloc::Global;
 
 /// What Toroidal makes of an instance is solvable exactly where the instance is. Constant time.
@@ -61,4 +66,40 @@ pub fn toroidal<B: Board>(alloc: Global, board: &B, pipe: usize) -> Result<Rewri
     compare_cycles(alloc, board, pipe)?;
     let rewrite = drop_pipe(alloc, pipe)?;
     Ok(rewrite)
+}
+
+// An order of the edges of the first end of the pipe that the map of the pipe takes to a turn of itself: the rows of
+// the cycles of the map. Linear in the board, up to a logarithm.
+fn kept_order<B: Board>(alloc: Global, board: &B, pipe: usize) -> Result<CycList, Memory>
+    requires { Allowed (B.instance board.now) (Toroidal pipe) }
+    ensures { IfOk result (λ order. (p : Pipe) × (pipe_named (B.instance board.now) pipe ≡ Some p) × IsKeptOrder (B.instance board.now) p order) }
+{
+    let places = turning_places(alloc, board, pipe)?;
+    let rows = rows_of_cycles(alloc, places.as_slice())?;
+    let first = board.pipe_ends(pipe).0;
+    let edges = board.edges_at(alloc, first)?;
+    let order = edges_at_places(alloc, edges.as_slice(), rows.as_slice())?;
+    Ok(order)
+}
+
+/// The solution before the step Toroidal from one after it: the first end gets an order that the map of the pipe takes
+/// to a turn of itself, the parts between the two ends follow, and all other lists stay. With the least edges of the
+/// cycles in the first row, and in each further row the edges to which those of the row before it go, the order reads
+/// the rows one behind the other. It numbers the components of the board without the two ends once, and asks the board
+/// for the ends of all edges: linear in the board, up to a logarithm. The only error is want of memory.
+pub fn toroidal_back<B: Board>(
+    alloc: Global,
+    before: &B,
+    pipe: usize,
+    after: Solution,
+) -> Result<Solution, Memory>
+    requires allowed { Allowed (B.instance before.now) (Toroidal pipe) }
+    requires solved { (j : Synchronized) × After (B.instance before.now) (Toroidal pipe) j × IsSolution j after }
+    ensures { IfOk result (IsSolution (B.instance before.now)) }
+{
+    before.follows_rules();
+    let (a, b) = before.pipe_ends(pipe);
+    let order = kept_order(alloc, before, pipe)?;
+    let solution = reordered(alloc, before, a, b, order, after)?;
+    Ok(solution)
 }

@@ -3,7 +3,6 @@ use Rattle.std.proofs.Common.{sym, subst}
 use Rattle.cp_board.specs.declared.steps.Step.TheVariants.{FreePole}
 use Rattle.cp_board.specs.Reductions.{Performs}
 use Rattle.cp_poles.proofs.FreePoles.{Performs-free}
-use Rattle.cp_poles.proofs.SmallRewrites.{live_pipe}
 use Rattle.cp_poles.proofs.free_poles.free_pole.Goals as goal
 
 pub returns : goal.returns

@@ -1,6 +1,5 @@
 -- What solves the instance after Small solves the one before it.
 use Rattle.cp_poles.proofs.SmallPipes.{IsSolution-before_small}
-use Rattle.cp_poles.proofs.SmallRewrites.{live_pipe}
 use Rattle.cp_poles.proofs.small_pipes.small_back.Goals as goal
 
 pub returns : goal.returns

@@ -1,0 +1,65 @@
+-- What tests find out of a board by its calls.
+use Rattle.std.proofs.Common.{◌≡◌, ℕ, false, List, [], ◌∷◌, sym, refl, ap, ◌∙◌, subst, ⊎_elim, eqb, arith}
+use Rattle.std.specs.Prelude.{Option, None, Some, find}
+use Rattle.std.specs.List.{Contains}
+use Rattle.std.specs.Option.{option_map}
+use Rattle.std.proofs.lemmas.Bool.{cases_Bool, cond-false, cond-true, eqb-false, false≢true}
+use Rattle.cp_lists.proofs.DistinctLists.{Has-Contains}
+use Rattle.cp_board.specs.declared.parts.Kind.{Kind}
+use Rattle.cp_board.specs.declared.parts.Kind.TheVariants.{P, Q}
+use Rattle.cp_board.specs.declared.parts.Pipe.{Pipe}
+use Rattle.cp_board.specs.declared.parts.Vert.{Vert}
+use Rattle.cp_board.specs.Instances.{Synchronized, IsSynchronized, is_q_kind, kind_in, names_of_verts, pipe_ends_of, pipe_named, vert_names}
+use Rattle.cp_board.specs.Runs.{IsGreatestName}
+use Rattle.cp_poles.proofs.FoundItems.{None-other}
+use Rattle.cp_poles.proofs.KeptOrders.{ends_told}
+use Rattle.cp_poles.proofs.SmallPipes.{live_a, live_b}
+
+-- the greatest pipe is one
+pub greatest_named : (i : Synchronized) (pipe : ℕ) → IsGreatestName i pipe → (p : Pipe) × (pipe_named i pipe ≡ Some p)
+greatest_named i pipe w = (w.0, subst (λ n. pipe_named i n ≡ Some w.0) w.1 w.2.live)
+
+-- its ends are vertices
+pub told_a : (i : Synchronized) (pipe : ℕ) → IsSynchronized i → IsGreatestName i pipe → (ends : ℕ × ℕ)
+    → ends ≡ pipe_ends_of i pipe → Contains (vert_names i) ends.0
+told_a i pipe is w ends asked =
+    let g = greatest_named i pipe w in
+    subst (λ (x : ℕ × ℕ). Contains (vert_names i) x.0) (sym (ends_told i pipe g.0 g.1 ends asked))
+    (live_a i pipe g.0 is g.1)
+
+pub told_b : (i : Synchronized) (pipe : ℕ) → IsSynchronized i → IsGreatestName i pipe → (ends : ℕ × ℕ)
+    → ends ≡ pipe_ends_of i pipe → Contains (vert_names i) ends.1
+told_b i pipe is w ends asked =
+    let g = greatest_named i pipe w in
+    subst (λ (x : ℕ × ℕ). Contains (vert_names i) x.1) (sym (ends_told i pipe g.0 g.1 ends asked))
+    (live_b i pipe g.0 is g.1)
+
+-- a kind that is not that of a Q-vertex
+free_kind : (k : Kind) → is_q_kind (Some k) ≡ false → Some k ≡ Some P
+free_kind P e = refl
+free_kind (Q cell psi) e = absurd (false≢true (sym e))
+
+-- a vertex that is no Q-vertex is a P-vertex
+pub kind_free : (vs : List Vert) (v : ℕ) → Contains (names_of_verts vs) v → is_q_kind (kind_in vs v) ≡ false
+    → kind_in vs v ≡ Some P
+kind_free [] v c e = absurd (omega (arith, c.1))
+kind_free (x ∷ vs) v c e = ⊎_elim
+    (λ b.
+    let at : kind_in (x ∷ vs) v ≡ Some x.kind =
+    ap (option_map (λ y. y.kind)) (cond-true (eqb x.name v) (Some x) (find (λ y. eqb y.name v) vs) b) in
+    at ∙ free_kind x.kind (subst (λ o. is_q_kind o ≡ false) at e))
+    (λ b.
+    let at : kind_in (x ∷ vs) v ≡ kind_in vs v =
+    ap (option_map (λ y. y.kind)) (cond-false (eqb x.name v) (Some x) (find (λ y. eqb y.name v) vs) b) in
+    let differ = eqb-false x.name v b in
+    let later : Contains (names_of_verts vs) v =
+    (Has-Contains v (names_of_verts vs)).0
+    (⊎_elim (λ e. absurd (omega (arith, e, differ))) (λ h. h)
+    ((Has-Contains v (x.name ∷ names_of_verts vs)).1 c)) in
+    at ∙ kind_free vs v later (subst (λ o. is_q_kind o ≡ false) at e))
+    (cases_Bool (eqb x.name v))
+
+-- what has no name is nothing
+pub none_named : (o : Option Pipe) → option_map (λ p. p.name) o ≡ None → o ≡ None
+none_named None e = refl
+none_named (Some p) e = absurd (None-other p.name (sym e))
