@@ -4,6 +4,7 @@ mod CrossingLists
 mod MetEquations
 mod RoundEdges
 mod BlockDegrees
+mod CutBlocks
 mod DirectedTrees
 mod NamedSystems
 mod NamedMaps

@@ -2,10 +2,12 @@
 //! lists of its Q-vertices, and whether two blocks cross at a Q-vertex.
 #![tactic(auto)]
 
+mod block_trees;
 mod crossing;
 mod directions;
 mod turns;
 
+pub use block_trees::{BlockTree, embed_block};
 pub use crossing::first_crossing;
 pub use directions::{DirectedBlock, directed};
 
