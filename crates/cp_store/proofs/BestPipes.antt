@@ -1,15 +1,15 @@
 -- The best of some pipes and of one more, and the pipe that is it.
-use Rattle.std.proofs.Common.{◌≡◌, ◌⊎◌, ℕ, zero, suc, ◌+◌, ◌<◌, ◌≤◌, eqb, List, [], ◌∷◌, ◌++◌, length, map, inl, inr, sym, refl, ap, ◌∙◌, subst, arith, ⊎_elim}
-use Rattle.std.specs.Prelude.{Option, Some, None, find, slice_index_or}
+use Rattle.std.proofs.Common.{◌≡◌, ◌⊎◌, ℕ, ◌+◌, ◌<◌, ◌≤◌, eqb, List, [], ◌∷◌, ◌++◌, length, inl, inr, ◌∙◌, subst, arith, ⊎_elim}
+use Rattle.std.specs.Prelude.{Some, find, slice_index_or}
 use Rattle.std.specs.List.{All, Contains}
-use Rattle.std.proofs.lemmas.List.{get_or_default, get_or-append-add, length-append}
+use Rattle.std.proofs.lemmas.List.{get_or-append-add, length-append}
 use Rattle.std.proofs.Math.ListN.{get_or-append}
 use Rattle.std.proofs.lemmas.List.Elements.{All-append, All-cons, All-nil}
 use Rattle.cp_board.specs.declared.parts.Pipe.{Pipe}
 use Rattle.cp_board.specs.Instances.{Synchronized, IsSynchronized, pipe_names}
 use Rattle.cp_board.specs.Runs.{IsGreatestName}
 use Rattle.cp_board.proofs.NamedLists.{rises_from, found_at}
-use Rattle.cp_store.specs.BestPipe.{IsBestOf, IsBest}
+use Rattle.cp_store.specs.BestPipe.{IsBestOf}
 
 -- what a pipe is worse than
 abbrev IsWorse : ℕ → ℕ → Pipe → Type 0

@@ -1,7 +1,7 @@
 -- Moves of ends of edges, as exchanges under the names of the edges.
-use Rattle.std.proofs.Common.{◌≡◌, ◌≢◌, ℕ, zero, suc, ◌+◌, ◌<◌, Bool, true, false, ◌||◌, cond, eqb, List, [], ◌∷◌, ◌++◌, length, map, take, slice_index_or, sym, refl, ap, ◌∙◌, subst, arith}
-use Rattle.std.specs.Prelude.{Option, Some, None}
-use Rattle.std.specs.List.{All, Contains}
+use Rattle.std.proofs.Common.{◌≡◌, ℕ, zero, suc, ◌+◌, ◌<◌, Bool, true, false, ◌||◌, cond, eqb, List, [], ◌∷◌, ◌++◌, length, map, take, slice_index_or, sym, refl, ap, ◌∙◌, subst, arith}
+use Rattle.std.specs.Prelude.{Some, None}
+use Rattle.std.specs.List.{All}
 use Rattle.std.proofs.lemmas.Bool.{cond-true, cond-false, cond_both}
 use Rattle.std.proofs.lemmas.List.{take_more}
 use Rattle.std.proofs.lemmas.List.Elements.{All-nil, All-cons}
@@ -9,7 +9,7 @@ use Rattle.cp_board.specs.declared.parts.EdgeRow.{EdgeRow}
 use Rattle.cp_board.specs.declared.rewrite.EdgeMove.{EdgeMove}
 use Rattle.cp_board.specs.Names.{has}
 use Rattle.cp_board.specs.Instances.{names_of_edges}
-use Rattle.cp_board.specs.Rewrites.{moved_end, after_moves, AreMoves, IsMove}
+use Rattle.cp_board.specs.Rewrites.{moved_end, after_moves, AreMoves}
 use Rattle.cp_board.proofs.ListTests.{rises}
 use Rattle.cp_board.proofs.NamedLists.{under_all-rises, rises_after}
 use Rattle.cp_store.specs.Exchanges.{under, exchanged}

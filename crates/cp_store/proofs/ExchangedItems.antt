@@ -1,11 +1,10 @@
 -- Items in the order of their names: what an exchange under a name gives, and that it is taken back by the next one.
-use Rattle.std.proofs.Common.{◌≡◌, ◌≢◌, ℕ, ◌<◌, Bool, true, false, not, ◌||◌, cond, eqb, ltb, List, [], ◌∷◌, ◌++◌, map, sym, refl, ap, ◌∙◌, subst, arith, ⊎_elim}
-use Rattle.std.specs.Prelude.{filter, Option, Some, None, find}
-use Rattle.std.specs.List.{All}
-use Rattle.std.proofs.lemmas.Bool.{false≢true, and_parts, cond-true, cond-false, cond_both, eq-eqb, ne_eqb, eqb-true, eqb-false, ltb-true, lt-ltb, cases_eq, cases_lt, ltb-false}
-use Rattle.cp_board.specs.Names.{has, put, by_name}
+use Rattle.std.proofs.Common.{◌≡◌, ℕ, ◌<◌, Bool, true, false, not, cond, eqb, ltb, List, [], ◌∷◌, map, sym, refl, ap, ◌∙◌, subst, arith}
+use Rattle.std.specs.Prelude.{filter, Option, Some, None}
+use Rattle.std.proofs.lemmas.Bool.{false≢true, and_parts, cond-true, cond-false, cond_both, eq-eqb, ne_eqb, eqb-true, ltb-true}
+use Rattle.cp_board.specs.Names.{put}
 use Rattle.cp_board.proofs.ListTests.{rises}
-use Rattle.cp_board.proofs.NamedLists.{under_all, under_all-rises, under_all-lower, under_all-filter, rises_after, rises-filter, rises-put}
+use Rattle.cp_board.proofs.NamedLists.{under_all, under_all-rises, rises_after}
 use Rattle.cp_store.specs.Exchanges.{under, exchanged}
 
 -- what is some item is no other

@@ -1,12 +1,11 @@
 -- One exchange of many: what it leaves to do, and what was done.
-use Rattle.std.proofs.Common.{◌≡◌, ℕ, suc, ◌+◌, ◌<◌, ◌≤◌, true, List, [], ◌∷◌, ◌++◌, length, map, take, slice_index_or, sym, refl, ap, ◌∙◌, subst, arith}
+use Rattle.std.proofs.Common.{◌≡◌, ℕ, ◌+◌, ◌<◌, List, [], ◌∷◌, ◌++◌, length, take, slice_index_or, sym, ap, ◌∙◌, subst, arith}
 use Rattle.std.specs.List.{All}
 use Rattle.std.proofs.lemmas.List.{get_or-append-add, length-append, take_more}
 use Rattle.std.proofs.Math.ListN.{get_or-append}
-use Rattle.std.proofs.lemmas.List.Elements.{All-append, All-cons, All-nil, All-head}
-use Rattle.cp_board.specs.Names.{has}
+use Rattle.std.proofs.lemmas.List.Elements.{All-append, All-cons, All-nil}
 use Rattle.cp_store.specs.declared.entry.Entry.{Entry}
-use Rattle.cp_store.specs.Exchanges.{exchanged, taken_back, entry_names, items_of, HasItsName, IsTable, IsReserved}
+use Rattle.cp_store.specs.Exchanges.{exchanged, taken_back}
 use Rattle.cp_store.proofs.RewrittenItems.{taken_back-append}
 
 -- what holds of all items of two lists holds of those of the first

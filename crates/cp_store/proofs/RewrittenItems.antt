@@ -1,22 +1,21 @@
 -- The vertices, edges and pipes after a rewrite, by exchanges under their names.
-use Rattle.std.proofs.Common.{◌≡◌, ◌≢◌, ℕ, zero, suc, ◌+◌, ◌<◌, ◌≤◌, Bool, true, false, not, ◌||◌, cond, eqb, ltb, List, [], ◌∷◌, ◌++◌, length, map, slice_index_or, sym, refl, ap, ◌∙◌, subst, arith, ⊎_elim}
+use Rattle.std.proofs.Common.{◌≡◌, ◌≢◌, ℕ, zero, suc, ◌<◌, ◌≤◌, Bool, true, false, not, ◌||◌, cond, eqb, ltb, List, [], ◌∷◌, ◌++◌, length, map, slice_index_or, sym, refl, ap, ◌∙◌, subst, arith, ⊎_elim}
 use Rattle.std.specs.Prelude.{filter, Option, Some, None, find, is_some}
-use Rattle.std.specs.List.{All, Contains}
+use Rattle.std.specs.List.{All}
 use Rattle.std.specs.Option.{option_map_or}
-use Rattle.std.proofs.lemmas.Bool.{false≢true, and_parts, and_from, or_parts, not-true, both_ways, cond-true, cond-false, cond_both, eq-eqb, ne_eqb, eqb-true, eqb-false, ltb-true, lt-ltb, cases_eq, cases_lt}
+use Rattle.std.proofs.lemmas.Bool.{false≢true, and_parts, and_from, or_parts, not-true, cond-true, cond-false, cond_both, eq-eqb, ne_eqb, eqb-true, eqb-false, ltb-true, lt-ltb, cases_eq, cases_lt}
 use Rattle.std.proofs.lemmas.List.{append-nil, map-append}
-use Rattle.std.proofs.lemmas.List.Elements.{All-head, All-tail, All-cons, All-nil, All-append}
+use Rattle.std.proofs.lemmas.List.Elements.{All-head, All-tail, All-cons, All-nil}
 use Rattle.cp_board.specs.declared.parts.Vert.{Vert}
-use Rattle.cp_board.specs.declared.parts.EdgeRow.{EdgeRow}
 use Rattle.cp_board.specs.declared.parts.Pipe.{Pipe}
-use Rattle.cp_board.specs.Names.{has, put, by_name, AreNew}
+use Rattle.cp_board.specs.Names.{has, put, by_name}
 use Rattle.cp_board.specs.Rewrites.{with_kinds}
 use Rattle.cp_board.proofs.ListTests.{rises, distinct, Contains-from_has}
 use Rattle.cp_board.proofs.NamedLists.{by_name_same, has-by_name, filter-by_name, filter_true, distinct_from_rises, rises-filter, rises-by_name}
 use Rattle.cp_store.specs.declared.entry.Entry.{Entry}
 use Rattle.cp_store.specs.Exchanges.{under, exchanged, taken_back, HasItsName}
 use Rattle.cp_store.specs.Rewriting.{kept, gone}
-use Rattle.cp_store.proofs.ExchangedItems.{Some-same, None-Some, put-behind, others-all, exchanged-one}
+use Rattle.cp_store.proofs.ExchangedItems.{Some-same, None-Some, others-all, exchanged-one}
 use Rattle.cp_store.proofs.Tables.{is_some-under}
 
 -- some exchanges and then others, the last one first

@@ -1,5 +1,5 @@
 -- The parts of a store after the exchanges and moves of a rewrite are those of the rewritten instance.
-use Rattle.std.proofs.Common.{◌≡◌, ℕ, ◌+◌, ◌<◌, true, false, not, List, [], ◌∷◌, ◌++◌, length, map, slice_index_or, sym, refl, ap, ◌∙◌, subst, subst₂, arith}
+use Rattle.std.proofs.Common.{◌≡◌, ℕ, ◌+◌, ◌<◌, true, false, not, List, [], ◌++◌, length, map, slice_index_or, sym, ap, ◌∙◌, subst, subst₂, arith}
 use Rattle.std.specs.Prelude.{filter, take}
 use Rattle.std.specs.List.{All, Contains, range_with_len}
 use Rattle.std.specs.List.Sorted.{IsStrictlyIncreasing}
@@ -8,16 +8,14 @@ use Rattle.std.proofs.lemmas.List.Elements.{All-append}
 use Rattle.std.proofs.lemmas.List.FromFn.{get_or-range_with_len, length-range_with_len}
 use Rattle.std.proofs.lemmas.List.Kept.{IsStrictlyIncreasing-filter}
 use Rattle.cp_board.specs.declared.parts.Vert.{Vert}
-use Rattle.cp_board.specs.declared.parts.EdgeRow.{EdgeRow}
 use Rattle.cp_board.specs.declared.parts.Pipe.{Pipe}
 use Rattle.cp_board.specs.declared.rewrite.Rewrite.{Rewrite}
-use Rattle.cp_board.specs.Names.{has, new_names, AreNew}
+use Rattle.cp_board.specs.Names.{has, AreNew}
 use Rattle.cp_board.specs.Instances.{Synchronized, IsSynchronized, vert_names, edge_names, pipe_names, names_of_edges, names_of_verts}
 use Rattle.cp_board.specs.Rewrites.{after_moves, rewritten, IsRewriteOf, verts_with}
 use Rattle.cp_board.proofs.ListTests.{rises, distinct}
 use Rattle.cp_board.proofs.NamedLists.{rises_from, distinct_from_rises}
 use Rattle.cp_board.proofs.NewNames.{new_names-dead}
-use Rattle.cp_store.specs.declared.entry.Entry.{Entry}
 use Rattle.cp_store.specs.declared.parts.Change.{Change}
 use Rattle.cp_store.specs.Exchanges.{taken_back, HasItsName}
 use Rattle.cp_store.specs.Rewriting.{kept, gone, vert_changes, edge_changes, pipe_changes}

@@ -1,13 +1,12 @@
 -- The instances of a store: the present one, those before it, and what a change more or less makes of them.
-use Rattle.std.proofs.Common.{◌≡◌, ℕ, suc, ◌+◌, ◌<◌, Bool, true, false, ltb, List, [], ◌∷◌, ◌++◌, length, reverse, slice_index_or, sym, refl, ap, ◌∙◌, subst, arith}
+use Rattle.std.proofs.Common.{◌≡◌, suc, ◌+◌, true, false, ltb, List, [], ◌∷◌, ◌++◌, length, reverse, slice_index_or, sym, refl, ap, ◌∙◌, subst, arith}
 use Rattle.std.specs.List.{All}
 use Rattle.std.proofs.lemmas.Bool.{lt-ltb}
-use Rattle.std.proofs.lemmas.List.{reverse-append, length-reverse}
+use Rattle.std.proofs.lemmas.List.{reverse-append}
 use Rattle.std.proofs.lemmas.List.Elements.{All-append, All-cons, All-nil, All-head, All-tail}
 use Rattle.cp_board.specs.declared.parts.Vert.{Vert}
 use Rattle.cp_board.specs.declared.parts.EdgeRow.{EdgeRow}
 use Rattle.cp_board.specs.declared.parts.Pipe.{Pipe}
-use Rattle.cp_board.specs.Names.{has}
 use Rattle.cp_board.specs.Instances.{Synchronized, IsSynchronized}
 use Rattle.cp_store.specs.declared.parts.Parts.{Parts}
 use Rattle.cp_store.specs.declared.parts.Change.{Change}

@@ -1,20 +1,20 @@
 -- Entries in the order of their names: what stands under a name, an entry more, and an item exchanged at a place.
-use Rattle.std.proofs.Common.{◌≡◌, ◌≢◌, ℕ, zero, suc, ◌+◌, ◌<◌, ◌≤◌, Bool, true, false, not, ◌||◌, cond, eqb, ltb, List, [], ◌∷◌, ◌++◌, length, map, take, drop, slice_index, slice_index_or, slice_set, sym, refl, ap, ◌∙◌, subst, arith, ⊎_elim}
-use Rattle.std.specs.Prelude.{Option, Some, None, find, is_some}
-use Rattle.std.specs.List.{All, Contains, insert}
+use Rattle.std.proofs.Common.{◌≡◌, ◌≢◌, ℕ, zero, suc, ◌<◌, ◌≤◌, Bool, true, false, not, ◌||◌, eqb, ltb, List, [], ◌∷◌, length, map, slice_index, slice_index_or, slice_set, sym, refl, ap, ◌∙◌, subst, arith, ⊎_elim}
+use Rattle.std.specs.Prelude.{Option, Some, None, is_some}
+use Rattle.std.specs.List.{All, insert}
 use Rattle.std.specs.List.Sorted.{IsStrictlyIncreasing}
-use Rattle.std.proofs.lemmas.Bool.{false≢true, and_parts, and_from, cond-true, cond-false, cond_both, eq-eqb, ne_eqb, eqb-true, eqb-false, lt-ltb, ltb-true, cases_eq}
-use Rattle.std.proofs.lemmas.List.Elements.{All-set, All-cons, All-nil, All-head, All-tail}
+use Rattle.std.proofs.lemmas.Bool.{false≢true, and_parts, and_from, cond-true, cond-false, cond_both, eq-eqb, ne_eqb, eqb-false, lt-ltb, ltb-true, cases_eq}
+use Rattle.std.proofs.lemmas.List.Elements.{All-set, All-cons, All-head, All-tail}
 use Rattle.std.proofs.lemmas.List.{length-map, length-set}
 use Rattle.std.proofs.lemmas.List.Sorted.{All-permutation}
 use Rattle.cp_board.specs.Names.{has, put}
 use Rattle.cp_board.proofs.ListTests.{rises, IsStrictlyIncreasing-from_test, Contains-from_has}
-use Rattle.cp_board.proofs.NamedLists.{under_all, under_all-rises, under_all-lower, rises_from, rises-under, rises_after, rises-put, has-put, put_keeps}
+use Rattle.cp_board.proofs.NamedLists.{under_all, under_all-rises, rises_from, rises-under, rises_after, rises-put, has-put, put_keeps}
 use Rattle.cp_sync.specs.Places.{IsLowerPlace}
 use Rattle.cp_store.specs.declared.entry.Entry.{Entry}
 use Rattle.cp_store.specs.Exchanges.{under, exchanged, entry_names, with_item, items_of, HasItsName, IsTable, IsReserved, IsGrown}
 use Rattle.cp_store.proofs.Places.{live_place, found_place}
-use Rattle.cp_store.proofs.ExchangedItems.{Some-same, None-Some, under-named, under-below, others-all, put-front, put-behind, exchanged-back}
+use Rattle.cp_store.proofs.ExchangedItems.{None-Some, under-named, under-below, others-all, put-front, put-behind, exchanged-back}
 
 -- the name of an entry
 abbrev pub entry_name : {A : Type 0} → Entry A → ℕ

@@ -1,10 +1,7 @@
 -- The parts of a stored instance, and the changes that lead back to the instances before it.
-use Rattle.std.specs.Prelude.{◌≡◌, ℕ, ◌+◌, ◌≤◌, true, List, [], ◌∷◌, length, map, reverse}
+use Rattle.std.specs.Prelude.{◌≡◌, ℕ, ◌+◌, ◌≤◌, true, List, [], ◌∷◌, reverse}
 use Rattle.std.specs.List.{All}
 use Rattle.std.specs.Vec.{vec_len, vec_capacity}
-use Rattle.cp_board.specs.declared.parts.Vert.{Vert}
-use Rattle.cp_board.specs.declared.parts.EdgeRow.{EdgeRow}
-use Rattle.cp_board.specs.declared.parts.Pipe.{Pipe}
 use Rattle.cp_board.specs.declared.rewrite.Rewrite.{Rewrite}
 use Rattle.cp_board.specs.Names.{has}
 use Rattle.cp_board.specs.Instances.{Synchronized, IsSynchronized}

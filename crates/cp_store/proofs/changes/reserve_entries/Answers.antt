@@ -1,4 +1,4 @@
-use Rattle.std.proofs.Common.{◌≡◌, sym, subst, arith, take, slice_index_or}
+use Rattle.std.proofs.Common.{sym, subst, arith, take}
 use Rattle.std.specs.List.{All}
 use Rattle.std.proofs.lemmas.List.{take_all}
 use Rattle.cp_store.specs.Exchanges.{entry_names, HasItsName, IsReserved}

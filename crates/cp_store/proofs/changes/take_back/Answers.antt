@@ -1,4 +1,4 @@
-use Rattle.std.proofs.Common.{◌≡◌, ◌∙◌, [], ◌∷◌, ◌++◌, sym, subst, arith}
+use Rattle.std.proofs.Common.{◌∙◌, [], ◌∷◌, sym, subst}
 use Rattle.std.specs.List.{All}
 use Rattle.cp_store.specs.Exchanges.{entry_names, items_of, IsReserved}
 use Rattle.cp_store.proofs.ManyExchanges.{All-first, All-last, rest-exchanged}

@@ -1,4 +1,4 @@
-use Rattle.std.proofs.Common.{◌≡◌, ◌++◌, arith, map, ap, ◌∙◌}
+use Rattle.std.proofs.Common.{◌++◌, arith, map, ap, ◌∙◌}
 use Rattle.cp_store.specs.Rewriting.{kept}
 use Rattle.cp_store.proofs.Listed.{items-listed, IsTable-listed}
 use Rattle.cp_store.proofs.lists.table_of.Goals as goal

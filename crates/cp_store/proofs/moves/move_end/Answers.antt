@@ -1,4 +1,4 @@
-use Rattle.std.proofs.Common.{◌≡◌, map, sym, ap, ◌∙◌}
+use Rattle.std.proofs.Common.{sym, ap, ◌∙◌}
 use Rattle.std.specs.Prelude.{Some}
 use Rattle.cp_store.specs.Exchanges.{exchanged, items_of}
 use Rattle.cp_store.proofs.ExchangedItems.{Some-same, under-named}

@@ -1,5 +1,5 @@
-use Rattle.std.proofs.Common.{◌≡◌, ◌++◌, [], length, take, slice_index_or, ◌<◌, sym, ap, ◌∙◌, subst}
-use Rattle.cp_store.specs.Exchanges.{with_item, items_of}
+use Rattle.std.proofs.Common.{◌≡◌, ◌++◌, [], length, slice_index_or, ◌<◌, sym, ap, ◌∙◌, subst}
+use Rattle.cp_store.specs.Exchanges.{with_item}
 use Rattle.cp_store.proofs.ReadItems.{items-more}
 use Rattle.cp_store.proofs.reading.copied_table.Goals as goal
 

@@ -1,4 +1,4 @@
-use Rattle.std.proofs.Common.{◌≡◌, ◌++◌, [], length, take, slice_index_or, ◌<◌, sym, ap, ◌∙◌, subst, arith}
+use Rattle.std.proofs.Common.{◌≡◌, [], length, take, slice_index_or, ◌<◌, ap, subst, arith}
 use Rattle.std.proofs.lemmas.List.{length-append}
 use Rattle.cp_store.specs.Exchanges.{with_item, items_of}
 use Rattle.cp_store.proofs.ReadItems.{items-more}

@@ -1,5 +1,4 @@
-use Rattle.std.proofs.Common.{◌≡◌, sym, refl, ap, ◌∙◌, subst, length, arith}
-use Rattle.cp_board.specs.Names.{has}
+use Rattle.std.proofs.Common.{ap, subst, length, arith}
 use Rattle.cp_sync.specs.Places.{IsLowerPlace}
 use Rattle.cp_store.specs.Exchanges.{entry_names}
 use Rattle.cp_store.proofs.Tables.{IsExchange-swapped, reserved_within}

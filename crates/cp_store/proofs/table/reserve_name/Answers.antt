@@ -1,4 +1,4 @@
-use Rattle.std.proofs.Common.{◌≡◌, ◌<◌, length, arith, sym, ap, ◌∙◌, subst}
+use Rattle.std.proofs.Common.{◌<◌, length, arith, sym, ◌∙◌, subst}
 use Rattle.cp_sync.specs.Places.{IsLowerPlace}
 use Rattle.cp_store.specs.Exchanges.{entry_names}
 use Rattle.cp_store.proofs.Tables.{IsGrown-insert}

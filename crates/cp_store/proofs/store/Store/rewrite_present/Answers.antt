@@ -9,7 +9,7 @@ use Rattle.cp_store.specs.declared.parts.Change.{Change}
 use Rattle.cp_store.specs.declared.parts.Parts.{Parts}
 use Rattle.cp_store.specs.Exchanges.{taken_back}
 use Rattle.cp_store.specs.Histories.{present_of}
-use Rattle.cp_store.specs.Parts.{told, states, undone, IsStore, AreTables, HasMoreRoom, HasRoom, IsPlanOf}
+use Rattle.cp_store.specs.Parts.{told, states, IsStore, IsPlanOf}
 use Rattle.cp_store.proofs.StoredStates.{present-states, states-pushed, IsStore-rules, IsStore-more, IsStore-pushed, HasMoreRoom-next}
 use Rattle.cp_store.proofs.StoredRewrites.{told-rewritten, moves-live, plan-named}
 use Rattle.cp_store.proofs.store.Store.rewrite_present.Goals as goal

@@ -1,4 +1,4 @@
-use Rattle.std.proofs.Common.{◌≡◌, ap, sym, subst}
+use Rattle.std.proofs.Common.{◌≡◌, subst}
 use Rattle.cp_board.specs.Instances.{is_q}
 use Rattle.cp_store.proofs.StoredStates.{told-present}
 use Rattle.cp_store.proofs.store.StoreBoard.is_q.Goals as goal

@@ -1,4 +1,4 @@
-use Rattle.std.proofs.Common.{◌≡◌, ap, sym, subst}
+use Rattle.std.proofs.Common.{◌≡◌, sym, subst}
 use Rattle.cp_board.specs.Instances.{is_q, psi_at}
 use Rattle.cp_store.proofs.StoredStates.{told-present}
 use Rattle.cp_store.proofs.store.StoreBoard.psi.Goals as goal
