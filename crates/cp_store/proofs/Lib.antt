@@ -9,3 +9,4 @@ mod Listed
 mod BestPipes
 mod StoredStates
 mod StoredRewrites
+mod DroppedPipes

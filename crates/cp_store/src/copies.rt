@@ -13,7 +13,7 @@ pub(crate) trait Part {
 }
 
 // A list of the same items. Linear in their number.
-fn copied_items<T: Copy>(alloc: Global, items: &[T]) -> Result<Items<T>, Memory>
+pub(crate) fn copied_items<T: Copy>(alloc: Global, items: &[T]) -> Result<Items<T>, Memory>
     ensures { IfOk result (λ list. list ≡ items.now) }
 {
     let mut list = Items::new(alloc);

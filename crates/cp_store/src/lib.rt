@@ -16,3 +16,6 @@ mod store;
 mod table;
 
 pub use store::Store;
+
+#[cfg(test)]
+mod tests;
