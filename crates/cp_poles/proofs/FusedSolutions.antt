@@ -33,8 +33,9 @@ use Rattle.cp_board.proofs.NamedLists.{by_name_keeps, rises_from}
 use Rattle.cp_board.proofs.NumberOfNewNames.{Distinct-from_rises}
 use Rattle.cp_poles.proofs.FoundItems.{All-found, All-unfiltered, Some-same}
 use Rattle.cp_poles.proofs.FreePoles.{IsTurnable, free_end, live_end, live_other, other_arranged, other_end, others_off, wanted_arranged}
-use Rattle.cp_poles.proofs.InstanceDarts.{edges_once}
-use Rattle.cp_poles.proofs.InstanceSystems.{bond-IsMirror, listed_edge}
+use Rattle.cp_synclaw.proofs.InstanceDarts.{edges_once}
+use Rattle.cp_synclaw.proofs.InstanceSystems.{listed_edge}
+use Rattle.cp_synclaw.proofs.MirroredBonds.{bond-IsMirror}
 use Rattle.cp_poles.proofs.PipePartners.{by_end, end-FitsEnd, first_second, found_own, second_first}
 use Rattle.cp_poles.proofs.PermutedLists.{IsReordered-some}
 use Rattle.cp_poles.proofs.ReorderedSolutions.{HasNoEnd, Solves-reordered}

@@ -10,8 +10,6 @@ mod FirstItems
 mod RisingPlaces
 mod NumberedParts
 mod TakenEdges
-mod InstanceDarts
-mod InstanceSystems
 mod NumberedBonds
 mod PermutedExists
 mod PermutedLists

@@ -16,8 +16,8 @@ use Rattle.cp_rotlaw.proofs.NamedMaps.{Has-numbers, numbers-below}
 use Rattle.cp_board.specs.Instances.{Synchronized, IsSynchronized, graph}
 use Rattle.cp_board.specs.Rotations.{ArrangesEdges, system}
 use Rattle.cp_sync.specs.Numbering.{numbered_ends}
-use Rattle.cp_poles.proofs.InstanceDarts.{edge_joins, edges_once, live_ends, live_far, two_each-first, two_each-second}
-use Rattle.cp_poles.proofs.InstanceSystems.{system_edges}
+use Rattle.cp_synclaw.proofs.InstanceDarts.{edge_joins, edges_once, live_ends, live_far, two_each-first, two_each-second}
+use Rattle.cp_synclaw.proofs.InstanceSystems.{system_edges}
 use Rattle.cp_poles.proofs.NumberedParts.{places_connected, rank_one}
 
 -- an instance and lists of its vertices

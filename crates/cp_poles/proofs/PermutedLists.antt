@@ -19,8 +19,8 @@ use Rattle.cp_rotlaw.specs.Poles.{IsPermutedAt}
 use Rattle.cp_rotlaw.proofs.PermutedSystems.{HasPermuted}
 use Rattle.cp_board.specs.Instances.{Synchronized, IsSynchronized, graph}
 use Rattle.cp_board.specs.Rotations.{ArrangesEdges, IsRotationOf, dart, system}
-use Rattle.cp_poles.proofs.InstanceDarts.{dart_edge, dart_low, dart_of_edge, dart_stands, edges_once, live_at, verts_once}
-use Rattle.cp_poles.proofs.InstanceSystems.{listed_edge, system_darts, system_list, system-IsRotation}
+use Rattle.cp_synclaw.proofs.InstanceDarts.{dart_edge, dart_low, dart_of_edge, dart_stands, edges_once, live_at, verts_once}
+use Rattle.cp_synclaw.proofs.InstanceSystems.{listed_edge, system_darts, system_list, system-IsRotation}
 use Rattle.cp_poles.proofs.NumberedBonds.{IsBond-numbered}
 use Rattle.cp_poles.proofs.NumberedParts.{rank_one}
 use Rattle.cp_poles.proofs.PermutedExists.{HasPermuted-some}

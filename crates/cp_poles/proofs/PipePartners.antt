@@ -21,7 +21,7 @@ use Rattle.cp_board.specs.Instances.{Synchronized, IsSynchronized, HasRightPairs
 use Rattle.cp_board.specs.Rotations.{ArrangesEdges}
 use Rattle.cp_board.specs.Solutions.{IsMirror, first_of, second_of}
 use Rattle.cp_board.specs.Steps.{IsEnd, opposite, partner}
-use Rattle.cp_poles.proofs.InstanceDarts.{edges_once}
+use Rattle.cp_synclaw.proofs.InstanceDarts.{edges_once}
 use Rattle.cp_lists.proofs.PermutedLists.{Distinct-IsPermutation}
 
 -- in a list with names of its own each item is found under its name

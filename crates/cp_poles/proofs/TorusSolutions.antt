@@ -26,7 +26,7 @@ use Rattle.cp_poles.proofs.CycleRows.{rows-Distinct, rows-all, rows-items, rows-
 use Rattle.cp_poles.proofs.FoundItems.{Some-same}
 use Rattle.cp_poles.proofs.KeptOrders.{ends_told}
 use Rattle.cp_poles.proofs.FreePoles.{left, left-IsSynchronized, left_is, others_off, rotation_before}
-use Rattle.cp_poles.proofs.InstanceDarts.{edges_once}
+use Rattle.cp_synclaw.proofs.InstanceDarts.{edges_once}
 use Rattle.cp_poles.proofs.PermutedLists.{IsReordered-some}
 use Rattle.cp_lists.proofs.PermutedLists.{IsPermutation-from}
 use Rattle.cp_poles.proofs.ReorderedSolutions.{Solves-reordered}

@@ -24,8 +24,9 @@ use Rattle.cp_board.specs.Rotations.{IsRotationOf}
 use Rattle.cp_board.specs.Solutions.{IsMirror, Solves, second_of}
 use Rattle.cp_board.specs.Steps.{IsTurning}
 use Rattle.cp_poles.proofs.FoundItems.{All-found}
-use Rattle.cp_poles.proofs.InstanceDarts.{edges_once}
-use Rattle.cp_poles.proofs.InstanceSystems.{bond-IsMirror, listed_edge, listed_once}
+use Rattle.cp_synclaw.proofs.InstanceDarts.{edges_once}
+use Rattle.cp_synclaw.proofs.InstanceSystems.{listed_edge, listed_once}
+use Rattle.cp_synclaw.proofs.MirroredBonds.{bond-IsMirror}
 use Rattle.cp_poles.proofs.SmallPipes.{live_a, live_b, right_pairs}
 
 -- a live pipe between the poles of a bond

@@ -32,7 +32,7 @@ use Rattle.cp_poles.specs.Cycles.{HaveLength, IsOtherLength}
 use Rattle.cp_poles.specs.TorusFaults.{IsTorusFaultOf}
 use Rattle.cp_poles.specs.Turned.{AreEndLists, AreOnward, IsTurningByPlace, place_back}
 use Rattle.cp_poles.proofs.CycleWalks.{CycleLength-carry}
-use Rattle.cp_poles.proofs.InstanceDarts.{edges_once}
+use Rattle.cp_synclaw.proofs.InstanceDarts.{edges_once}
 use Rattle.cp_poles.proofs.PipePartners.{edges_at-Distinct, first_second, seconds_are}
 use Rattle.cp_poles.proofs.SmallPipes.{live_a, live_b, right_ends, right_pairs}
 use Rattle.cp_poles.proofs.SmallRewrites.{live_pipe}

@@ -8,14 +8,10 @@ use Rattle.cp_lists.specs.CyclicLists.{Distinct, Has}
 use Rattle.cp_lists.proofs.DistinctLists.{Has-Contains}
 use Rattle.cp_lists.proofs.FilteredLists.{filter-Distinct}
 use Rattle.cp_lists.proofs.MappedLists.{Distinct-map_on, Has-map_on, map_on-Has}
-use Rattle.cp_conn.specs.Bonds.{IsAlong, IsBond}
 use Rattle.cp_conn.specs.NamedGraphs.{NamedGraph, edges_at, ends_at, rank}
 use Rattle.cp_conn.proofs.NamedGraphs.{rank_at, rank_is}
-use Rattle.cp_maps.specs.Genus.{IsFlat}
 use Rattle.cp_maps.specs.Maps.{IsMapOf}
 use Rattle.cp_maplaw.specs.NamedDarts.{AreDartsOf, IsArrangedBy, dart_list}
-use Rattle.cp_maplaw.proofs.BondedPoles.{bonded_poles-IsTurn}
-use Rattle.cp_maplaw.proofs.Systems.{system_flat}
 use Rattle.cp_rot.specs.Rewrites.{values}
 use Rattle.cp_rot.specs.Systems.{IsRotation, System, darts, edges, list_of, next, vertex_of}
 use Rattle.cp_rot.proofs.ListEdits.{length-values, values_at}
@@ -23,10 +19,9 @@ use Rattle.cp_rot.proofs.ListSystems.{Listed, Listed-exact}
 use Rattle.cp_rotlaw.proofs.NamedMaps.{Has-numbers, numbers-Distinct, numbers-below}
 use Rattle.cp_rotlaw.proofs.PoleMaps.{IsMapOf-vertices}
 use Rattle.cp_board.specs.Instances.{Synchronized, IsSynchronized, graph}
-use Rattle.cp_board.specs.Rotations.{ArrangesEdges, IsRotationOf, dart, system}
-use Rattle.cp_board.specs.Solutions.{IsMirror}
+use Rattle.cp_board.specs.Rotations.{ArrangesEdges, dart, system}
 use Rattle.cp_sync.specs.Numbering.{numbered_ends}
-use Rattle.cp_poles.proofs.InstanceDarts.{dart_low, dart_of_edge, dart_stands, edges_once, far_differs, instance_darts, length-two_each, live_at, verts_once}
+use Rattle.cp_synclaw.proofs.InstanceDarts.{dart_low, dart_of_edge, dart_stands, edges_once, far_differs, instance_darts, length-two_each, live_at, verts_once}
 use Rattle.cp_lists.proofs.PermutedLists.{Distinct-IsPermutation, Has-IsPermutation}
 
 -- an instance and lists of its vertices
@@ -148,19 +143,3 @@ module _ (i : Synchronized) (is : IsSynchronized i) (s : ℕ → List ℕ)
       (subst (IsMapOf (2 * edges r) (next r)) same
       (IsMapOf-vertices r system-IsRotation names (numbers-Distinct r.vertices) (numbers-below r.vertices)
       (Has-numbers r.vertices)))
-
--- in a rotation the poles of a bond of equal degrees mirror each other along it
-pub bond-IsMirror : (i : Synchronized) → IsSynchronized i → (s : ℕ → List ℕ) → IsRotationOf (graph i) s → (u v : ℕ)
-    → Contains (graph i).verts u → Contains (graph i).verts v → IsBond (graph i) u v
-    → length (edges_at (graph i) u) ≡ length (edges_at (graph i) v) → (along : ℕ → ℕ) → IsAlong (graph i) u v along
-    → IsMirror along (s u) (s v)
-bond-IsMirror i is s rotation u v cu cv bond equal along goes =
-    let g : NamedGraph = graph i in
-    let r : System = system g s in
-    let rot : IsRotation r = system-IsRotation i is s rotation.arranged in
-    let flat : IsFlat (length g.edges) (next r) =
-    subst (λ n. IsFlat n (next r)) (system_edges i is s rotation.arranged)
-    ((system_flat r rot).0 rotation.flat) in
-    bonded_poles-IsTurn (length g.edges) g (dart g) s (next r) (instance_darts i is)
-    (instance-IsArrangedBy i is s rotation.arranged) (system-IsMapOf i is s rotation.arranged) flat u v
-    ((Has-Contains u g.verts).1 cu) ((Has-Contains v g.verts).1 cv) bond equal along goes
