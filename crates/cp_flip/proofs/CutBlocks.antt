@@ -44,6 +44,7 @@ module _ (i : Synchronized) (is : IsSynchronized i) (es : List ℕ) (block : Are
   pub cut-vertex : (cut : ListedGraph) → cut ≡ listed_part i es → 0 < cut.graph.vertices
   cut-vertex cut same = subst (λ (x : ListedGraph). 0 < x.graph.vertices) (sym same) part-vertex
 
+  -- in a block that is cut out and is not a single edge, vertex 0 has two edges
   pub cut-HasTwoEdges : (cut : ListedGraph) → cut ≡ listed_part i es → length es ≢ 1 → HasTwoEdges cut.graph.ends 0
   cut-HasTwoEdges cut same other =
       subst (λ (x : ListedGraph). HasTwoEdges x.graph.ends 0) (sym same) (part-HasTwoEdges other)

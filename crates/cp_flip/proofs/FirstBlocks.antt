@@ -59,10 +59,11 @@ module _ (i : Synchronized) (is : IsSynchronized i) (numbers : List ℕ)
   abbrev edges : List ℕ
   edges = edge_names i
 
-  -- the edge at a place, and the edges of its block
+  -- the edge at a place
   abbrev edge : ℕ → ℕ
   edge k = slice_index edges k
 
+  -- the edges of its block, rising
   abbrev row : ℕ → List ℕ
   row k = row_with edges numbers (edge k)
 
@@ -93,6 +94,7 @@ module _ (i : Synchronized) (is : IsSynchronized i) (numbers : List ℕ)
   first-in : (k : ℕ) → k < length edges → Contains (row k) (slice_index (row k) 0)
   first-in k lt = Contains-get_or (row k) 0 0 (row-some k lt)
 
+  -- seen from its first edge, too, the row is the edges of the block, rising
   pub first-AreBlockEdges : (k : ℕ) → k < length edges → AreBlockEdges i (slice_index (row k) 0) (row k)
   first-AreBlockEdges k lt =
       other-AreBlockEdges i is (edge k) (slice_index (row k) 0) (row k) (row-AreBlockEdges k lt) (first-in k lt)

@@ -52,15 +52,17 @@ filter-short p (x ∷ xs) =
 alone-IsFlat : IsFlat 1 (λ d. d)
 alone-IsFlat = omega arith
 
+-- the map that leaves both darts of one edge where they are is a permutation
 alone-Permutes : Permutes 2 (λ d. d)
 alone-Permutes = record { below = λ x lt. lt; apart = λ x y ltx lty same. same }
 
 module _ (i : Synchronized) (is : IsSynchronized i) (e : ℕ) (es : List ℕ) (b : AreBlockEdges i e es)
     (one : length es ≡ 1) where
-  -- the graph, and the block
+  -- the graph of the instance
   abbrev g : NamedGraph
   g = graph i
 
+  -- the block with all vertices of the instance
   abbrev whole : NamedGraph
   whole = record { verts = g.verts; edges = es; ends = g.ends }
 
@@ -76,6 +78,7 @@ module _ (i : Synchronized) (is : IsSynchronized i) (e : ℕ) (es : List ℕ) (b
   live : (f : ℕ) → Contains es f → Contains g.verts (g.ends f).0 × Contains g.verts (g.ends f).1
   live f c = let l = live_ends i is f (edges_in i is e es b f c) in (l.0, l.1)
 
+  -- no edge of the block is a loop
   differ : (f : ℕ) → Contains es f → (g.ends f).0 ≢ (g.ends f).1
   differ f c = (live_ends i is f (edges_in i is e es b f c)).2
 
