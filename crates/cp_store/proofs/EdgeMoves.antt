@@ -16,6 +16,7 @@ use Rattle.cp_store.specs.Exchanges.{under, exchanged}
 use Rattle.cp_store.proofs.ExchangedItems.{Some-same, None-Some, under-named, under-below, exchanged-one}
 use Rattle.std.proofs.lemmas.Bool.{eqb-true, eq-eqb}
 
+-- the name of an edge
 abbrev pub row_name : EdgeRow → ℕ
 row_name e = e.name
 
@@ -31,6 +32,7 @@ pub names-moved : (m : EdgeMove) (es : List EdgeRow) → names_of_edges (map (mo
 names-moved m [] = refl
 names-moved m (e ∷ es) = ap (λ n. n ∷ names_of_edges (map (moved_end m) es)) (moved_end-name m e) ∙ ap (λ ns. e.name ∷ ns) (names-moved m es)
 
+-- moves of ends keep the names of all edges, in their order
 pub names-after_moves : (ms : List EdgeMove) (es : List EdgeRow) → names_of_edges (after_moves ms es) ≡ names_of_edges es
 names-after_moves [] es = refl
 names-after_moves (m ∷ ms) es = names-after_moves ms (map (moved_end m) es) ∙ names-moved m es
@@ -41,6 +43,7 @@ after_moves-append : (ms : List EdgeMove) (m : EdgeMove) (es : List EdgeRow)
 after_moves-append [] m es = refl
 after_moves-append (n ∷ ms) m es = after_moves-append ms m (map (moved_end n) es)
 
+-- the first k + 1 moves make what the move at place k makes of the first k moves
 pub after_moves-more : (ms : List EdgeMove) (k : ℕ) (m : EdgeMove) (es : List EdgeRow) → k < length ms
     → m ≡ slice_index_or ms k m
     → map (moved_end m) (after_moves (take k ms) es) ≡ after_moves (take (k + 1) ms) es

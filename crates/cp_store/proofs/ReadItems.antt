@@ -5,10 +5,12 @@ use Rattle.std.proofs.lemmas.List.{take_more}
 use Rattle.cp_store.specs.declared.entry.Entry.{Entry}
 use Rattle.cp_store.specs.Exchanges.{with_item, items_of}
 
+-- an item or none put in front of two lists is put in front of the first of them
 with_item-append : {A : Type 0} (o : Option A) (xs ys : List A) → with_item o (xs ++ ys) ≡ with_item o xs ++ ys
 with_item-append None xs ys = refl
 with_item-append (Some x) xs ys = refl
 
+-- the items of two lists of entries are those of the first and then those of the second
 items_of-append : {A : Type 0} (es fs : List (Entry A)) → items_of (es ++ fs) ≡ items_of es ++ items_of fs
 items_of-append [] fs = refl
 items_of-append (e ∷ es) fs = ap (with_item e.item) (items_of-append es fs) ∙ with_item-append e.item (items_of es) (items_of fs)
