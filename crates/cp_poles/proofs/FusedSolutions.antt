@@ -56,6 +56,7 @@ module _ (i : Synchronized) (pipe : ℕ) (p : Pipe) (is : IsSynchronized i) (liv
   differ : p.a ≢ p.b
   differ = (right_ends i pipe p is live).differ
 
+  -- its pairs tell one partner for each edge of the first end, rising
   right : HasRightPairs (graph i) p
   right = right_pairs i pipe p is live
 
@@ -66,6 +67,7 @@ module _ (i : Synchronized) (pipe : ℕ) (p : Pipe) (is : IsSynchronized i) (liv
       turn-sym (s a) (reverse (map g (s b)))
       (turn_mirrored f g (s b) (s a) undone (turn-sym (reverse (map f (s a))) (s b) m))
 
+  -- the pipe seen from its first end
   at_a : IsSeenFrom i p s p.a p.b (second_of p) (first_of p)
   at_a = record {
     mirrors = (λ m. m, λ m. m);
@@ -73,6 +75,7 @@ module _ (i : Synchronized) (pipe : ℕ) (p : Pipe) (is : IsSynchronized i) (liv
     size = ap length (sym (right_pairs i pipe p is live).first) ∙ length-map p.pairs (λ (x : ℕ × ℕ). x.0);
   }
 
+  -- the pipe seen from its second end
   at_b : IsSeenFrom i p s p.b p.a (first_of p) (second_of p)
   at_b = record {
     mirrors = (
@@ -152,17 +155,19 @@ module _ (i : Synchronized) (pipe : ℕ) (p q : Pipe) (is : IsSynchronized i) (l
   abbrev g : NamedGraph
   g = graph i
 
-  -- the partners
+  -- the partner of an edge of u along p
   abbrev pu : ℕ → ℕ
   pu x = partner p u x
 
+  -- the partner of an edge of v along q
   abbrev qv : ℕ → ℕ
   qv x = partner q v x
 
-  -- the new pipe
+  -- the pair of the new pipe for an edge of u: its partner along p, and the partner along q of the edge it goes on as
   abbrev made : ℕ → ℕ × ℕ
   made x = (partner p u x, partner q v (fused.along x))
 
+  -- the new pipe, from the other end of p to the other end of q
   abbrev pub new_pipe : Pipe
   new_pipe = record {
     name = fused.name;
@@ -171,17 +176,21 @@ module _ (i : Synchronized) (pipe : ℕ) (p q : Pipe) (is : IsSynchronized i) (l
     pairs = pairs_by_first (map (λ x. (partner p u x, partner q v (fused.along x))) (edges_of i u));
   }
 
+  -- the pipe of the pole is found by its name
   q_live : pipe_named i q.name ≡ Some q
   q_live = pole_named i is v q fus.matched
 
+  -- the pole is an end of its pipe
   q_end : IsEnd q v
   q_end = pole_end i is v q fus.matched
 
   -- a rotation
   module _ (s : ℕ → List ℕ) (rotation : IsRotationOf g s) where
+    -- the pipe p seen from the end u
     seen_p : IsSeenFrom i p s u (opposite p u) pu (λ x. partner p (opposite p u) x)
     seen_p = seen i pipe p is live u fus.end s rotation
 
+    -- the pipe q seen from the pole v
     seen_q : IsSeenFrom i q s v (opposite q v) qv (λ x. partner q (opposite q v) x)
     seen_q = seen i q.name q is q_live v q_end s rotation
 
@@ -193,6 +202,7 @@ module _ (i : Synchronized) (pipe : ℕ) (p q : Pipe) (is : IsSynchronized i) (l
     abbrev pairs : List (ℕ × ℕ)
     pairs = map made (edges_of i u)
 
+    -- the new pipe has these pairs in some order
     pairs_kept : IsPermutation pairs new_pipe.pairs
     pairs_kept = by_name_keeps (λ x. x.0) pairs
 
@@ -254,6 +264,7 @@ module _ (i : Synchronized) (pipe : ℕ) (p q : Pipe) (is : IsSynchronized i) (l
   abbrev left : Synchronized
   left = record { verts = i.verts; edges = i.edges; pipes = others }
 
+  -- the instance without the two pipes keeps the rules
   left_rules : IsSynchronized left
   left_rules = IsSynchronized-fewer_pipes i (λ r. not (has (p.name ∷ q.name ∷ []) r.name)) is
 
@@ -264,6 +275,7 @@ module _ (i : Synchronized) (pipe : ℕ) (p q : Pipe) (is : IsSynchronized i) (l
       ∙ ap (λ z. record { verts = i.verts; edges = z; pipes = j.pipes }) fused.edges
       ∙ ap (λ z. record { verts = i.verts; edges = i.edges; pipes = z }) fused.pipes
 
+  -- the pipe p is found by its name
   p_named : pipe_named i p.name ≡ Some p
   p_named = subst (λ n. pipe_named i n ≡ Some p) (sym (own_name i pipe p is live)) live
 
@@ -293,6 +305,7 @@ module _ (i : Synchronized) (pipe : ℕ) (p q : Pipe) (is : IsSynchronized i) (l
       (others_off i pipe p is live u fus.end) k d lt
       (neither (eqb r.name p.name) (eqb r.name q.name) t).0)
 
+  -- no other pipe ends at v
   off_v : All (HasNoEnd v) others
   off_v = All-filtered (λ x. not (has (p.name ∷ q.name ∷ []) x.name)) (HasNoEnd v) i.pipes
       (λ k d lt t.
@@ -309,11 +322,13 @@ module _ (i : Synchronized) (pipe : ℕ) (p q : Pipe) (is : IsSynchronized i) (l
       fus.matched).0
       (ap (λ b. not (b || false)) (ne_eqb q.name p.name fus.another))
 
+  -- the other end of p is not the pole
   w_not_v : opposite p u ≢ v
   w_not_v e =
       let h = apart_q (opposite p u) (other_end i pipe p is live u fus.end).2 in
       ⊎_elim (λ at. h.0 (at ∙ sym e)) (λ at. h.1 (at ∙ sym e)) q_end
 
+  -- the other end of q is not the end u
   w2_not_u : opposite q v ≢ u
   w2_not_u e =
       let h = apart_q u fus.end in
@@ -403,6 +418,7 @@ module _ (i : Synchronized) (pipe : ℕ) (p q : Pipe) (is : IsSynchronized i) (l
   pub rotation_fused : (s : ℕ → List ℕ) → Solves j s → IsRotationOf g s
   rotation_fused s h = (subst (λ z. Solves z s) after_is h).rotation
 
+  -- the pole is a vertex of the instance
   pub pole_live : Contains (vert_names i) v
   pole_live = live_end i q.name q is q_live v q_end
 

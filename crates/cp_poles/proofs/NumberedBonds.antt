@@ -23,20 +23,23 @@ use Rattle.cp_poles.proofs.NumberedParts.{places_connected, rank_one}
 -- an instance and lists of its vertices
 module _ (i : Synchronized) (is : IsSynchronized i) (s : ℕ → List ℕ)
     (arranged : All (λ v. ArrangesEdges (graph i) v (s v)) (graph i).verts) where
-  -- the graph, and that of its system
+  -- the graph of the instance
   abbrev g : NamedGraph
   g = graph i
 
+  -- the rotation system that the lists tell
   abbrev r : System
   r = system g s
 
+  -- the graph of this system, its vertices and edges named by their numbers
   abbrev G : NamedGraph
   G = graph_of r
 
-  -- the places of names
+  -- the place of the name of a vertex
   abbrev at : ℕ → ℕ
   at w = rank g.verts w
 
+  -- the place of the name of an edge
   abbrev nth : ℕ → ℕ
   nth e = rank g.edges e
 

@@ -47,15 +47,17 @@ module _ (i : Synchronized) (is : IsSynchronized i) (s : ℕ → List ℕ) (rota
 
   -- an order of edges of a vertex is one of its darts
   module _ (u : ℕ) (order : List ℕ) (cu : Contains g.verts u) (arr : ArrangesEdges g u order) where
-    -- the edges of the order
+    -- the items of the order are edges of u
     order_edge : (e : ℕ) → Has e order → Contains (edges_at g u) e
     order_edge e h =
         (Has-Contains e (edges_at g u)).0
         (Has-IsPermutation e order (edges_at g u) (IsPermutation-sym (edges_at g u) order arr) h)
 
+    -- each edge of u is in the order
     edge_order : (e : ℕ) → Contains (edges_at g u) e → Has e order
     edge_order e c = Has-IsPermutation e (edges_at g u) order arr ((Has-Contains e (edges_at g u)).1 c)
 
+    -- no edge stands twice in the order
     order_once : Distinct order
     order_once = Distinct-IsPermutation (edges_at g u) order arr
         (filter-Distinct (ends_at g u) g.edges (edges_once i is))

@@ -19,7 +19,7 @@ use Rattle.cp_poles.proofs.SmallPipes.{live_a, live_b}
 pub greatest_named : (i : Synchronized) (pipe : ℕ) → IsGreatestName i pipe → (p : Pipe) × (pipe_named i pipe ≡ Some p)
 greatest_named i pipe w = (w.0, subst (λ n. pipe_named i n ≡ Some w.0) w.1 w.2.live)
 
--- its ends are vertices
+-- the first end of the greatest pipe is a vertex
 pub told_a : (i : Synchronized) (pipe : ℕ) → IsSynchronized i → IsGreatestName i pipe → (ends : ℕ × ℕ)
     → ends ≡ pipe_ends_of i pipe → Contains (vert_names i) ends.0
 told_a i pipe is w ends asked =
@@ -27,6 +27,7 @@ told_a i pipe is w ends asked =
     subst (λ (x : ℕ × ℕ). Contains (vert_names i) x.0) (sym (ends_told i pipe g.0 g.1 ends asked))
     (live_a i pipe g.0 is g.1)
 
+-- the second end of the greatest pipe is a vertex
 pub told_b : (i : Synchronized) (pipe : ℕ) → IsSynchronized i → IsGreatestName i pipe → (ends : ℕ × ℕ)
     → ends ≡ pipe_ends_of i pipe → Contains (vert_names i) ends.1
 told_b i pipe is w ends asked =
