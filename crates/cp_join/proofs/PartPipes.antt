@@ -12,10 +12,11 @@ use Rattle.cp_board.specs.Names.{has, put, by_name}
 use Rattle.cp_board.specs.Joins.{part_pipes}
 use Rattle.cp_join.proofs.LiveVerts.{none_some}
 
--- the two ends of a pipe, and those of some pipes
+-- the two ends of a pipe
 abbrev pub ends : Pipe → List ℕ
 ends p = p.a ∷ p.b ∷ []
 
+-- both ends of each pipe, one pipe after another
 abbrev pub ends_of_all : List Pipe → List ℕ
 ends_of_all ps = flat_map ends ps
 
@@ -26,6 +27,7 @@ exchanged xs ys zs =
     (subst (λ ws. IsPermutation ws ((ys ++ xs) ++ zs)) (append_assoc xs ys zs)
     (IsPermutation-append_left zs (xs ++ ys) (ys ++ xs) (IsPermutation-append_comm xs ys)))
 
+-- the values of an item and of those of a list are those of the list with the item put in, in some order
 flat_put : {A B : Type 0} (f : A → List B) (name : A → ℕ) (x : A) (ys : List A)
     → IsPermutation (f x ++ flat_map f ys) (flat_map f (put name x ys))
 flat_put f name x [] = IsPermutation-refl (f x ++ [])
@@ -46,11 +48,12 @@ flat_by_name f name (x ∷ xs) =
     (IsPermutation-append_right (f x) (flat_map f xs) (flat_map f (by_name name xs)) (flat_by_name f name xs))
     (flat_put f name x (by_name name xs))
 
--- the firsts and the seconds of the pairs of a part
+-- the first edges of the pairs of a part's pipe are the edges of the part
 pub firsts_of_pipe : (hat : ℕ → ℕ) (part : List ℕ) → map (λ (x : ℕ × ℕ). x.0) (map (λ e. (e, hat e)) part) ≡ part
 firsts_of_pipe hat [] = refl
 firsts_of_pipe hat (e ∷ es) = ap (λ zs. e ∷ zs) (firsts_of_pipe hat es)
 
+-- the second edges of the pairs of a part's pipe are the new edges for those of the part
 pub seconds_of_pipe : (hat : ℕ → ℕ) (part : List ℕ) → map (λ (x : ℕ × ℕ). x.1) (map (λ e. (e, hat e)) part) ≡ map hat part
 seconds_of_pipe hat [] = refl
 seconds_of_pipe hat (e ∷ es) = ap (λ zs. hat e ∷ zs) (seconds_of_pipe hat es)
@@ -107,15 +110,18 @@ All-part_pipes hat (x ∷ xs) (y ∷ ys) (z ∷ zs) (p ∷ ps) n o m holds each 
 abbrev Apart : Pipe → Pipe → Type 0
 Apart p q = (q.a ≢ p.a) × (q.a ≢ p.b) × (q.b ≢ p.a) × (q.b ≢ p.b)
 
+-- the pipe q has another name than n
 abbrev other : ℕ → Pipe → Bool
 other n q = not (has (n ∷ []) q.name)
 
+-- a pipe no end of which is an end of some pipes is apart from each of them
 apart_from : (p : Pipe) (qs : List Pipe) → Lacks p.a (ends_of_all qs) → Lacks p.b (ends_of_all qs)
     → All (λ q. Apart p q) qs
 apart_from p [] la lb = All-nil (λ q. Apart p q)
 apart_from p (q ∷ qs) la lb =
     All-cons (λ z. Apart p z) q qs (la.0, lb.0, la.1.0, lb.1.0) (apart_from p qs la.1.1 lb.1.1)
 
+-- to be apart is symmetric
 apart_sym : (p q : Pipe) → Apart p q → Apart q p
 apart_sym p q h = ((λ e. h.0 (sym e)), (λ e. h.2 (sym e)), (λ e. h.1 (sym e)), (λ e. h.3 (sym e)))
 

@@ -11,10 +11,12 @@ use Rattle.cp_join.specs.Joining.{moves_to, part_moves}
 pub counted : {A : Type 0} (f : ℕ → A) (x : A) (k : ℕ) → f (suc k) ≡ x → f (k + 1) ≡ x
 counted f x k e = ap f (let s : k + 1 ≡ suc k = omega arith in s) ∙ e
 
+-- without parts there are no moves
 pub no_moves : (u : ℕ) (verts : List ℕ) → part_moves u verts [] ≡ []
 no_moves u [] = refl
 no_moves u (v ∷ vs) = refl
 
+-- the moves for one part more are those before it and then those of its edges to its vertex
 moves_suc : (u : ℕ) (verts : List ℕ) (parts : List (List ℕ)) (k : ℕ) (d : List ℕ) → k < length parts
     → length verts ≡ length parts
     → part_moves u verts (take (suc k) parts)
@@ -41,12 +43,14 @@ part_moves-more u verts parts k d lt size =
 abbrev pub pipe_of : (ℕ → ℕ) → ℕ → ℕ → ℕ → List ℕ → Pipe
 pipe_of hat n o m part = record { name = n; a = o; b = m; pairs = map (λ e. (e, hat e)) part }
 
+-- without parts there are no pipes
 pub no_pipes : (hat : ℕ → ℕ) (names outer inner : List ℕ) → part_pipes hat names outer inner [] ≡ []
 no_pipes hat [] outer inner = refl
 no_pipes hat (x ∷ xs) [] inner = refl
 no_pipes hat (x ∷ xs) (y ∷ ys) [] = refl
 no_pipes hat (x ∷ xs) (y ∷ ys) (z ∷ zs) = refl
 
+-- the pipes for one part more are those before it and then its own
 pipes_suc : (hat : ℕ → ℕ) (names outer inner : List ℕ) (parts : List (List ℕ)) (k : ℕ) (d : List ℕ) → k < length parts
     → length names ≡ length parts → length outer ≡ length parts → length inner ≡ length parts
     → part_pipes hat names outer inner (take (suc k) parts)
@@ -75,10 +79,12 @@ part_pipes-more hat names outer inner parts k d lt n o m =
     ++ pipe_of hat (slice_index names k) (slice_index outer k) (slice_index inner k) (slice_index_or parts k d) ∷ []) k
     (pipes_suc hat names outer inner parts k d lt n o m)
 
+-- without pairs there are no new edges
 pub no_rows : (f : ℕ × (ℕ × ℕ) → EdgeRow) (hats : List ℕ) → map f (zip hats []) ≡ []
 no_rows f [] = refl
 no_rows f (n ∷ ns) = refl
 
+-- the new edges for one pair more are those before it and then its own
 rows_suc : (f : ℕ × (ℕ × ℕ) → EdgeRow) (hats : List ℕ) (pairs : List (ℕ × ℕ)) (k : ℕ) (d : ℕ × ℕ) → k < length pairs
     → length hats ≡ length pairs
     → map f (zip hats (take (suc k) pairs))
