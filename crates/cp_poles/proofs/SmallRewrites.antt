@@ -51,7 +51,7 @@ module _ (i : Synchronized) (pipe : ℕ) (p : Pipe) (is : IsSynchronized i) (liv
   abbrev kinds : List Vert
   kinds = fixed_a p cell ∷ fixed_b p cell ∷ []
 
-  -- it is the one next new name of a cell
+  -- it is the name that one new cell must have
   new : AreNew (cells i) (cell ∷ [])
   new = one_new_name (cells i)
 

@@ -43,7 +43,7 @@ after_moves-append : (ms : List EdgeMove) (m : EdgeMove) (es : List EdgeRow)
 after_moves-append [] m es = refl
 after_moves-append (n ∷ ms) m es = after_moves-append ms m (map (moved_end n) es)
 
--- the first k + 1 moves make what the move at place k makes of the first k moves
+-- what the move at place k makes of the edges after the first k moves is what the first k + 1 moves make
 pub after_moves-more : (ms : List EdgeMove) (k : ℕ) (m : EdgeMove) (es : List EdgeRow) → k < length ms
     → m ≡ slice_index_or ms k m
     → map (moved_end m) (after_moves (take k ms) es) ≡ after_moves (take (k + 1) ms) es
