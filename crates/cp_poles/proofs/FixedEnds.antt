@@ -34,6 +34,7 @@ fixed i p cell = record {
 abbrev pub fixed_a : Pipe → ℕ → Vert
 fixed_a p cell = record { name = p.a; kind = first_kind p cell }
 
+-- the second end after the step
 abbrev pub fixed_b : Pipe → ℕ → Vert
 fixed_b p cell = record { name = p.b; kind = second_kind p cell }
 

@@ -27,9 +27,11 @@ module _ (i : Synchronized) (is : IsSynchronized i) (s : ℕ → List ℕ)
   abbrev g : NamedGraph
   g = graph i
 
+  -- its rotation system
   abbrev r : System
   r = system g s
 
+  -- the graph of the system, by numbers
   abbrev G : NamedGraph
   G = graph_of r
 
@@ -37,6 +39,7 @@ module _ (i : Synchronized) (is : IsSynchronized i) (s : ℕ → List ℕ)
   abbrev at : ℕ → ℕ
   at w = rank g.verts w
 
+  -- the place of an edge
   abbrev nth : ℕ → ℕ
   nth e = rank g.edges e
 
