@@ -74,7 +74,7 @@ module _ (to : List ℕ) (perm : IsPerm to) (size : ℕ) (one : HaveLength to si
   abbrev pub row : List ℕ
   row = leaders m size places
 
-  -- this row, its image under the permutation, and so on, as many rows as a cycle has places
+  -- all rows, one behind the other
   abbrev pub rows : List ℕ
   rows = layers m size row
 
@@ -86,7 +86,7 @@ module _ (to : List ℕ) (perm : IsPerm to) (size : ℕ) (one : HaveLength to si
       (subst (Contains places) at
       (Contains-get_or places x 0 (omega (arith, lt, length-range_with_len 0 (length to)))))
 
-  -- each of the places is a number below how many there are
+  -- and each of them is one
   place_low : (x : ℕ) → Has x places → x < length to
   place_low x h =
       let c = (Has-Contains x places).0 h in
@@ -110,7 +110,7 @@ module _ (to : List ℕ) (perm : IsPerm to) (size : ℕ) (one : HaveLength to si
   inside : (x : ℕ) → Has x places → Has (m x) places
   inside x h = place_at (m x) (perm.below x (place_low x h))
 
-  -- the cycle of each place has the one length
+  -- the cycle of each has the one length
   cycles : (x : ℕ) → Has x places → CycleLength m x size
   cycles x h = one x (place_low x h)
 
@@ -170,13 +170,13 @@ module _ (to : List ℕ) (perm : IsPerm to) (size : ℕ) (one : HaveLength to si
     pub before_within : k - length row < length xs
     before_within = omega (arith, found_size, had, row_some (omega (arith, lt)))
 
-    -- the item found one row before is that of the rows at this place
+    -- it has the item of the rows at that place
     before_item : get_or xs (k - length row) 0 ≡ get_or rows (k - length row) 0
     before_item =
         ap (λ ys. get_or ys (k - length row) 0) so
         ∙ get_or-take k rows (k - length row) 0 (omega (arith, had, row_some (omega (arith, lt))))
 
-    -- the item found one row before is a place of the permutation
+    -- which is a place
     before_low : get_or xs (k - length row) 0 < length to
     before_low = subst (λ x. x < length to) (sym before_item) (rows_low (k - length row) (omega (arith, lt)))
 
@@ -327,7 +327,7 @@ IsWalked-suc to start step at old new lt w = record {
         (λ ne. get_or-set_other new at k true false ne ∙ t)
         (cases_eq k at)
 
--- one step more of a walk, its steps counted as programs count
+-- the same with the number of steps written as a sum
 pub IsWalked-more : (to : List ℕ) (start step at : ℕ) (old new : List Bool) → at < length new
     → IsWalked to start step at old new → IsWalked to start (step + 1) (slice_index to at) old (set new at true)
 IsWalked-more to start step at old new lt w =

@@ -56,7 +56,7 @@ module _ (i : Synchronized) (pipe : ℕ) (p : Pipe) (is : IsSynchronized i) (liv
   differ : p.a ≢ p.b
   differ = (right_ends i pipe p is live).differ
 
-  -- its pairs tell one partner for each edge of the first end, rising
+  -- the pairs are right
   right : HasRightPairs (graph i) p
   right = right_pairs i pipe p is live
 
@@ -159,7 +159,7 @@ module _ (i : Synchronized) (pipe : ℕ) (p q : Pipe) (is : IsSynchronized i) (l
   abbrev pu : ℕ → ℕ
   pu x = partner p u x
 
-  -- the partner of an edge of v along q
+  -- the partner of an edge of v
   abbrev qv : ℕ → ℕ
   qv x = partner q v x
 
@@ -167,7 +167,7 @@ module _ (i : Synchronized) (pipe : ℕ) (p q : Pipe) (is : IsSynchronized i) (l
   abbrev made : ℕ → ℕ × ℕ
   made x = (partner p u x, partner q v (fused.along x))
 
-  -- the new pipe, from the other end of p to the other end of q
+  -- with the pairs of the step
   abbrev pub new_pipe : Pipe
   new_pipe = record {
     name = fused.name;
@@ -202,7 +202,7 @@ module _ (i : Synchronized) (pipe : ℕ) (p q : Pipe) (is : IsSynchronized i) (l
     abbrev pairs : List (ℕ × ℕ)
     pairs = map made (edges_of i u)
 
-    -- the new pipe has these pairs in some order
+    -- the order of first edges only moves them
     pairs_kept : IsPermutation pairs new_pipe.pairs
     pairs_kept = by_name_keeps (λ x. x.0) pairs
 
@@ -275,7 +275,7 @@ module _ (i : Synchronized) (pipe : ℕ) (p q : Pipe) (is : IsSynchronized i) (l
       ∙ ap (λ z. record { verts = i.verts; edges = z; pipes = j.pipes }) fused.edges
       ∙ ap (λ z. record { verts = i.verts; edges = i.edges; pipes = z }) fused.pipes
 
-  -- the pipe p is found by its name
+  -- p is found under its own name
   p_named : pipe_named i p.name ≡ Some p
   p_named = subst (λ n. pipe_named i n ≡ Some p) (sym (own_name i pipe p is live)) live
 
@@ -328,7 +328,7 @@ module _ (i : Synchronized) (pipe : ℕ) (p q : Pipe) (is : IsSynchronized i) (l
       let h = apart_q (opposite p u) (other_end i pipe p is live u fus.end).2 in
       ⊎_elim (λ at. h.0 (at ∙ sym e)) (λ at. h.1 (at ∙ sym e)) q_end
 
-  -- the other end of q is not the end u
+  -- the other end of q is not u
   w2_not_u : opposite q v ≢ u
   w2_not_u e =
       let h = apart_q u fus.end in
@@ -418,7 +418,7 @@ module _ (i : Synchronized) (pipe : ℕ) (p q : Pipe) (is : IsSynchronized i) (l
   pub rotation_fused : (s : ℕ → List ℕ) → Solves j s → IsRotationOf g s
   rotation_fused s h = (subst (λ z. Solves z s) after_is h).rotation
 
-  -- the pole is a vertex of the instance
+  -- the pole is a vertex
   pub pole_live : Contains (vert_names i) v
   pole_live = live_end i q.name q is q_live v q_end
 

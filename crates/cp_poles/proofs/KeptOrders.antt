@@ -117,7 +117,7 @@ module _ (i : Synchronized) (pipe : ℕ) (p : Pipe) (is : IsSynchronized i) (liv
   sized : Permutes (length es) (slice_index to)
   sized = subst (λ n. Permutes n (slice_index to)) tells.one_each tells.permutes
 
-  -- no edge of the first end stands twice
+  -- no edge stands twice
   once : Distinct es
   once = filter-Distinct (ends_at (graph i) p.a) (graph i).edges (edges_once i is)
 

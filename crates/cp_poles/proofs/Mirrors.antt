@@ -68,7 +68,7 @@ module _
   abbrev seconds : List ℕ
   seconds = map (λ x. x.1) p.pairs
 
-  -- the list that b must have to mirror a: the partners of the list of a, in reverse
+  -- the list of b that mirrors that of a
   abbrev mirrored : List ℕ
   mirrored = reverse (map (second_of p) (s p.a))
 
@@ -76,7 +76,7 @@ module _
   edges_rise : (v : ℕ) → rises (edges_of i v) ≡ true
   edges_rise v = rises_from (edges_of i v) (IsStrictlyIncreasing-filter _ (edge_names i) is.edges_named.rise)
 
-  -- the first edges of the pairs rise
+  -- the first edges rise
   firsts_rise : rises firsts ≡ true
   firsts_rise = subst (λ z. rises z ≡ true) (sym right.first) (edges_rise p.a)
 
@@ -85,7 +85,7 @@ module _
   partners = map_pairs (second_of p) p.pairs
       (λ k d lt. ap (λ o. option_map_or (λ z. z.1) o 0) (found_at (λ z. z.0) p.pairs k d firsts_rise lt))
 
-  -- the list of a has the first edges of the pairs in some order
+  -- the list of a has the first edges
   firsts_arranged : IsPermutation firsts (s p.a)
   firsts_arranged = subst (λ z. IsPermutation z (s p.a)) (sym right.first) at_a
 
@@ -93,17 +93,17 @@ module _
   distinct_a : Distinct (s p.a)
   distinct_a = Distinct-IsPermutation firsts (s p.a) firsts_arranged (Distinct-from_rises firsts firsts_rise)
 
-  -- no edge stands twice in the list of b
+  -- nor in that of b
   distinct_b : Distinct (s p.b)
   distinct_b = Distinct-IsPermutation (edges_of i p.b) (s p.b) at_b
       (Distinct-from_rises (edges_of i p.b) (edges_rise p.b))
 
-  -- no second edge stands in two pairs
+  -- nor among the second edges
   distinct_seconds : Distinct seconds
   distinct_seconds = Distinct-IsPermutation (edges_of i p.b) seconds right.second
       (Distinct-from_rises (edges_of i p.b) (edges_rise p.b))
 
-  -- each edge in the list of a is the first edge of a pair
+  -- an edge of the list of a is a first edge
   to_firsts : (d : ℕ) → Has d (s p.a) → Has d firsts
   to_firsts d h = Has-IsPermutation d (s p.a) firsts (IsPermutation-sym firsts (s p.a) firsts_arranged) h
 
@@ -114,7 +114,7 @@ module _
       (λ x y hx hy e. Distinct-map_on_apart (second_of p) firsts x y (subst Distinct (sym partners) distinct_seconds) (to_firsts x hx) (to_firsts y hy) e)
       distinct_a)
 
-  -- each edge of the mirrored list is in the list of b
+  -- its items are in the list of b
   mirrored_to : (d : ℕ) → Has d mirrored → Has d (s p.b)
   mirrored_to d h =
       let w = map_on-Has (second_of p) d (s p.a) (reverse-Has d (map (second_of p) (s p.a)) h) in
@@ -122,7 +122,7 @@ module _
       Has-IsPermutation d (edges_of i p.b) (s p.b) at_b
       (Has-IsPermutation d seconds (edges_of i p.b) (IsPermutation-sym (edges_of i p.b) seconds right.second) (subst (λ x. Has x seconds) w.2 there))
 
-  -- each edge in the list of b is in the mirrored list
+  -- and those of the list of b are in it
   mirrored_from : (d : ℕ) → Has d (s p.b) → Has d mirrored
   mirrored_from d h =
       let there = Has-IsPermutation d (edges_of i p.b) seconds right.second
@@ -165,7 +165,7 @@ module _
   direction_from_mirror back turn mirror =
       turn-trans (directed back (turned_to_least (reverse seconds))) mirrored (s p.b) (mirror_turn back turn) mirror
 
-  -- where a and b stand in one direction, b mirrors a
+  -- and where b stands in the direction of a, b mirrors a
   pub mirror_from_direction : (back : Bool) → IsTurn (directed back firsts) (s p.a)
       → IsTurn (directed back (turned_to_least (reverse seconds))) (s p.b)
       → IsMirror (second_of p) (s p.a) (s p.b)

@@ -27,11 +27,11 @@ module _ (i : Synchronized) (is : IsSynchronized i) (s : ℕ → List ℕ)
   abbrev g : NamedGraph
   g = graph i
 
-  -- the rotation system that the lists tell
+  -- its rotation system
   abbrev r : System
   r = system g s
 
-  -- the graph of this system, its vertices and edges named by their numbers
+  -- the graph of the system, by numbers
   abbrev G : NamedGraph
   G = graph_of r
 
@@ -39,7 +39,7 @@ module _ (i : Synchronized) (is : IsSynchronized i) (s : ℕ → List ℕ)
   abbrev at : ℕ → ℕ
   at w = rank g.verts w
 
-  -- the place of the name of an edge
+  -- the place of an edge
   abbrev nth : ℕ → ℕ
   nth e = rank g.edges e
 

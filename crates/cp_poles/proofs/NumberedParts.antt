@@ -51,7 +51,7 @@ module _ (g : NamedGraph)
   abbrev pub named_pairs : List (ℕ × ℕ)
   named_pairs = without_vertex u (without_vertex v (pairs g))
 
-  -- the same in the numbered graph, the ends told by the places of their names
+  -- the pairs of places without the two
   abbrev pub placed_pairs : List (ℕ × ℕ)
   placed_pairs = without_vertex (place u) (without_vertex (place v) (map (numbered_ends g) g.edges))
 

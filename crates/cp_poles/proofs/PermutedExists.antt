@@ -75,7 +75,7 @@ module _ (r : System) (is : IsRotation r) (u v : ℕ) (ltu : u < r.vertices) (lt
   abbrev part : ℕ → ℕ
   part = dart_part r u v numbers
 
-  -- these are parts between the poles: no two darts of u are of one, and v has a dart in each of theirs
+  -- the numbers tell the parts
   parts : ArePoleParts r u v (slice_index numbers) part
   parts = ArePoleParts-numbers r is u v ltu ltv numbers
       (component_numbers-AreNumbered (pairs_between r u v) r.vertices) bond
@@ -88,7 +88,7 @@ module _ (r : System) (is : IsRotation r) (u v : ℕ) (ltu : u < r.vertices) (lt
   own : (w d : ℕ) → IsDartOf r w d → Has d (list_of r w)
   own w d at = subst (λ x. Has d (list_of r x)) at.stands ((Listed-system r is).own d at.within)
 
-  -- the test tells exactly the parts that darts of u enter
+  -- the test tells the parts that are entered
   test : IsEnteredTest r u part entered
   test = record {
     yes = λ d at. has_yes (part d) (map part (list_of r u)) (Has-map_on part d (list_of r u) (own u d at));
@@ -141,7 +141,7 @@ module _ (r : System) (is : IsRotation r) (u v : ℕ) (ltu : u < r.vertices) (lt
   abbrev row : List ℕ
   row = permuted_row r v part entered ws order
 
-  -- where u has two darts or more, the row has the darts of v by parts in the reverse of the order
+  -- it is the list of v for the order
   row-IsPermutedRow : 1 < length order → IsPermutedRow r u v order row
   row-IsPermutedRow many = record {
     number = slice_index numbers;

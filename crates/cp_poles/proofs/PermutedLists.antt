@@ -53,11 +53,11 @@ module _ (i : Synchronized) (is : IsSynchronized i) (s : ℕ → List ℕ) (rota
         (Has-Contains e (edges_at g u)).0
         (Has-IsPermutation e order (edges_at g u) (IsPermutation-sym (edges_at g u) order arr) h)
 
-    -- each edge of u is in the order
+    -- and each edge of the vertex is in it
     edge_order : (e : ℕ) → Contains (edges_at g u) e → Has e order
     edge_order e c = Has-IsPermutation e (edges_at g u) order arr ((Has-Contains e (edges_at g u)).1 c)
 
-    -- no edge stands twice in the order
+    -- each edge stands once in it
     order_once : Distinct order
     order_once = Distinct-IsPermutation (edges_at g u) order arr
         (filter-Distinct (ends_at g u) g.edges (edges_once i is))

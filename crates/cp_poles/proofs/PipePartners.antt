@@ -62,7 +62,7 @@ module _ (i : Synchronized) (is : IsSynchronized i) (p : Pipe) (differ : p.a ≢
   abbrev firsts : List ℕ
   firsts = map (λ x. x.0) p.pairs
 
-  -- the second edges of the pairs
+  -- the second edges, in the order of the pairs
   abbrev seconds : List ℕ
   seconds = map (λ x. x.1) p.pairs
 
@@ -76,7 +76,7 @@ module _ (i : Synchronized) (is : IsSynchronized i) (p : Pipe) (differ : p.a ≢
       ap (λ o. option_map_or (λ z. z.1) o 0)
       (found_own (λ x. x.0) p.pairs (subst Distinct (sym right.first) (edges_at-Distinct p.a)) k d lt)
 
-  -- the partner of the second edge of a pair is its first edge
+  -- each second edge has its first
   firsts_found : All (λ x. first_of p x.1 ≡ x.0) p.pairs
   firsts_found k d lt =
       ap (λ o. option_map_or (λ z. z.0) o 0)
@@ -87,7 +87,7 @@ module _ (i : Synchronized) (is : IsSynchronized i) (p : Pipe) (differ : p.a ≢
   pub seconds_are : map (second_of p) firsts ≡ seconds
   seconds_are = map_each (second_of p) (λ x. x.0) (λ x. x.1) p.pairs seconds_found
 
-  -- the partners of the second edges are the first edges, in the order of the pairs
+  -- the partners of the second edges are the first ones
   firsts_are : map (first_of p) seconds ≡ firsts
   firsts_are = map_each (first_of p) (λ x. x.1) (λ x. x.0) p.pairs firsts_found
 
@@ -95,7 +95,7 @@ module _ (i : Synchronized) (is : IsSynchronized i) (p : Pipe) (differ : p.a ≢
   pair_of_first : (x : ℕ) → Contains (edges_at g p.a) x → (y : ℕ × ℕ) × Contains p.pairs y × (y.0 ≡ x)
   pair_of_first x c = map_from (λ y. y.0) p.pairs x (subst (λ zs. Contains zs x) (sym right.first) c)
 
-  -- each edge of the second end is the second of a pair
+  -- an edge of the second end is one of a pair
   pair_of_second : (x : ℕ) → Contains (edges_at g p.b) x → (y : ℕ × ℕ) × Contains p.pairs y × (y.1 ≡ x)
   pair_of_second x c =
       map_from (λ y. y.1) p.pairs x (Contains-permutation (edges_at g p.b) seconds x right.second c)
@@ -108,7 +108,7 @@ module _ (i : Synchronized) (is : IsSynchronized i) (p : Pipe) (differ : p.a ≢
       let back = All-contains (λ z. first_of p z.1 ≡ z.0) p.pairs y.0 firsts_found y.1 in
       ap (λ z. first_of p (second_of p z)) (sym y.2) ∙ ap (first_of p) there ∙ back ∙ y.2
 
-  -- the partner of the partner of an edge of the second end is this edge
+  -- a second edge is the partner of its partner
   pub second_first : (x : ℕ) → Contains (edges_at g p.b) x → second_of p (first_of p x) ≡ x
   second_first x c =
       let y = pair_of_second x c in
@@ -152,7 +152,7 @@ module _ (i : Synchronized) (is : IsSynchronized i) (p : Pipe) (differ : p.a ≢
   item_edge w xs arr x h =
       Contains-permutation xs (edges_at g w) x (IsPermutation-sym (edges_at g w) xs arr) ((Has-Contains x xs).0 h)
 
-  -- the reverse of the partners of a list of the second end arranges the first end, and the two mirror each other
+  -- so it is for the first end
   at_first : FitsEnd p.a p.b (second_of p) (first_of p)
   at_first = record {
     arranges = λ xs arr. subst (λ zs. IsPermutation zs (reverse (map (first_of p) xs))) (firsts_are ∙ right.first)
@@ -170,7 +170,7 @@ module _ (i : Synchronized) (is : IsSynchronized i) (p : Pipe) (differ : p.a ≢
     undone = second_first;
   }
 
-  -- the reverse of the partners of a list of the first end arranges the second end, and the two mirror each other
+  -- and for the second end
   at_second : FitsEnd p.b p.a (first_of p) (second_of p)
   at_second = record {
     arranges = λ xs arr. IsPermutation-trans (edges_at g p.b) (map (second_of p) xs) (reverse (map (second_of p) xs))

@@ -15,7 +15,7 @@ set_row v list x = cond (eqb x.0 v) (v, list) x
 set_row-yes : (v : ℕ) (list : List ℕ) (x : ℕ × List ℕ) → x.0 ≡ v → set_row v list x ≡ (v, list)
 set_row-yes v list x e = cond-true (eqb x.0 v) (v, list) x (eq-eqb x.0 v e)
 
--- the list of another vertex stays
+-- another row stays
 set_row-no : (v : ℕ) (list : List ℕ) (x : ℕ × List ℕ) → x.0 ≢ v → set_row v list x ≡ x
 set_row-no v list x ne = cond-false (eqb x.0 v) (v, list) x (ne_eqb x.0 v ne)
 

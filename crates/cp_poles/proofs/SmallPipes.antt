@@ -30,23 +30,23 @@ module _ (i : Synchronized) (pipe : ℕ) (p : Pipe) (is : IsSynchronized i) (liv
   pub right_ends : HasRightEnds i.verts p
   right_ends = (All-found (λ x. eqb x.name pipe) (HasRightEnds i.verts) i.pipes p is.ends_free live).0
 
-  -- its pairs tell one partner for each edge of the first end, rising
+  -- its pairs are right
   pub right_pairs : HasRightPairs (graph i) p
   right_pairs = (All-found (λ x. eqb x.name pipe) (HasRightPairs (graph i)) i.pipes p is.pairs_right live).0
 
-  -- it has the name under which it is found
+  -- its name is the one under which it is found
   pub own_name : p.name ≡ pipe
   own_name = eqb-true p.name pipe (All-found (λ x. eqb x.name pipe) (HasRightPairs (graph i)) i.pipes p is.pairs_right live).1
 
-  -- its first end is a vertex of the instance
+  -- its first end is a vertex
   pub live_a : Contains (vert_names i) p.a
   live_a = named-Contains i.verts p.a P right_ends.free_a
 
-  -- its second end is a vertex of the instance
+  -- and so is its second end
   pub live_b : Contains (vert_names i) p.b
   live_b = named-Contains i.verts p.b P right_ends.free_b
 
-  -- it is found by its own name
+  -- it is found under its own name
   found : find (λ x. eqb x.name p.name) i.pipes ≡ Some p
   found = ap (λ n. find (λ x. eqb x.name n) i.pipes) own_name ∙ live
 
@@ -73,11 +73,11 @@ module _ (i : Synchronized) (pipe : ℕ) (p : Pipe) (is : IsSynchronized i) (liv
 
   -- a rotation arranges the edges of the two ends
   module _ (s : ℕ → List ℕ) (rotation : IsRotationOf (graph i) s) where
-    -- the list of the first end has each of its edges once
+    -- the list of the first end arranges its edges
     pub at_a : ArrangesEdges (graph i) p.a (s p.a)
     at_a = All-contains (λ v. ArrangesEdges (graph i) v (s v)) (vert_names i) p.a rotation.arranged live_a
 
-    -- the list of the second end has each of its edges once
+    -- and so does that of the second end
     pub at_b : ArrangesEdges (graph i) p.b (s p.b)
     at_b = All-contains (λ v. ArrangesEdges (graph i) v (s v)) (vert_names i) p.b rotation.arranged live_b
 
@@ -89,7 +89,7 @@ module _ (i : Synchronized) (pipe : ℕ) (p : Pipe) (is : IsSynchronized i) (liv
 
   -- a pipe of three pairs
   module _ (cell : ℕ) (new : AreNew (cells i) (cell ∷ [])) where
-    -- the step leaves the graph as it was
+    -- the step keeps the graph
     same_graph : graph (fixed i p cell) ≡ graph i
     same_graph = graph_fixed i p cell right_ends.differ
 
@@ -194,7 +194,7 @@ module _ (i : Synchronized) (pipe : ℕ) (p : Pipe) (is : IsSynchronized i) (liv
       (λ three e. subst (λ z. Solves z s) (sym (fixed_is j e)) (fixed_solved e.cell e.new_cell s three h))
       (λ other w. Solves-without_pipe i j p.name s w h)
 
-  -- solutions after the step, at a pipe of at most three pairs, are solutions before it
+  -- and solutions after the step are those before it
   pub Solves-before_small : (j : Synchronized) (s : ℕ → List ℕ) → degree p ≤ 3 → IsAfterSmall i p j → Solves j s → Solves i s
   Solves-before_small j s short after h = by_degree j (Solves i s) after
       (λ three e. fixed_back e.cell e.new_cell s (subst (λ z. Solves z s) (fixed_is j e) h))

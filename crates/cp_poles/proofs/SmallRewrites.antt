@@ -39,27 +39,27 @@ live_pipe i pipe p live =
     subst (Contains (pipe_names i)) (eqb-true p.name pipe w.1) w.0
 
 module _ (i : Synchronized) (pipe : ℕ) (p : Pipe) (is : IsSynchronized i) (live : pipe_named i pipe ≡ Some p) where
-  -- the ends of the pipe are two different P-vertices
+  -- the ends of the pipe are right
   ends : HasRightEnds i.verts p
   ends = right_ends i pipe p is live
 
-  -- the least number that is no cell
+  -- the new cell
   abbrev cell : ℕ
   cell = new_cell i
 
-  -- the two ends as Q-vertices of this cell
+  -- the vertices whose kinds are set
   abbrev kinds : List Vert
   kinds = fixed_a p cell ∷ fixed_b p cell ∷ []
 
-  -- it is the name that one new cell must have
+  -- the cell is the least new one
   new : AreNew (cells i) (cell ∷ [])
   new = one_new_name (cells i)
 
-  -- no Q-vertex has this cell yet
+  -- it is not live
   dead : has (cells i) cell ≡ false
   dead = All-head (λ n. has (cells i) n ≡ false) cell [] (new_names-dead (cells i) (cell ∷ []) new)
 
-  -- it is below 2^63
+  -- it is small
   fits : cell < 2 ^ 63
   fits = omega (
     arith,
@@ -86,7 +86,7 @@ module _ (i : Synchronized) (pipe : ℕ) (p : Pipe) (is : IsSynchronized i) (liv
       (ne_eqb p.a v.name (λ h. na (sym h))) ∙ cond-false (eqb p.b v.name) (Some (fixed_b p cell)) None
       (ne_eqb p.b v.name (λ h. nb (sym h)))))
 
-  -- so for all vertices of a list
+  -- and so for all vertices
   with_all : (vs : List Vert) → map (with_kinds kinds) vs ≡ map (fixed_vert p cell) vs
   with_all [] = refl
   with_all (v ∷ vs) = ap (λ w. w ∷ map (with_kinds kinds) vs) (with_fixed v) ∙ ap (λ ws. fixed_vert p cell v ∷ ws)
@@ -165,7 +165,7 @@ module _ (i : Synchronized) (pipe : ℕ) (p : Pipe) (is : IsSynchronized i) (liv
     pipes = ap (λ z. z.pipes) rewritten_setting;
   }
 
-  -- at three pairs, to drop the pipe and fix its two ends is what Small makes of the instance
+  -- a pipe of three pairs: its ends get new kinds
   three_performed : degree p ≡ 3 → Performs i (Small pipe) (setting pipe kinds)
   three_performed three = (fixed_fits, (p, live, by_test (eqb (degree p) 3) (eq-eqb (degree p) 3 three)))
     where
@@ -179,7 +179,7 @@ module _ (i : Synchronized) (pipe : ℕ) (p : Pipe) (is : IsSynchronized i) (liv
       by_test : (b : Bool) → b ≡ true → effect b
       by_test b e = subst effect (sym e) fixed_effect
 
-  -- at another number of pairs, to drop the pipe alone is what Small makes of the instance
+  -- a pipe of fewer pairs: only the pipe goes
   fewer_performed : degree p ≢ 3 → Performs i (Small pipe) (setting pipe [])
   fewer_performed other = (
     IsRewriteOf-dropping i pipe is (live_pipe i pipe p live),
@@ -202,11 +202,11 @@ module _ (i : Synchronized) (pipe : ℕ) (p : Pipe) (is : IsSynchronized i) (liv
   told_pairs : pairs_of i pipe ≡ p.pairs
   told_pairs = ap (λ o. option_map_or (λ x. x.pairs) o []) live
 
-  -- the board tells its ends
+  -- and the ends
   told_ends : pipe_ends_of i pipe ≡ (p.a, p.b)
   told_ends = ap (λ o. option_map_or (λ x. (x.a, x.b)) o (0, 0)) live
 
-  -- to drop the pipe and set the kinds that the board tells is what Small makes of the instance
+  -- the rewrite with these kinds performs the step
   pub kinds_performed : Performs i (Small pipe) (setting pipe (kinds_after i pipe))
   kinds_performed =
       cond_both (eqb (length (pairs_of i pipe)) 3) (fixed_ends (pipe_ends_of i pipe) (pairs_of i pipe) cell) []

@@ -27,7 +27,7 @@ told_a i pipe is w ends asked =
     subst (λ (x : ℕ × ℕ). Contains (vert_names i) x.0) (sym (ends_told i pipe g.0 g.1 ends asked))
     (live_a i pipe g.0 is g.1)
 
--- the second end of the greatest pipe is a vertex
+-- and so is its second end
 pub told_b : (i : Synchronized) (pipe : ℕ) → IsSynchronized i → IsGreatestName i pipe → (ends : ℕ × ℕ)
     → ends ≡ pipe_ends_of i pipe → Contains (vert_names i) ends.1
 told_b i pipe is w ends asked =

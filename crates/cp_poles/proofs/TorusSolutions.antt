@@ -119,7 +119,7 @@ pub record IsTurnableTorus (i : Synchronized) (p : Pipe) (lists : List (ℕ × L
   pub names : map (λ x. x.0) lists ≡ vert_names i
   pub rotation : IsRotationOf (graph i) (list_in lists)
 
--- each solution after Toroidal meets this
+-- a solution after Toroidal can be turned back
 pub torus-IsTurnable : (i j : Synchronized) (pipe : ℕ) (p : Pipe) (after : List (ℕ × List ℕ)) → IsSynchronized i
     → pipe_named i pipe ≡ Some p → After i (Toroidal pipe) j → IsSolution j after → IsTurnableTorus i p after
 torus-IsTurnable i j pipe p after is live effect h =

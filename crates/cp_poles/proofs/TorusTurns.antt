@@ -52,15 +52,15 @@ module _ (i : Synchronized) (pipe : ℕ) (p : Pipe) (is : IsSynchronized i) (liv
   abbrev pub along : ℕ → ℕ
   along = first_onward (graph i) p.a p.b
 
-  -- the edge of a as which an edge of b goes back
+  -- the way back along the bond
   abbrev pub back : ℕ → ℕ
   back = first_onward g p.b p.a
 
-  -- each edge of a goes on so along the bond
+  -- which is one way to go along the bond
   pub is_along : IsAlong g p.a p.b along
   is_along = IsAlong-first_onward g p.a p.b bond
 
-  -- each edge of b goes back so along the bond
+  -- and the way back is one
   pub is_back : IsAlong g p.b p.a back
   is_back = IsAlong-first_onward g p.b p.a (bond_back g p.a p.b bond (edges_once i is) equal_ends)
 

@@ -23,7 +23,7 @@ use Rattle.cp_sync.specs.Numbering.{numbered_ends}
 abbrev pub two_each : (ℕ → ℕ × ℕ) → List ℕ → List ℕ
 two_each f es = flat_map (λ e. (f e).0 ∷ (f e).1 ∷ []) es
 
--- with two numbers for each edge there are twice as many numbers as edges
+-- there are twice as many numbers as edges
 pub length-two_each : (f : ℕ → ℕ × ℕ) (es : List ℕ) → length (two_each f es) ≡ 2 * length es
 length-two_each f [] = refl
 length-two_each f (e ∷ es) = omega (arith, length-two_each f es)
@@ -109,7 +109,7 @@ module _ (i : Synchronized) (is : IsSynchronized i) where
   abbrev vertex_named : ℕ → ℕ
   vertex_named d = get_or g.verts (slice_index at d) 0
 
-  -- the name of the edge of a dart
+  -- the edge of a dart
   abbrev edge_named : ℕ → ℕ
   edge_named d = get_or g.edges (d / 2) 0
 
@@ -117,7 +117,7 @@ module _ (i : Synchronized) (is : IsSynchronized i) where
   vertex_at : (w : ℕ) → Contains g.verts w → get_or g.verts (rank g.verts w) 0 ≡ w
   vertex_at w c = (rank_at g.verts w c).1
 
-  -- the name at the place of an edge is that of the edge
+  -- an edge has the name at its place
   edge_at : (e : ℕ) → Contains g.edges e → get_or g.edges (rank g.edges e) 0 ≡ e
   edge_at e c = (rank_at g.edges e c).1
 
@@ -126,7 +126,7 @@ module _ (i : Synchronized) (is : IsSynchronized i) where
   dart_first w e same =
       let bit = cond-true {A = ℕ} (eqb (g.ends e).0 w) 0 1 (eq-eqb (g.ends e).0 w same) in omega (arith, bit)
 
-  -- the dart of an edge at an end that is not its first is the odd one
+  -- the dart at the second end of an edge
   dart_second : (w e : ℕ) → (g.ends e).0 ≢ w → dart g w e ≡ 2 * rank g.edges e + 1
   dart_second w e ne =
       let bit = cond-false {A = ℕ} (eqb (g.ends e).0 w) 0 1 (ne_eqb (g.ends e).0 w ne) in omega (arith, bit)
@@ -147,7 +147,7 @@ module _ (i : Synchronized) (is : IsSynchronized i) where
       ⊎_elim (λ h. omega (arith, dart_first w e h.0, lt)) (λ h. omega (arith, dart_second w e h.0, lt))
       (end_cases w e c)
 
-  -- the dart of an edge at its end w stands at the place of w
+  -- a dart stands at its vertex
   pub dart_stands : (w e : ℕ) → Contains (edges_at g w) e → slice_index at (dart g w e) ≡ rank g.verts w
   dart_stands w e c =
       let k = rank_at g.edges e (edges_at-Contains g w e c).0 in
@@ -158,7 +158,7 @@ module _ (i : Synchronized) (is : IsSynchronized i) where
       ∙ ap (λ f. rank g.verts (g.ends f).1) k.1 ∙ ap (rank g.verts) h.2)
       (end_cases w e c)
 
-  -- half the dart of an edge, rounded down, is the place of the edge
+  -- half of a dart is the place of its edge
   dart_half : (w e : ℕ) → Contains (edges_at g w) e → dart g w e / 2 ≡ rank g.edges e
   dart_half w e c =
       ⊎_elim (λ h. omega (arith, dart_first w e h.0)) (λ h. omega (arith, dart_second w e h.0)) (end_cases w e c)
