@@ -14,7 +14,7 @@ abbrev pub Apart : Pipe → Pipe → Type 0
 Apart p q = (q.a ≢ p.a) × (q.a ≢ p.b) × (q.b ≢ p.a) × (q.b ≢ p.b)
 
 -- the ends of all pipes
-abbrev ends_of_all : List Pipe → List ℕ
+abbrev pub ends_of_all : List Pipe → List ℕ
 ends_of_all ps = flat_map (λ p. p.a ∷ p.b ∷ []) ps
 
 -- the pipe has another name

@@ -25,5 +25,11 @@ mod CycleWalks
 mod TurnedPlaces
 mod CycleOrders
 mod KeptOrders
-mod TestedPipes
+mod FusiblePipes
 mod FusedSolutions
+mod NamedOrders
+mod AddedPipes
+mod FusedPipes
+mod FusedRewrites
+mod ToldPipes
+mod TestedPipes

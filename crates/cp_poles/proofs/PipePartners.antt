@@ -4,9 +4,9 @@ use Rattle.std.specs.Prelude.{Some, find}
 use Rattle.std.specs.List.{All, Contains}
 use Rattle.std.specs.Option.{option_map_or}
 use Rattle.std.proofs.lemmas.Bool.{cond-false, cond-true, eq-eqb, ne_eqb}
-use Rattle.std.proofs.lemmas.List.{get_or_default, reverse-reverse}
+use Rattle.std.proofs.lemmas.List.{get_or_default, length-map, reverse-reverse}
 use Rattle.std.proofs.lemmas.List.Elements.{All-contains, All-nil, All-cons, All-head, All-tail}
-use Rattle.std.proofs.lemmas.List.Sorted.{Contains-permutation, IsPermutation-map, IsPermutation-reverse, IsPermutation-sym, IsPermutation-trans}
+use Rattle.std.proofs.lemmas.List.Sorted.{Contains-permutation, IsPermutation-map, IsPermutation-reverse, IsPermutation-sym, IsPermutation-trans, length_permutation}
 use Rattle.cp_lists.specs.CyclicLists.{Distinct, Has}
 use Rattle.cp_lists.specs.Turns.{IsTurn}
 use Rattle.cp_lists.proofs.DistinctLists.{Has-Contains, has_lacks}
@@ -188,3 +188,34 @@ module _ (i : Synchronized) (is : IsSynchronized i) (p : Pipe) (differ : p.a ≢
   pub end-FitsEnd : (u : ℕ) → IsEnd p u
       → FitsEnd u (opposite p u) (λ x. partner p u x) (λ x. partner p (opposite p u) x)
   end-FitsEnd u end = by_end FitsEnd at_first at_second u end
+
+  -- the partners of the edges of one end are the edges of the other, and each edge is the partner of its partner
+  pub record HasPartners (u w : ℕ) (there back : ℕ → ℕ) : Type 0 where
+    pub arranged : IsPermutation (edges_at g w) (map there (edges_at g u))
+    pub undone : (x : ℕ) → Contains (edges_at g u) x → back (there x) ≡ x
+    pub size : length (edges_at g u) ≡ length p.pairs
+
+  -- so it is for the first end
+  first_partners : HasPartners p.a p.b (second_of p) (first_of p)
+  first_partners = record {
+    arranged = subst (λ es. IsPermutation (edges_at g p.b) (map (second_of p) es)) right.first
+        (subst (IsPermutation (edges_at g p.b)) (sym seconds_are) right.second);
+    undone = first_second;
+    size = ap length (sym right.first) ∙ length-map p.pairs (λ (x : ℕ × ℕ). x.0);
+  }
+
+  -- and for the second end
+  second_partners : HasPartners p.b p.a (first_of p) (second_of p)
+  second_partners = record {
+    arranged = subst (λ es. IsPermutation es (map (first_of p) (edges_at g p.b))) (firsts_are ∙ right.first)
+        (IsPermutation-map (first_of p) seconds (edges_at g p.b)
+        (IsPermutation-sym (edges_at g p.b) seconds right.second));
+    undone = second_first;
+    size = sym (length_permutation (edges_at g p.b) seconds right.second)
+        ∙ length-map p.pairs (λ (x : ℕ × ℕ). x.1);
+  }
+
+  -- seen from each end
+  pub end-HasPartners : (u : ℕ) → IsEnd p u
+      → HasPartners u (opposite p u) (λ x. partner p u x) (λ x. partner p (opposite p u) x)
+  end-HasPartners u end = by_end HasPartners first_partners second_partners u end
