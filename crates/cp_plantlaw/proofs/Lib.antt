@@ -1,0 +1,20 @@
+mod MapRows
+mod PlantedTrees
+pub mod PlantedNames
+mod MovedEnds
+pub mod PlantedEnds
+mod PermutedRows
+mod BranchLayers
+mod LaidTrees
+mod ReadTrees
+mod ToldTrees
+mod PairedTrees
+mod EndPartners
+mod RowPairs
+mod FreshNames
+mod PropagatedRows
+mod PropagatedEnds
+mod PropagatedTrees
+mod RowOrders
+mod ReadLeaves
+mod ApartPipes
