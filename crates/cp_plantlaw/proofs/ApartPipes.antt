@@ -8,6 +8,15 @@ use Rattle.cp_lists.proofs.DistinctLists.{Distinct-apart, Distinct-append_right,
 use Rattle.cp_orbits.proofs.ClassLabels.{Contains-cons_cases}
 use Rattle.cp_plantlaw.proofs.EndPartners.{found_own}
 
+-- an item of the list of an item is one of all
+pub owned : {A : Type 0} (f : A → List ℕ) (ys : List A) (y : A) (v : ℕ) → Contains ys y → Has v (f y)
+    → Has v (flat_map f ys)
+owned f [] y v c h = absurd (omega (arith, c.1))
+owned f (z ∷ ys) y v c h = ⊎_elim
+    (λ (e : z ≡ y). Has-append_left v (f z) (flat_map f ys) (subst (λ a. Has v (f a)) (sym e) h))
+    (λ k. Has-append_right v (f z) (flat_map f ys) (owned f ys y v k h))
+    (Contains-cons_cases z y ys c)
+
 -- items whose lists share no item, which have an item in common, are one
 pub one_owner : {A : Type 0} (f : A → List ℕ) (xs : List A) (x y : A) (v : ℕ) → Distinct (flat_map f xs) → Contains xs x
     → Contains xs y → Has v (f x) → Has v (f y) → x ≡ y
@@ -24,14 +33,6 @@ one_owner f (z ∷ xs) x y v once cx cy hx hy = ⊎_elim
     (λ ty. one_owner f xs x y v (Distinct-append_right (f z) (flat_map f xs) once) tx ty hx hy)
     (Contains-cons_cases z y xs cy))
     (Contains-cons_cases z x xs cx)
-  where
-    owned : {A : Type 0} (f : A → List ℕ) (ys : List A) (y : A) (v : ℕ) → Contains ys y → Has v (f y)
-        → Has v (flat_map f ys)
-    owned f [] y v c h = absurd (omega (arith, c.1))
-    owned f (z ∷ ys) y v c h = ⊎_elim
-        (λ (e : z ≡ y). Has-append_left v (f z) (flat_map f ys) (subst (λ a. Has v (f a)) (sym e) h))
-        (λ k. Has-append_right v (f z) (flat_map f ys) (owned f ys y v k h))
-        (Contains-cons_cases z y ys c)
 
 -- items of one name are one
 pub one_name : {A : Type 0} (name : A → ℕ) (xs : List A) (x y : A) → Distinct (map name xs) → Contains xs x → Contains xs y

@@ -18,3 +18,6 @@ mod PropagatedTrees
 mod RowOrders
 mod ReadLeaves
 mod ApartPipes
+mod PropagatedBack
+mod PropagatedOn
+mod PropagatedSolutions

@@ -43,7 +43,7 @@ laid-all partner R X then (a ∷ hs) (b ∷ bs) (r ∷ rs) z l =
     (then a b r z.0 l.0, laid-all partner R X then hs bs rs z.1 l.1)
 
 -- the vertices of the rows that are laid
-laid_verts : (partner : ℕ → ℕ) (hs bs : List Planted) (rs : List PairedRow) → AreLaid partner hs bs rs
+pub laid_verts : (partner : ℕ → ℕ) (hs bs : List Planted) (rs : List PairedRow) → AreLaid partner hs bs rs
     → (map (λ r. r.vertex.0) rs ≡ row_verts hs) × (map (λ r. r.vertex.1) rs ≡ row_verts bs)
 laid_verts partner [] [] [] l = (refl, refl)
 laid_verts partner [] [] (r ∷ rs) l = absurd l
@@ -69,17 +69,17 @@ all_both X Y [] x y = tt
 all_both X Y (z ∷ zs) x y = ((x.0, y.0), all_both X Y zs x.1 y.1)
 
 -- a fact that follows from another
-all_then : {A : Type 0} (X Y : A → Type 0) (xs : List A) → ((x : A) → X x → Y x) → AllByRecursion X xs → AllByRecursion Y xs
+pub all_then : {A : Type 0} (X Y : A → Type 0) (xs : List A) → ((x : A) → X x → Y x) → AllByRecursion X xs → AllByRecursion Y xs
 all_then X Y [] h x = tt
 all_then X Y (z ∷ zs) h x = (h z x.0, all_then X Y zs h x.1)
 
 -- the two values of a function of the items of a list
-map_map : {A B C : Type 0} (f : A → B) (h : B → C) (xs : List A) → map h (map f xs) ≡ map (λ x. h (f x)) xs
+pub map_map : {A B C : Type 0} (f : A → B) (h : B → C) (xs : List A) → map h (map f xs) ≡ map (λ x. h (f x)) xs
 map_map f h [] = refl
 map_map f h (x ∷ xs) = ap (λ zs. h (f x) ∷ zs) (map_map f h xs)
 
 -- each row has its vertex among those of all
-rows_inside : (all hs bs : List Planted) → ((x : ℕ) → Has x (row_verts hs) → Has x (row_verts all)) → (R : Planted → Planted → Type 0)
+pub rows_inside : (all hs bs : List Planted) → ((x : ℕ) → Has x (row_verts hs) → Has x (row_verts all)) → (R : Planted → Planted → Type 0)
     → AllZip R hs bs → AllZip (λ a b. Has a.vertex (row_verts all)) hs bs
 rows_inside all [] [] inside R z = tt
 rows_inside all [] (b ∷ bs) inside R z = absurd z
@@ -101,7 +101,7 @@ pub turn_back : (x : ℕ) (xs : List ℕ) → IsTurn (reverse (x ∷ xs)) (x ∷
 turn_back x xs = subst (λ zs. IsTurn zs (x ∷ reverse xs)) (sym (reverse-cons x xs)) (turn_parts (reverse xs) (x ∷ []))
 
 -- a row that is laid has the edges of both rows
-laid_edges : (partner : ℕ → ℕ) (a b : Planted) (r : PairedRow) → IsLaid partner a b r
+pub laid_edges : (partner : ℕ → ℕ) (a b : Planted) (r : PairedRow) → IsLaid partner a b r
     → IsPermutation a.edges r.edges × IsPermutation b.edges r.others
 laid_edges partner a b r l = (
   subst₂ IsPermutation (sym l.edges_a) (sym (ap (λ (z : PairedRow). z.edges) l.same_row))
@@ -315,7 +315,7 @@ module _ (i j : Synchronized) (is_i : IsSynchronized i) (is_j : IsSynchronized j
         (IsPermutation-append_left stay as_w (vv.1 ∷ verts js) verts_two))))
 
     -- so both systems have genus zero or none
-    node-HasGenusZero : (s : ℕ → List ℕ)
+    pub node-HasGenusZero : (s : ℕ → List ℕ)
         → IsTurn (shape.root ∷ word ks) (s u)
         → IsTurn (phi shape.root ∷ reverse (map phi (word ks))) (s v)
         → ((x : ℕ) → Has x stay → s x ≡ t x)
