@@ -21,3 +21,5 @@ mod ApartPipes
 mod PropagatedBack
 mod PropagatedOn
 mod PropagatedSolutions
+mod ReadWords
+pub mod PropagateLaw

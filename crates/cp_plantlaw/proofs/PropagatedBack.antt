@@ -74,7 +74,7 @@ module _ (i j : Synchronized) (is_i : IsSynchronized i) (is_j : IsSynchronized j
   stay = map (λ v. v.name) (old_verts i j p u shape prop)
 
   -- a row of the first tree is no empty one
-  not_leaf : (good : PairedRow → Type 0) (x : ℕ) → KidsLaid phi good (Kid.leaf x ∷ []) prop.rows_u prop.rows_w → ⊥
+  pub not_leaf : (good : PairedRow → Type 0) (x : ℕ) → KidsLaid phi good (Kid.leaf x ∷ []) prop.rows_u prop.rows_w → ⊥
   not_leaf good x laid = none prop.rows_u prop.rows_w laid.rows laid.laid
       (let n = length_permutation laid.rows [] laid.same in omega (arith, n))
       (rows_some i j is_i is_j p live u end shape edges_u prop)

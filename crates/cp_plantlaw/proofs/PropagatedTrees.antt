@@ -63,7 +63,7 @@ all_images f X [] h = tt
 all_images f X (x ∷ xs) h = (h.0, all_images f X xs h.1)
 
 -- two facts of each item
-all_both : {A : Type 0} (X Y : A → Type 0) (xs : List A) → AllByRecursion X xs → AllByRecursion Y xs
+pub all_both : {A : Type 0} (X Y : A → Type 0) (xs : List A) → AllByRecursion X xs → AllByRecursion Y xs
     → AllByRecursion (λ x. X x × Y x) xs
 all_both X Y [] x y = tt
 all_both X Y (z ∷ zs) x y = ((x.0, y.0), all_both X Y zs x.1 y.1)
@@ -241,7 +241,7 @@ module _ (i j : Synchronized) (is_i : IsSynchronized i) (is_j : IsSynchronized j
     pairs_all : (X : PairedRow → Type 0) → AllByRecursion X laid.rows → AllByRecursion X pairs
     pairs_all X h = all_permuted X laid.rows pairs all_pairs h
 
-    one_all : (X : ℕ × List ℕ → Type 0) → AllByRecursion (λ r. X (first_row r)) laid.rows → AllByRecursion X rows_one
+    pub one_all : (X : ℕ × List ℕ → Type 0) → AllByRecursion (λ r. X (first_row r)) laid.rows → AllByRecursion X rows_one
     one_all X h = subst (AllByRecursion X) same_one (all_images first_row X pairs (pairs_all (λ r. X (first_row r)) h))
 
     two_all : (X : ℕ × List ℕ → Type 0) → AllByRecursion (λ r. X (second_row r)) laid.rows → AllByRecursion X rows_two
