@@ -23,3 +23,6 @@ mod PropagatedOn
 mod PropagatedSolutions
 mod ReadWords
 pub mod PropagateLaw
+mod RestrictedGraphs
+mod SolvedBlocks
+pub mod PropagateSteps

@@ -1,7 +1,7 @@
 -- Propagate keeps solutions (Bläsius, Rutter 2016; Bläsius, Fink, Rutter 2021): where the shape admits the list of the
 -- end, a solution before it gives one after it, and each solution after it, read from the tree planted for the end, is
 -- one before it.
-use Rattle.std.proofs.Common.{◌≡◌, ◌≢◌, ◌⊎◌, ℕ, suc, ◌<◌, eqb, cond, List, [], ◌∷◌, ◌++◌, map, reverse, sym, refl, ap, ◌∙◌, subst, inl, inr, ⊎_elim, arith, IsPermutation}
+use Rattle.std.proofs.Common.{◌≡◌, ◌≢◌, ℕ, suc, eqb, cond, List, [], ◌∷◌, ◌++◌, map, reverse, sym, refl, ap, ◌∙◌, subst, inl, inr, arith, IsPermutation}
 use Rattle.std.specs.Prelude.{take}
 use Rattle.std.specs.List.{All, AllByRecursion, AllZip, Contains}
 use Rattle.std.proofs.lemmas.Bool.{cond-false, cond-true, eq-eqb, ne_eqb}
@@ -29,7 +29,7 @@ use Rattle.cp_synclaw.proofs.InstanceDarts.{edges_once}
 use Rattle.cp_plantlaw.specs.NamedTrees.{Named, Paired, PairedRow, first, tops, word}
 use Rattle.cp_plantlaw.specs.Readings.{IsReadBack, ReadsBelow}
 use Rattle.cp_plantlaw.proofs.FreshNames.{fresh_once, fresh_other}
-use Rattle.cp_plantlaw.proofs.LaidTrees.{AreLaid, IsLaid, Kid, KidsLaid, kid_tops, kid_word}
+use Rattle.cp_plantlaw.proofs.LaidTrees.{AreLaid, Kid, KidsLaid, kid_tops, kid_word}
 use Rattle.cp_plantlaw.proofs.PairedTrees.{first_row}
 use Rattle.cp_plantlaw.proofs.PropagatedBack.{Solves-from_trees, not_leaf, told, told_leaves, told_word}
 use Rattle.cp_plantlaw.proofs.PropagatedEnds.{Has_old, edges_u-leaves, row_tops, tops_u, u_not_w}
@@ -126,7 +126,7 @@ module _ (i j : Synchronized) (is_i : IsSynchronized i) (is_j : IsSynchronized j
     rows_have rs laid good =
         let R : Planted → Planted → Type 0 = λ (a b : Planted). Contains prop.rows_u a in
         let S : PairedRow → Type 0 = λ (r : PairedRow). (a : Planted) × Contains prop.rows_u a × (take 1 a.edges ≡ take 1 r.edges)
-            × (a.vertex ≡ r.vertex.0) in
+        × (a.vertex ≡ r.vertex.0) in
         all_then (λ r. S r × Holds t r) (λ r. HasRow (first_row r)) rs
         (λ r h. (h.0.0, h.0.1, h.0.2, h.0.3, h.1.0, subst (λ x. Distinct (t x)) h.0.3 (row_list_once h.0.0 h.0.1)))
         (all_both S (Holds t) rs

@@ -115,7 +115,7 @@ kept_names q (v ∷ vs) = ⊎_elim
     (cases_Bool (q v.name))
 
 -- what passes a filter
-kept_Has : (q : ℕ → Bool) (xs : List ℕ) (x : ℕ) → Has x xs → q x ≡ true → Has x (filter q xs)
+pub kept_Has : (q : ℕ → Bool) (xs : List ℕ) (x : ℕ) → Has x xs → q x ≡ true → Has x (filter q xs)
 kept_Has q [] x h t = absurd h
 kept_Has q (y ∷ xs) x h t = ⊎_elim
     (λ a. rw (a) (⊎_elim (λ e. inl e) (λ k. inr (kept_Has q xs x k t)) h))
@@ -123,7 +123,7 @@ kept_Has q (y ∷ xs) x h t = ⊎_elim
     (cases_Bool (q y))
 
 -- and what a filter keeps
-Has_kept : (q : ℕ → Bool) (xs : List ℕ) (x : ℕ) → Has x (filter q xs) → Has x xs × (q x ≡ true)
+pub Has_kept : (q : ℕ → Bool) (xs : List ℕ) (x : ℕ) → Has x (filter q xs) → Has x xs × (q x ≡ true)
 Has_kept q [] x h = absurd h
 Has_kept q (y ∷ xs) x h = ⊎_elim
     (λ a. ⊎_elim (λ (e : y ≡ x). (inl e, ap q (sym e) ∙ a)) (λ k. let r = Has_kept q xs x k in (inr r.0, r.1))
