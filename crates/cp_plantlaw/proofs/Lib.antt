@@ -26,3 +26,6 @@ pub mod PropagateLaw
 mod RestrictedGraphs
 mod SolvedBlocks
 pub mod PropagateSteps
+mod PlantedOrder
+mod PlantedEdges
+mod EdgesOfRows

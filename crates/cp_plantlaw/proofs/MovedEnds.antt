@@ -46,8 +46,8 @@ pub record IsMoved (i j : Synchronized) (place : ℕ → ℕ → ℕ) (back : �
   pub home : (w e : ℕ) → Contains (edges_at (graph i) w) e → back (place w e) ≡ w
   pub more : length (graph i).edges ≤ length (graph j).edges
 
-module _ (i j : Synchronized) (is_i : IsSynchronized i) (is_j : IsSynchronized j) (place : ℕ → ℕ → ℕ) (back : ℕ → ℕ)
-    (moved : IsMoved i j place back) where
+-- the ends of edges of i that move to vertices of j
+module _ (i j : Synchronized) (place : ℕ → ℕ → ℕ) (back : ℕ → ℕ) (moved : IsMoved i j place back) where
   -- the graphs
   abbrev gi : NamedGraph
   gi = graph i
@@ -76,25 +76,35 @@ module _ (i j : Synchronized) (is_i : IsSynchronized i) (is_j : IsSynchronized j
   pub moved_far : (w e : ℕ) → Contains (edges_at gi w) e → far gj (place w e) e ≡ place (far gi w e) e
   moved_far w e c = joins_far gj (place w e) (place (far gi w e) e) e (moved_joins w e c)
 
+-- the same, in instances that keep the rules
+module _ (i j : Synchronized) (is_i : IsSynchronized i) (is_j : IsSynchronized j) (place : ℕ → ℕ → ℕ) (back : ℕ → ℕ)
+    (moved : IsMoved i j place back) where
+  -- the graphs
+  abbrev graph_i : NamedGraph
+  graph_i = graph i
+
+  abbrev graph_j : NamedGraph
+  graph_j = graph j
+
   -- the darts of both
-  di : AreDartsOf gi (dart gi)
+  di : AreDartsOf graph_i (dart graph_i)
   di = instance_darts i is_i
 
-  dj : AreDartsOf gj (dart gj)
+  dj : AreDartsOf graph_j (dart graph_j)
   dj = instance_darts j is_j
 
   -- the dart of j for an edge at a vertex of i
   abbrev pub moved_dart : ℕ → ℕ → ℕ
-  moved_dart w e = dart gj (place w e) e
+  moved_dart w e = dart graph_j (place w e) e
 
   -- these are darts of the graph of i
-  pub moved-AreDartsOf : AreDartsOf gi moved_dart
+  pub moved-AreDartsOf : AreDartsOf graph_i moved_dart
   moved-AreDartsOf = record {
     at = λ d. back (dj.at d);
     edge_of = dj.edge_of;
-    placed = λ w e c. ap back (dj.placed (place w e) e (moved_at w e c)) ∙ moved.home w e c;
-    named = λ w e c. dj.named (place w e) e (moved_at w e c);
-    twins = λ w e c. ap (λ z. dart gj z e) (sym (moved_far w e c)) ∙ dj.twins (place w e) e (moved_at w e c);
+    placed = λ w e c. ap back (dj.placed (place w e) e (moved_at i j place back moved w e c)) ∙ moved.home w e c;
+    named = λ w e c. dj.named (place w e) e (moved_at i j place back moved w e c);
+    twins = λ w e c. ap (λ z. dart graph_j z e) (sym (moved_far i j place back moved w e c)) ∙ dj.twins (place w e) e (moved_at i j place back moved w e c);
   }
 
   -- the new name of a dart of i
@@ -102,15 +112,15 @@ module _ (i j : Synchronized) (is_i : IsSynchronized i) (is_j : IsSynchronized j
   renamed d = moved_dart (di.at d) (di.edge_of d)
 
   -- the dart of an edge at a vertex becomes the one there
-  renamed_dart : (w e : ℕ) → Contains (edges_at gi w) e → renamed (dart gi w e) ≡ moved_dart w e
+  renamed_dart : (w e : ℕ) → Contains (edges_at graph_i w) e → renamed (dart graph_i w e) ≡ moved_dart w e
   renamed_dart w e c = ap₂ moved_dart (di.placed w e c) (di.named w e c)
 
   -- how many edges there are
   abbrev m : ℕ
-  m = length gi.edges
+  m = length graph_i.edges
 
   abbrev n : ℕ
-  n = length gj.edges
+  n = length graph_j.edges
 
   -- the names are those of darts, different, and twins stay twins
   renamed-Names : Names m n renamed
@@ -118,14 +128,14 @@ module _ (i j : Synchronized) (is_i : IsSynchronized i) (is_j : IsSynchronized j
     below = λ d lt.
         let k = dart_of_edge i is_i d lt in
         subst (λ x. x < 2 * n) (sym (renamed_dart k.0 k.1 k.2) ∙ ap renamed k.3)
-        (dart_low j is_j (place k.0 k.1) k.1 (moved_at k.0 k.1 k.2));
+        (dart_low j is_j (place k.0 k.1) k.1 (moved_at i j place back moved k.0 k.1 k.2));
     apart = λ c d lc ld same.
         let k = dart_of_edge i is_i c lc in
         let l = dart_of_edge i is_i d ld in
         let one : moved_dart k.0 k.1 ≡ moved_dart l.0 l.1 =
         sym (renamed_dart k.0 k.1 k.2) ∙ ap renamed k.3 ∙ same ∙ ap renamed (sym l.3) ∙ renamed_dart l.0 l.1 l.2 in
         sym k.3
-        ∙ ap₂ (dart gi)
+        ∙ ap₂ (dart graph_i)
         (sym (moved-AreDartsOf.placed k.0 k.1 k.2) ∙ ap moved-AreDartsOf.at one ∙ moved-AreDartsOf.placed l.0 l.1 l.2)
         (sym (moved-AreDartsOf.named k.0 k.1 k.2) ∙ ap moved-AreDartsOf.edge_of one ∙ moved-AreDartsOf.named l.0 l.1 l.2)
         ∙ l.3;
@@ -133,23 +143,23 @@ module _ (i j : Synchronized) (is_i : IsSynchronized i) (is_j : IsSynchronized j
         let k = dart_of_edge i is_i d lt in
         ap (λ x. renamed (twin x)) (sym k.3)
         ∙ ap renamed (sym (di.twins k.0 k.1 k.2))
-        ∙ renamed_dart (far gi k.0 k.1) k.1 (far_edges_at gi k.0 k.1 k.2)
+        ∙ renamed_dart (far graph_i k.0 k.1) k.1 (far_edges_at graph_i k.0 k.1 k.2)
         ∙ moved-AreDartsOf.twins k.0 k.1 k.2
         ∙ ap twin (sym (renamed_dart k.0 k.1 k.2) ∙ ap renamed k.3);
   }
 
   -- a list of edges of a vertex under the new names
-  renamed_list : (w : ℕ) (xs : List ℕ) → ((x : ℕ) → Has x xs → Contains (edges_at gi w) x)
-      → map renamed (map (dart gi w) xs) ≡ map (moved_dart w) xs
+  renamed_list : (w : ℕ) (xs : List ℕ) → ((x : ℕ) → Has x xs → Contains (edges_at graph_i w) x)
+      → map renamed (map (dart graph_i w) xs) ≡ map (moved_dart w) xs
   renamed_list w [] all = refl
   renamed_list w (x ∷ xs) all =
       ap₂ (λ z zs. z ∷ zs) (renamed_dart w x (all x (inl refl))) (renamed_list w xs (λ y h. all y (inr h)))
 
   -- lists that arrange the edges of i
-  module _ (s : ℕ → List ℕ) (arranged : All (λ v. ArrangesEdges gi v (s v)) gi.verts) where
+  module _ (s : ℕ → List ℕ) (arranged : All (λ v. ArrangesEdges graph_i v (s v)) graph_i.verts) where
     -- the lists of some vertices under the new names
-    renamed_lists : (ws : List ℕ) → ((w : ℕ) → Has w ws → Contains gi.verts w)
-        → map (map renamed) (map (dart_list (dart gi) s) ws) ≡ map (dart_list moved_dart s) ws
+    renamed_lists : (ws : List ℕ) → ((w : ℕ) → Has w ws → Contains graph_i.verts w)
+        → map (map renamed) (map (dart_list (dart graph_i) s) ws) ≡ map (dart_list moved_dart s) ws
     renamed_lists [] all = refl
     renamed_lists (w ∷ ws) all =
         ap₂ (λ z zs. z ∷ zs)
@@ -157,15 +167,15 @@ module _ (i j : Synchronized) (is_i : IsSynchronized i) (is_j : IsSynchronized j
         (renamed_lists ws (λ y h. all y (inr h)))
 
     -- they make a system of genus zero where a map of the darts of j with these lists is flat
-    pub moved_lists-IsFlat : (h : ℕ → ℕ) → IsMapOf (2 * n) h (map (dart_list moved_dart s) gi.verts)
-        → HasGenusZero (system gi s) ↔ IsFlat n h
+    pub moved_lists-IsFlat : (h : ℕ → ℕ) → IsMapOf (2 * n) h (map (dart_list moved_dart s) graph_i.verts)
+        → HasGenusZero (system graph_i s) ↔ IsFlat n h
     moved_lists-IsFlat h is_h =
-        let r : System = system gi s in
+        let r : System = system graph_i s in
         let rot : IsRotation r = system-IsRotation i is_i s arranged in
         let one : OneGenus m (next r) n h =
-        named_lists-OneGenus m n renamed (next r) h (map (dart_list (dart gi) s) gi.verts) moved.more renamed-Names
+        named_lists-OneGenus m n renamed (next r) h (map (dart_list (dart graph_i) s) graph_i.verts) moved.more renamed-Names
         (system-IsMapOf i is_i s arranged)
-        (subst (IsMapOf (2 * n) h) (sym (renamed_lists gi.verts (λ w c. (Has-Contains w gi.verts).0 c))) is_h) in
+        (subst (IsMapOf (2 * n) h) (sym (renamed_lists graph_i.verts (λ w c. (Has-Contains w graph_i.verts).0 c))) is_h) in
         let size : edges r ≡ m = system_edges i is_i s arranged in (
           λ z. OneGenus-IsFlat m (next r) n h one (subst (λ k. IsFlat k (next r)) size ((system_flat r rot).0 z)),
           λ z. (system_flat r rot).1 (subst (λ k. IsFlat k (next r)) (sym size)
@@ -176,34 +186,34 @@ module _ (i j : Synchronized) (is_i : IsSynchronized i) (is_j : IsSynchronized j
   module _ (u : ℕ) where
     -- the vertex is one that ends at u moved to, and it has these edges
     abbrev pub IsNodeOf : ℕ × List ℕ → Type 0
-    IsNodeOf r = (back r.0 ≡ u) × ((x : ℕ) → Has x r.1 → Contains (edges_at gj r.0) x)
+    IsNodeOf r = (back r.0 ≡ u) × ((x : ℕ) → Has x r.1 → Contains (edges_at graph_j r.0) x)
 
     -- an edge of u that ends at such a vertex is there in the place of its end u
-    pub leaf_place : (v x : ℕ) → back v ≡ u → Contains (edges_at gj v) x → Contains (edges_at gi u) x
-        → dart gj v x ≡ moved_dart u x
+    pub leaf_place : (v x : ℕ) → back v ≡ u → Contains (edges_at graph_j v) x → Contains (edges_at graph_i u) x
+        → dart graph_j v x ≡ moved_dart u x
     leaf_place v x at here c =
-        ap (λ z. dart gj z x)
+        ap (λ z. dart graph_j z x)
         (⊎_elim
         (λ same. same)
-        (λ (other : v ≡ place (far gi u x) x). absurd (far_differs i is_i u x c
-        (sym (moved.home (far gi u x) x (far_edges_at gi u x c)) ∙ ap back (sym other) ∙ at)))
-        (end_cases gj v (place u x) (place (far gi u x) x) x (moved_joins u x c) (edges_at-Contains gj v x here).1))
+        (λ (other : v ≡ place (far graph_i u x) x). absurd (far_differs i is_i u x c
+        (sym (moved.home (far graph_i u x) x (far_edges_at graph_i u x c)) ∙ ap back (sym other) ∙ at)))
+        (end_cases graph_j v (place u x) (place (far graph_i u x) x) x (moved_joins i j place back moved u x c) (edges_at-Contains graph_j v x here).1))
 
     -- an edge between two vertices has twin darts there
-    twin_place : (v w g : ℕ) → v ≢ w → Contains (edges_at gj v) g → Contains (edges_at gj w) g
-        → dart gj w g ≡ twin (dart gj v g)
+    twin_place : (v w g : ℕ) → v ≢ w → Contains (edges_at graph_j v) g → Contains (edges_at graph_j w) g
+        → dart graph_j w g ≡ twin (dart graph_j v g)
     twin_place v w g ne cv cw =
-        ap (λ z. dart gj z g)
+        ap (λ z. dart graph_j z g)
         (⊎_elim
         (λ (e : w ≡ v). absurd (ne (sym e)))
         (λ e. e)
-        (end_cases gj w v (far gj v g) g (far_joins gj v g (edges_at-Contains gj v g cv).1) (edges_at-Contains gj w g cw).1))
+        (end_cases graph_j w v (far graph_j v g) g (far_joins graph_j v g (edges_at-Contains graph_j v g cv).1) (edges_at-Contains graph_j w g cw).1))
         ∙ dj.twins v g cv
 
     -- so the tree fits the darts
-    pub tree-Fits : (v : ℕ) (ks : Named) → back v ≡ u → ((x : ℕ) → Has x (tops ks) → Contains (edges_at gj v) x)
-        → AllByRecursion IsNodeOf (rows ks) → ((x : ℕ) → Has x (word ks) → Contains (edges_at gi u) x)
-        → Lacks v (verts ks) → Distinct (verts ks) → Fits (dart gj) (moved_dart u) v ks
+    pub tree-Fits : (v : ℕ) (ks : Named) → back v ≡ u → ((x : ℕ) → Has x (tops ks) → Contains (edges_at graph_j v) x)
+        → AllByRecursion IsNodeOf (rows ks) → ((x : ℕ) → Has x (word ks) → Contains (edges_at graph_i u) x)
+        → Lacks v (verts ks) → Distinct (verts ks) → Fits (dart graph_j) (moved_dart u) v ks
     tree-Fits v Named.no_kid at own nodes leaves other once = tt
     tree-Fits v (Named.leaf_kid x ks) at own nodes leaves other once = (
       leaf_place v x at (own x (inl refl)) (leaves x (inl refl)),

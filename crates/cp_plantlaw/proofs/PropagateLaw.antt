@@ -78,15 +78,15 @@ module _ (i j : Synchronized) (is_i : IsSynchronized i) (is_j : IsSynchronized j
       (Has-Contains x (edge_names i)).1
       (edges_at-Contains (graph i) u x ((Has-Contains x (edges_of i u)).0
       (Has-IsPermutation x all (edges_of i u) (IsPermutation-sym (edges_of i u) all
-      (edges_u-leaves i j is_i is_j p live u end shape edges_u prop)) h))).0
+      (edges_u-leaves i j is_i p live u end shape edges_u prop)) h))).0
 
   leaves_once : Distinct (shape.root ∷ leaves shape.body)
   leaves_once = Distinct-IsPermutation (edges_of i u) (shape.root ∷ leaves shape.body)
-      (edges_u-leaves i j is_i is_j p live u end shape edges_u prop)
+      (edges_u-leaves i j is_i p live u end shape edges_u prop)
       (filter-Distinct (ends_at (graph i) u) (edge_names i) (edges_once i is_i))
 
   tops_are : row_tops prop.rows_u ≡ shape.root ∷ prop.edges_u
-  tops_are = tops_u i j is_i is_j p live u end shape edges_u prop
+  tops_are = tops_u i j is_i p live u end shape edges_u prop
 
   tops_once : Distinct (row_tops prop.rows_u)
   tops_once = subst Distinct (sym tops_are) (
@@ -190,7 +190,7 @@ module _ (i j : Synchronized) (is_i : IsSynchronized i) (is_j : IsSynchronized j
         Solves-from_trees i j is_i is_j p live u end shape edges_u prop t sol s
         (subst (λ xs. IsTurn (shape.root ∷ xs) (s u)) same back.at_end)
         (subst (λ xs. IsTurn (reverse (map phi (shape.root ∷ xs))) (s w)) same back.at_other)
-        (λ x h. let n = Has_old i j is_i is_j p live u end shape edges_u prop x h in back.others x n.0 n.1 n.2)
+        (λ x h. let n = Has_old i j is_i p live u end shape edges_u prop x h in back.others x n.0 n.1 n.2)
 
     -- the shape admits the list that is read back
     pub read_back-Admits : (s : ℕ → List ℕ) → IsReadBack i p u shape.root prop.rows_u t s → Admits shape (s u)
@@ -205,7 +205,7 @@ module _ (i j : Synchronized) (is_i : IsSynchronized i) (is_j : IsSynchronized j
     -- such lists exist
     pub read_back-some : (s : ℕ → List ℕ) × IsReadBack i p u shape.root prop.rows_u t s
     read_back-some =
-        let differ : u ≢ w = u_not_w i j is_i is_j p live u end shape edges_u prop in
+        let differ : u ≢ w = u_not_w i j is_i p live u end shape edges_u prop in
         let one : List ℕ = shape.root ∷ told_leaf_word in
         let two : List ℕ = reverse (map phi one) in
         let s : ℕ → List ℕ = λ (x : ℕ). cond (eqb x u) one (cond (eqb x w) two (t x)) in

@@ -77,7 +77,7 @@ module _ (i j : Synchronized) (is_i : IsSynchronized i) (is_j : IsSynchronized j
   pub not_leaf : (good : PairedRow → Type 0) (x : ℕ) → KidsLaid phi good (Kid.leaf x ∷ []) prop.rows_u prop.rows_w → ⊥
   not_leaf good x laid = none prop.rows_u prop.rows_w laid.rows laid.laid
       (let n = length_permutation laid.rows [] laid.same in omega (arith, n))
-      (rows_some i j is_i is_j p live u end shape edges_u prop)
+      (rows_some i j is_i p live u end shape edges_u prop)
     where
       none : (hs bs : List Planted) (rs : List PairedRow) → AreLaid phi hs bs rs → length rs ≡ 0
           → Has shape.root (row_edges hs) → ⊥
@@ -104,8 +104,8 @@ module _ (i j : Synchronized) (is_i : IsSynchronized i) (is_j : IsSynchronized j
 
   -- both ends are ends of the pipe
   ends_are : Has u (p.a ∷ p.b ∷ []) × Has w (p.a ∷ p.b ∷ [])
-  ends_are = by_end i is_i p (differ i j is_i is_j p live u end shape edges_u prop)
-      (right i j is_i is_j p live u end shape edges_u prop)
+  ends_are = by_end i is_i p (differ i j is_i p live u end shape edges_u prop)
+      (right i j is_i p live u end shape edges_u prop)
       (λ x y there back. Has x (p.a ∷ p.b ∷ []) × Has y (p.a ∷ p.b ∷ []))
       (inl refl, inr (inl refl)) (inr (inl refl), inl refl) u end
 
@@ -142,7 +142,7 @@ module _ (i j : Synchronized) (is_i : IsSynchronized i) (is_j : IsSynchronized j
   pub other_stays : (q : Pipe) → Contains i.pipes q → q.name ≢ p.name → (x : ℕ) → Has x (q.a ∷ q.b ∷ []) → Has x stay
   other_stays q c ne x h =
       let k = other_pipe q c ne x h in
-      old_Has i j is_i is_j p live u end shape edges_u prop x (kind_live i.verts x (live_end q c x h)) k.0 k.1
+      old_Has i j is_i p live u end shape edges_u prop x (kind_live i.verts x (live_end q c x h)) k.0 k.1
 
   -- the other pipes are pipes of j
   pub other_in_j : (q : Pipe) → Contains i.pipes q → q.name ≢ p.name → Contains j.pipes q
@@ -242,13 +242,13 @@ module _ (i j : Synchronized) (is_i : IsSynchronized i) (is_j : IsSynchronized j
           (λ nu. ⊎_elim
           (λ (e : x ≡ w). subst (λ y. ArrangesEdges (graph i) y (s y)) (sym e)
           (IsPermutation-trans (edges_of i w) (reverse (map phi (shape.root ∷ told_word))) (s w)
-          ((mirrors i j is_i is_j p live u end shape edges_u prop).arranges (shape.root ∷ told_word)
+          ((mirrors i j is_i p live u end shape edges_u prop).arranges (shape.root ∷ told_word)
           (word-edges_u i j is_i is_j p live u end shape edges_u prop told_word told_leaves))
           (turn-IsPermutation (reverse (map phi (shape.root ∷ told_word))) (s w) at_w)))
           (λ nw.
-          let h : Has x stay = old_Has i j is_i is_j p live u end shape edges_u prop x c nu nw in
+          let h : Has x stay = old_Has i j is_i p live u end shape edges_u prop x c nu nw in
           subst (IsPermutation (edges_of i x)) (sym (kept x h))
-          (IsPermutation-trans (edges_of i x) (edges_of j x) (t x) (edges_stay i j is_i is_j p live u end shape edges_u prop x h)
+          (IsPermutation-trans (edges_of i x) (edges_of j x) (t x) (edges_stay i j is_i p live u end shape edges_u prop x h)
           (All-contains (λ y. ArrangesEdges (graph j) y (t y)) (vert_names j) x sol.rotation.arranged
           (Contains-permutation (stay ++ (row_verts prop.rows_u ++ row_verts prop.rows_w)) (vert_names j) x
           (verts_named i j p u shape prop)
@@ -275,7 +275,7 @@ module _ (i j : Synchronized) (is_i : IsSynchronized i) (is_j : IsSynchronized j
             (Distinct-from_rises (map (λ (z : Pipe). z.name) i.pipes)
             (rises_from (map (λ (z : Pipe). z.name) i.pipes) is_i.pipes_named.rise)) c live e in
             subst (λ (z : Pipe). IsMirror (second_of z) (s z.a) (s z.b)) (sym same)
-            ((mirrors i j is_i is_j p live u end shape edges_u prop).mirrors s
+            ((mirrors i j is_i p live u end shape edges_u prop).mirrors s
             (All-contains (λ x. ArrangesEdges (graph i) x (s x)) (vert_names i) u arranged_s
             (kind_live i.verts u (live_end p live u ends_are.0)))
             (turn-trans (reverse (map phi (s u))) (reverse (map phi (shape.root ∷ told_word))) (s w)
@@ -298,7 +298,7 @@ module _ (i j : Synchronized) (is_i : IsSynchronized i) (is_j : IsSynchronized j
             (λ nw.
             let live_v : Contains (vert_names i) v.name = map_has (λ (z : Vert). z.name) i.verts v c in
             let same : s v.name ≡ t v.name =
-            kept v.name (old_Has i j is_i is_j p live u end shape edges_u prop v.name live_v nu nw) in
+            kept v.name (old_Has i j is_i p live u end shape edges_u prop v.name live_v nu nw) in
             subst (λ xs. IsInDirection sol.back xs v.kind) (sym same)
             (All-contains (λ (z : Vert). IsInDirection sol.back (t z.name) z.kind) j.verts v sol.in_direction
             (other_vert v c nu nw)))

@@ -4,12 +4,12 @@ use Rattle.std.specs.Prelude.{Option, Some, filter, find, take}
 use Rattle.std.specs.List.{Contains}
 use Rattle.std.specs.Option.{option_map_or}
 use Rattle.std.proofs.lemmas.Bool.{cases_Bool, cases_eq, cond-false, cond-true, eq-eqb, ne_eqb, false≢true}
-use Rattle.std.proofs.lemmas.List.{length-append, length-map}
+use Rattle.std.proofs.lemmas.List.{length-append, length-map, map-append}
 use Rattle.std.proofs.lemmas.List.Elements.{All-contains, All-contains_itself, Contains-append_cases}
-use Rattle.std.proofs.lemmas.List.Sorted.{Contains-permutation, IsPermutation-sym, length_permutation}
+use Rattle.std.proofs.lemmas.List.Sorted.{Contains-permutation, IsPermutation-sym, length_permutation, IsPermutation-map}
 use Rattle.cp_lists.specs.CyclicLists.{Distinct, Has, Lacks}
 use Rattle.cp_lists.specs.Rows.{flat}
-use Rattle.cp_lists.proofs.DistinctLists.{Distinct-apart, Distinct-apart_right, Distinct-append_right, Has-append_cases, Has-append_left, Has-append_right, Has-Contains, Lacks-append_left, Lacks-append_right, Lacks-from, has_lacks}
+use Rattle.cp_lists.proofs.DistinctLists.{Distinct-apart, Distinct-apart_right, Distinct-append_right, Has-append_cases, Has-append_left, Has-append_right, Has-Contains, Lacks-append_left, Lacks-append_right, Lacks-from, has_lacks, Distinct-append}
 use Rattle.cp_lists.proofs.FilteredLists.{filter-Distinct}
 use Rattle.cp_lists.proofs.MappedLists.{map_on-Has}
 use Rattle.cp_lists.proofs.PermutedLists.{Distinct-IsPermutation, Has-IsPermutation, IsPermutation-from}
@@ -32,7 +32,7 @@ use Rattle.cp_board.proofs.NamedLists.{arranged}
 use Rattle.cp_board.proofs.Rules.{All-first}
 use Rattle.cp_synclaw.proofs.InstanceDarts.{edges_once, live_at, verts_once}
 use Rattle.cp_plantlaw.proofs.EndPartners.{MirrorsFrom, by_end, end-MirrorsFrom, found_own}
-use Rattle.cp_plantlaw.proofs.FreshNames.{has-false, has-true}
+use Rattle.cp_plantlaw.proofs.FreshNames.{has-false, has-true, fresh_once, fresh_other}
 use Rattle.cp_plantlaw.proofs.MovedEnds.{IsMoved, moved_at}
 use Rattle.cp_plantlaw.proofs.PropagatedRows.{all_edges, edges_keep, leaf_held, new_edges, old_verts, place, row_edges, row_verts, verts_named}
 
@@ -54,7 +54,7 @@ first_in pick (r ∷ rows) x h =
     (cases_Bool (has (pick r) x))
 
 -- the holder of an edge of some rows is one of their vertices
-holder_in : (rows : List Planted) (x : ℕ) → Has x (row_edges rows) → Has (holder rows x) (row_verts rows)
+pub holder_in : (rows : List Planted) (x : ℕ) → Has x (row_edges rows) → Has (holder rows x) (row_verts rows)
 holder_in rows x h = first_in (λ r. r.edges) rows x h
 
 -- the edges from above of some rows
@@ -69,7 +69,7 @@ row_tops-append (a ∷ hs) bs =
     ∙ sym (append_assoc (take 1 a.edges) (row_tops hs) (row_tops bs))
 
 -- an edge from above is an edge
-tops_edges : (rows : List Planted) (x : ℕ) → Has x (row_tops rows) → Has x (row_edges rows)
+pub tops_edges : (rows : List Planted) (x : ℕ) → Has x (row_tops rows) → Has x (row_edges rows)
 tops_edges [] x h = h
 tops_edges (r ∷ rows) x h = ⊎_elim
     (λ k. Has-append_left x r.edges (row_edges rows) (first_item r.edges x k))
@@ -97,6 +97,24 @@ mutual
       row_tops-append rows more_rows
       ∙ ap₂ (λ (xs ys : List ℕ). xs ++ ys) (planted-tops f k top us ds rows one)
       (kids-tops f ks tops vs es more_rows rest)
+
+-- the vertices of planted rows are those that were taken
+mutual
+  pub planted-verts : (f : ℕ → ℕ) (b : Branch) (top : ℕ) (vs es : List ℕ) (rows : List Planted)
+      → Plants f b top vs es rows → row_verts rows ≡ vs
+  planted-verts f _ _ _ _ _ (Plants.leaf x) = refl
+  planted-verts f _ _ _ _ _ (Plants.free kids top v tops vs es rows all) =
+      ap (λ zs. v ∷ zs) (kids-verts f kids tops vs es rows all)
+  planted-verts f _ _ _ _ _ (Plants.fixed kids top v tops vs es rows all) =
+      ap (λ zs. v ∷ zs) (kids-verts f kids tops vs es rows all)
+
+  kids-verts : (f : ℕ → ℕ) (kids : List Branch) (tops vs es : List ℕ) (rows : List Planted)
+      → PlantsAll f kids tops vs es rows → row_verts rows ≡ vs
+  kids-verts f _ _ _ _ _ PlantsAll.none = refl
+  kids-verts f _ _ _ _ _ (PlantsAll.more k ks top tops us vs ds es rows more_rows one rest) =
+      map-append (λ (r : Planted). r.vertex) rows more_rows
+      ∙ ap₂ (λ (xs ys : List ℕ). xs ++ ys) (planted-verts f k top us ds rows one)
+      (kids-verts f ks tops vs es more_rows rest)
 
 -- where some node is planted the edge from above is one of its row
 root_held : (f : ℕ → ℕ) (b : Branch) (top : ℕ) (vs es : List ℕ) (rows : List Planted) → Plants f b top vs es rows
@@ -139,7 +157,7 @@ Distinct_kept q (y ∷ xs) d = ⊎_elim
     (cases_Bool (q y))
 
 -- an instance with a pipe p and one end u of it, a shape whose leaves are the edges of u, and what Propagate makes of it
-module _ (i j : Synchronized) (is_i : IsSynchronized i) (is_j : IsSynchronized j) (p : Pipe) (live : Contains i.pipes p)
+module _ (i j : Synchronized) (is_i : IsSynchronized i) (p : Pipe) (live : Contains i.pipes p)
     (u : ℕ) (end : IsEnd p u) (shape : Shape)
     (edges_u : rising (shape.root ∷ leaves shape.body) ≡ edges_of i u) (prop : IsPropagated i p u shape j) where
   -- the other end, and the partner of an edge of u
@@ -182,7 +200,7 @@ module _ (i j : Synchronized) (is_i : IsSynchronized i) (is_j : IsSynchronized j
       (λ e. let n = ap length e in absurd (omega (arith, n)))
 
   -- each edge of u is one of the rows planted for it
-  held_u : (x : ℕ) → Contains (edges_of i u) x → Has x (row_edges prop.rows_u)
+  pub held_u : (x : ℕ) → Contains (edges_of i u) x → Has x (row_edges prop.rows_u)
   held_u x c =
       let h : Has x (shape.root ∷ leaves shape.body) =
       Has-IsPermutation x (edges_of i u) (shape.root ∷ leaves shape.body) edges_u-leaves ((Has-Contains x (edges_of i u)).1 c) in
@@ -193,7 +211,7 @@ module _ (i j : Synchronized) (is_i : IsSynchronized i) (is_j : IsSynchronized j
       (leaf_held (λ y. y) shape.body shape.root prop.at_u (shape.root ∷ prop.edges_u) prop.rows_u x prop.planted_u k)) h
 
   -- and each of w
-  held_w : (x : ℕ) → Contains (edges_of i w) x → Has x (row_edges prop.rows_w)
+  pub held_w : (x : ℕ) → Contains (edges_of i w) x → Has x (row_edges prop.rows_w)
   held_w x c =
       let all : List ℕ = shape.root ∷ leaves shape.body in
       let h : Has x (reverse (map mate all)) =
@@ -274,9 +292,57 @@ module _ (i j : Synchronized) (is_i : IsSynchronized i) (is_j : IsSynchronized j
   abbrev at_w : List ℕ
   at_w = row_verts prop.rows_w
 
+  -- the vertices of the rows are the new names
+  verts_u : at_u ≡ prop.at_u
+  verts_u = planted-verts (λ y. y) shape.body shape.root prop.at_u (shape.root ∷ prop.edges_u) prop.rows_u prop.planted_u
+
+  verts_w : at_w ≡ prop.at_w
+  verts_w = planted-verts mate shape.body (mate shape.root) prop.at_w (mate shape.root ∷ prop.edges_w) prop.rows_w
+      prop.planted_w
+
   pub names_once : Distinct (old ++ (at_u ++ at_w))
-  names_once = Distinct-IsPermutation (vert_names j) (old ++ (at_u ++ at_w))
-      (IsPermutation-sym (old ++ (at_u ++ at_w)) (vert_names j) (verts_named i j p u shape prop)) (verts_once j is_j)
+  names_once =
+      let new : at_u ++ at_w ≡ prop.at_u ++ prop.at_w = ap₂ (λ (xs ys : List ℕ). xs ++ ys) verts_u verts_w in
+      Distinct-append old (at_u ++ at_w)
+      (subst Distinct (sym old_kept) (Distinct_kept stays (vert_names i) (verts_once i is_i)))
+      (subst Distinct (sym new) (fresh_once (vert_names i) (prop.at_u ++ prop.at_w) prop.new_verts))
+      (λ x h. Lacks-from x (at_u ++ at_w) (λ k. fresh_other (vert_names i) (prop.at_u ++ prop.at_w) x x prop.new_verts
+      (subst (Has x) new k) ((Has-Contains x (vert_names i)).1 (Has_old x h).0) refl))
+
+  -- the names of the edges of j: those of i and those of both trees
+  pub edges_named : IsPermutation (edge_names i ++ (prop.edges_u ++ prop.edges_w)) (edge_names j)
+  edges_named =
+      let moved : List EdgeRow = moved_edges i (λ x v. place i j p u shape prop v x) in
+      let tu : List EdgeRow = tree_edges prop.rows_u prop.edges_u in
+      let tw : List EdgeRow = tree_edges prop.rows_w prop.edges_w in
+      let name : EdgeRow → ℕ = λ (e : EdgeRow). e.name in
+      let same : map name (all_edges i j p u shape prop) ≡ edge_names i ++ (prop.edges_u ++ prop.edges_w) =
+      map-append name moved (tu ++ tw)
+      ∙ ap₂ (λ (xs ys : List ℕ). xs ++ ys) (moved_names i.edges)
+      (map-append name tu tw
+      ∙ ap₂ (λ (xs ys : List ℕ). xs ++ ys) (tree_names prop.rows_u prop.edges_u) (tree_names prop.rows_w prop.edges_w)) in
+      subst (λ zs. IsPermutation zs (edge_names j)) same
+      (IsPermutation-map name (all_edges i j p u shape prop) j.edges (edges_keep i j p u shape prop))
+    where
+      moved_names : (es : List EdgeRow) → map (λ (e : EdgeRow). e.name) (map (λ (e : EdgeRow). record {
+        name = e.name;
+        a = place i j p u shape prop e.a e.name;
+        b = place i j p u shape prop e.b e.name;
+      }) es) ≡ map (λ (e : EdgeRow). e.name) es
+      moved_names [] = refl
+      moved_names (e ∷ es) = ap (λ zs. e.name ∷ zs) (moved_names es)
+
+      tree_names : (rows : List Planted) (es : List ℕ) → map (λ (e : EdgeRow). e.name) (tree_edges rows es) ≡ es
+      tree_names rows [] = refl
+      tree_names rows (e ∷ es) = ap (λ zs. e ∷ zs) (tree_names rows es)
+
+  -- no edge of j is named twice
+  pub edges_j_once : Distinct (edge_names j)
+  edges_j_once =
+      let new : List ℕ = prop.edges_u ++ prop.edges_w in
+      Distinct-IsPermutation (edge_names i ++ new) (edge_names j) edges_named
+      (Distinct-append (edge_names i) new (edges_once i is_i) (fresh_once (edge_names i) new prop.new_edges)
+      (λ x h. Lacks-from x new (λ k. fresh_other (edge_names i) new x x prop.new_edges k h refl)))
 
   -- the vertex of i from which an end came
   abbrev pub back : ℕ → ℕ
@@ -299,7 +365,7 @@ module _ (i j : Synchronized) (is_i : IsSynchronized i) (is_j : IsSynchronized j
       ∙ cond-false (has at_w x) w x (has-false at_w x (Lacks-append_right x at_u at_w apart))
 
   -- where the ends at u, at w and elsewhere are
-  abbrev put : ℕ → ℕ → ℕ
+  abbrev pub put : ℕ → ℕ → ℕ
   put = place i j p u shape prop
 
   pub put_u : (e : ℕ) → put u e ≡ holder prop.rows_u e
@@ -317,7 +383,7 @@ module _ (i j : Synchronized) (is_i : IsSynchronized i) (is_j : IsSynchronized j
       ∙ cond-false (eqb x w) (holder prop.rows_w e) x (ne_eqb x w nw)
 
   -- an end comes from where it was
-  home : (x e : ℕ) → Contains (edges_of i x) e → back (put x e) ≡ x
+  pub home : (x e : ℕ) → Contains (edges_of i x) e → back (put x e) ≡ x
   home x e c = ⊎_elim
       (λ (s : x ≡ u).
       let here : Contains (edges_of i u) e = subst (λ y. Contains (edges_of i y) e) s c in
@@ -333,11 +399,11 @@ module _ (i j : Synchronized) (is_i : IsSynchronized i) (is_j : IsSynchronized j
       (cases_eq x u)
 
   -- the row of an edge of i after the step
-  abbrev moved_row : EdgeRow → EdgeRow
+  abbrev pub moved_row : EdgeRow → EdgeRow
   moved_row e = record { name = e.name; a = put e.a e.name; b = put e.b e.name }
 
   -- it is a row of j
-  row_of_j : (e : EdgeRow) → Contains i.edges e → Contains j.edges (moved_row e)
+  pub row_of_j : (e : EdgeRow) → Contains i.edges e → Contains j.edges (moved_row e)
   row_of_j e c =
       let moved : List EdgeRow = moved_edges i (λ x v. put v x) in
       Contains-permutation (all_edges i j p u shape prop) j.edges (moved_row e) (edges_keep i j p u shape prop)
@@ -347,12 +413,12 @@ module _ (i j : Synchronized) (is_i : IsSynchronized i) (is_j : IsSynchronized j
       (map_has moved_row i.edges e c))
 
   -- the ends of an edge by its row
-  ends_by_row : (k : Synchronized) → IsSynchronized k → (e : EdgeRow) → Contains k.edges e
+  pub ends_by_row : (k : Synchronized) → Distinct (edge_names k) → (e : EdgeRow) → Contains k.edges e
       → ends_of k e.name ≡ (e.a, e.b)
-  ends_by_row k is e c =
+  ends_by_row k once e c =
       ap (λ o. option_map_or (λ (x : EdgeRow). (x.a, x.b)) o (0, 0))
       (All-contains (λ (x : EdgeRow). find (λ y. eqb y.name x.name) k.edges ≡ Some x) k.edges e
-      (found_own (λ (x : EdgeRow). x.name) k.edges (edges_once k is)) c)
+      (found_own (λ (x : EdgeRow). x.name) k.edges once) c)
 
   -- so the ends of edges of i move to vertices of j
   pub ends-IsMoved : IsMoved i j put back
@@ -362,8 +428,8 @@ module _ (i j : Synchronized) (is_i : IsSynchronized i) (is_j : IsSynchronized j
         subst (Contains (edge_names j)) r.2 (map_has (λ (x : EdgeRow). x.name) j.edges (moved_row r.0) (row_of_j r.0 r.1));
     ends = λ e c.
         let r = map_from (λ (x : EdgeRow). x.name) i.edges e c in
-        let old_ends : (r.0.a, r.0.b) ≡ ends_of i e = sym (ends_by_row i is_i r.0 r.1) ∙ ap (ends_of i) r.2 in
-        ap (ends_of j) (sym r.2) ∙ ends_by_row j is_j (moved_row r.0) (row_of_j r.0 r.1)
+        let old_ends : (r.0.a, r.0.b) ≡ ends_of i e = sym (ends_by_row i (edges_once i is_i) r.0 r.1) ∙ ap (ends_of i) r.2 in
+        ap (ends_of j) (sym r.2) ∙ ends_by_row j edges_j_once (moved_row r.0) (row_of_j r.0 r.1)
         ∙ ap₂ (λ (x : ℕ × ℕ) (n : ℕ). (put x.0 n, put x.1 n)) old_ends r.2;
     home = home;
     more =
@@ -377,7 +443,7 @@ module _ (i j : Synchronized) (is_i : IsSynchronized i) (is_j : IsSynchronized j
   }
 
   -- the two ends of an edge between two nodes of a tree are vertices of the tree
-  tree_ends : (rows : List Planted) (es : List ℕ) → ((x : ℕ) → Has x es → Has x (row_tops rows)) → (e : EdgeRow)
+  pub tree_ends : (rows : List Planted) (es : List ℕ) → ((x : ℕ) → Has x es → Has x (row_tops rows)) → (e : EdgeRow)
       → Contains (tree_edges rows es) e → Has e.a (row_verts rows) × Has e.b (row_verts rows)
   tree_ends rows es tops e c =
       let r = map_from (λ x. record { name = x; a = holder rows x; b = lower_end rows x }) es e c in
@@ -390,12 +456,12 @@ module _ (i j : Synchronized) (is_i : IsSynchronized i) (is_j : IsSynchronized j
   pub tops_u : row_tops prop.rows_u ≡ shape.root ∷ prop.edges_u
   tops_u = planted-tops (λ y. y) shape.body shape.root prop.at_u (shape.root ∷ prop.edges_u) prop.rows_u prop.planted_u
 
-  tops_w : row_tops prop.rows_w ≡ mate shape.root ∷ prop.edges_w
+  pub tops_w : row_tops prop.rows_w ≡ mate shape.root ∷ prop.edges_w
   tops_w = planted-tops mate shape.body (mate shape.root) prop.at_w (mate shape.root ∷ prop.edges_w) prop.rows_w
       prop.planted_w
 
   -- no end of a new edge is a vertex that stays
-  new_ends : (e : EdgeRow) → Contains (new_edges i j p u shape prop) e → (x : ℕ) → Has x old → (e.a ≢ x) × (e.b ≢ x)
+  pub new_ends : (e : EdgeRow) → Contains (new_edges i j p u shape prop) e → (x : ℕ) → Has x old → (e.a ≢ x) × (e.b ≢ x)
   new_ends e c x h =
       let tu : List EdgeRow = tree_edges prop.rows_u prop.edges_u in
       let tw : List EdgeRow = tree_edges prop.rows_w prop.edges_w in
@@ -416,7 +482,7 @@ module _ (i j : Synchronized) (is_i : IsSynchronized i) (is_j : IsSynchronized j
   edge_before x e h c =
       let k = edges_at-Contains (graph j) x e c in
       let r = map_from (λ (y : EdgeRow). y.name) j.edges e k.0 in
-      let row_ends : ends_of j e ≡ (r.0.a, r.0.b) = ap (ends_of j) (sym r.2) ∙ ends_by_row j is_j r.0 r.1 in
+      let row_ends : ends_of j e ≡ (r.0.a, r.0.b) = ap (ends_of j) (sym r.2) ∙ ends_by_row j edges_j_once r.0 r.1 in
       let moved : List EdgeRow = moved_edges i (λ y v. put v y) in
       let here : (r.0.a ≡ x) ⊎ (r.0.b ≡ x) = ⊎_elim
       (λ (s : ((ends_of j e).0 ≡ x) × ((ends_of j e).1 ≡ far (graph j) x e)). inl (sym (ap (λ (y : ℕ × ℕ). y.0) row_ends) ∙ s.0))
@@ -431,7 +497,7 @@ module _ (i j : Synchronized) (is_i : IsSynchronized i) (is_j : IsSynchronized j
       let q = map_from moved_row i.edges r.0 m in
       let named : q.0.name ≡ e = ap (λ (y : EdgeRow). y.name) q.2 ∙ r.2 in
       let live_e : Contains (edge_names i) e = subst (Contains (edge_names i)) named (map_has (λ (y : EdgeRow). y.name) i.edges q.0 q.1) in
-      let old_ends : ends_of i e ≡ (q.0.a, q.0.b) = ap (ends_of i) (sym named) ∙ ends_by_row i is_i q.0 q.1 in
+      let old_ends : ends_of i e ≡ (q.0.a, q.0.b) = ap (ends_of i) (sym named) ∙ ends_by_row i (edges_once i is_i) q.0 q.1 in
       let at_a : Contains (edges_of i q.0.a) e = Contains-edges_at (graph i) q.0.a e live_e
       (joins_ends (graph i) q.0.a q.0.b e (inl (ap (λ (y : ℕ × ℕ). y.0) old_ends, ap (λ (y : ℕ × ℕ). y.1) old_ends))) in
       let at_b : Contains (edges_of i q.0.b) e = Contains-edges_at (graph i) q.0.b e live_e
@@ -457,8 +523,8 @@ module _ (i j : Synchronized) (is_i : IsSynchronized i) (is_j : IsSynchronized j
       let n = Has_old x h in
       IsPermutation-from (edges_of i x) (edges_of j x)
       (filter-Distinct (ends_at (graph i) x) (edge_names i) (edges_once i is_i))
-      (filter-Distinct (ends_at (graph j) x) (edge_names j) (edges_once j is_j))
+      (filter-Distinct (ends_at (graph j) x) (edge_names j) edges_j_once)
       (λ e k. (Has-Contains e (edges_of j x)).1
       (subst (λ y. Contains (edges_of j y) e) (put_old x e n.1 n.2)
-      (moved_at i j is_i is_j put back ends-IsMoved x e ((Has-Contains e (edges_of i x)).0 k))))
+      (moved_at i j put back ends-IsMoved x e ((Has-Contains e (edges_of i x)).0 k))))
       (λ e k. (Has-Contains e (edges_of i x)).1 (edge_before x e h ((Has-Contains e (edges_of j x)).0 k)))

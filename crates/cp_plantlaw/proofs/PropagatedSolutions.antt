@@ -122,7 +122,7 @@ module _ (i j : Synchronized) (is_i : IsSynchronized i) (is_j : IsSynchronized j
 
   pub lists_once : Distinct (map (λ r. r.0) lists)
   lists_once = subst Distinct (sym names_are)
-      (Distinct-append_right stay (row_verts hs ++ row_verts bs) (names_once i j is_i is_j p live u end shape edges_u prop))
+      (Distinct-append_right stay (row_verts hs ++ row_verts bs) (names_once i j is_i p live u end shape edges_u prop))
 
   -- the lists after the step
   abbrev pub t : ℕ → List ℕ
@@ -130,7 +130,7 @@ module _ (i j : Synchronized) (is_i : IsSynchronized i) (is_j : IsSynchronized j
 
   t_stay : (x : ℕ) → Has x stay → t x ≡ s x
   t_stay x h = listed_other lists lists_once s x (subst (Lacks x) (sym names_are)
-      (Distinct-apart x stay (row_verts hs ++ row_verts bs) (names_once i j is_i is_j p live u end shape edges_u prop) h))
+      (Distinct-apart x stay (row_verts hs ++ row_verts bs) (names_once i j is_i p live u end shape edges_u prop) h))
 
   -- each row has its lists
   holds : AllByRecursion (Holds t) rs
@@ -187,10 +187,10 @@ module _ (i j : Synchronized) (is_i : IsSynchronized i) (is_j : IsSynchronized j
       (All-from_items (λ x. ArrangesEdges (graph j) x (t x)) all
       (λ x c. ⊎_elim
       (λ h.
-      let n = Has_old i j is_i is_j p live u end shape edges_u prop x h in
+      let n = Has_old i j is_i p live u end shape edges_u prop x h in
       subst (IsPermutation (edges_of j x)) (sym (t_stay x h))
       (IsPermutation-trans (edges_of j x) (edges_of i x) (s x)
-      (IsPermutation-sym (edges_of i x) (edges_of j x) (edges_stay i j is_i is_j p live u end shape edges_u prop x h))
+      (IsPermutation-sym (edges_of i x) (edges_of j x) (edges_stay i j is_i p live u end shape edges_u prop x h))
       (All-contains (λ y. ArrangesEdges (graph i) y (s y)) (vert_names i) x sol.rotation.arranged n.0)))
       (λ h. ⊎_elim (λ k. at.0 x k) (λ k. at.1 x k) (Has-append_cases x (row_verts hs) (row_verts bs) h))
       (Has-append_cases x stay (row_verts hs ++ row_verts bs) ((Has-Contains x all).1 c))))
@@ -199,7 +199,7 @@ module _ (i j : Synchronized) (is_i : IsSynchronized i) (is_j : IsSynchronized j
   at_w : IsTurn (phi shape.root ∷ reverse (map phi word)) (s w)
   at_w =
       let mirror : IsTurn (reverse (map phi (s u))) (s w) =
-      (mirrors i j is_i is_j p live u end shape edges_u prop).mirrored s
+      (mirrors i j is_i p live u end shape edges_u prop).mirrored s
       (All-contains (λ x. ArrangesEdges (graph i) x (s x)) (vert_names i) p.a sol.rotation.arranged
       (kind_live i j is_i is_j p live u end shape edges_u prop i.verts p.a
       (live_end i j is_i is_j p live u end shape edges_u prop p live p.a (inl refl))))
@@ -287,7 +287,7 @@ module _ (i j : Synchronized) (is_i : IsSynchronized i) (is_j : IsSynchronized j
       let test : Vert → Bool = λ (v : Vert). not (has (u ∷ w ∷ []) v.name) in
       let base : All (λ v. v.name ≢ u → v.name ≢ w → Directed v) i.verts =
       All-from_items (λ v. v.name ≢ u → v.name ≢ w → Directed v) i.verts (λ v c nu nw.
-      let here : Has v.name stay = old_Has i j is_i is_j p live u end shape edges_u prop v.name
+      let here : Has v.name stay = old_Has i j is_i p live u end shape edges_u prop v.name
       (map_has (λ (z : Vert). z.name) i.verts v c) nu nw in
       subst (λ xs. IsInDirection back xs v.kind) (sym (t_stay v.name here))
       (same_direction sol.back back (s v.name) v.kind

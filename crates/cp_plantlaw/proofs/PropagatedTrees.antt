@@ -122,16 +122,16 @@ module _ (i j : Synchronized) (is_i : IsSynchronized i) (is_j : IsSynchronized j
     (edges_u : rising (shape.root ∷ leaves shape.body) ≡ edges_of i u) (prop : IsPropagated i p u shape j) where
   -- the other end, the partners and the vertices that stay
   abbrev v : ℕ
-  v = w i j is_i is_j p live u end shape edges_u prop
+  v = w i j is_i p live u end shape edges_u prop
 
   abbrev phi : ℕ → ℕ
-  phi = mate i j is_i is_j p live u end shape edges_u prop
+  phi = mate i j is_i p live u end shape edges_u prop
 
   abbrev stay : List ℕ
-  stay = old i j is_i is_j p live u end shape edges_u prop
+  stay = old i j is_i p live u end shape edges_u prop
 
   abbrev from : ℕ → ℕ
-  from = back i j is_i is_j p live u end shape edges_u prop
+  from = back i j is_i p live u end shape edges_u prop
 
   -- where the ends of edges move
   abbrev put : ℕ → ℕ → ℕ
@@ -148,7 +148,7 @@ module _ (i j : Synchronized) (is_i : IsSynchronized i) (is_j : IsSynchronized j
   -- the edges of u, by this word
   pub word-edges_u : (xs : List ℕ) → IsPermutation (leaves shape.body) xs → IsPermutation (edges_of i u) (shape.root ∷ xs)
   word-edges_u xs arr = IsPermutation-trans (edges_of i u) (shape.root ∷ leaves shape.body) (shape.root ∷ xs)
-      (edges_u-leaves i j is_i is_j p live u end shape edges_u prop)
+      (edges_u-leaves i j is_i p live u end shape edges_u prop)
       (IsPermutation-cons shape.root (leaves shape.body) xs arr)
 
   -- and those of the other end
@@ -156,14 +156,14 @@ module _ (i j : Synchronized) (is_i : IsSynchronized i) (is_j : IsSynchronized j
       → IsPermutation (edges_of i v) (phi shape.root ∷ reverse (map phi xs))
   word-edges_w xs arr = IsPermutation-trans (edges_of i v) (reverse (map phi (shape.root ∷ xs)))
       (phi shape.root ∷ reverse (map phi xs))
-      ((mirrors i j is_i is_j p live u end shape edges_u prop).arranges (shape.root ∷ xs) (word-edges_u xs arr))
+      ((mirrors i j is_i p live u end shape edges_u prop).arranges (shape.root ∷ xs) (word-edges_u xs arr))
       (turn-IsPermutation (reverse (map phi (shape.root ∷ xs))) (phi shape.root ∷ reverse (map phi xs))
       (turn_back (phi shape.root) (map phi xs)))
 
   -- what is known of each row
   abbrev Known : (ℕ → List ℕ) → PairedRow → Type 0
-  Known t r = IsNodeOf i j is_i is_j put from (ends-IsMoved i j is_i is_j p live u end shape edges_u prop) u (first_row r)
-      × IsNodeOf i j is_i is_j put from (ends-IsMoved i j is_i is_j p live u end shape edges_u prop) v (second_row r)
+  Known t r = IsNodeOf i j is_i is_j put from (ends-IsMoved i j is_i p live u end shape edges_u prop) u (first_row r)
+      × IsNodeOf i j is_i is_j put from (ends-IsMoved i j is_i p live u end shape edges_u prop) v (second_row r)
 
   known : (t : ℕ → List ℕ) (rs : List PairedRow) → AreLaid phi prop.rows_u prop.rows_w rs → AllByRecursion (Known t) rs
   known t rs laid =
@@ -184,13 +184,13 @@ module _ (i j : Synchronized) (is_i : IsSynchronized i) (is_j : IsSynchronized j
           let at_a : a.vertex ≡ r.vertex.0 = sym (ap (λ (z : PairedRow). z.vertex.0) l.same_row) in
           let at_b : b.vertex ≡ r.vertex.1 = sym (ap (λ (z : PairedRow). z.vertex.1) l.same_row) in (
             (
-              ap from (sym at_a) ∙ back_u i j is_i is_j p live u end shape edges_u prop a.vertex h.1.0,
+              ap from (sym at_a) ∙ back_u i j is_i p live u end shape edges_u prop a.vertex h.1.0,
               λ x k. subst (λ y. Contains (edges_of j y) x) at_a
                   ((Has-Contains x (edges_of j a.vertex)).0 (Has-IsPermutation x a.edges (edges_of j a.vertex) h.0.0
                   (Has-IsPermutation x r.edges a.edges (IsPermutation-sym a.edges r.edges es.0) k))),
             ),
             (
-              ap from (sym at_b) ∙ back_w i j is_i is_j p live u end shape edges_u prop b.vertex h.1.1,
+              ap from (sym at_b) ∙ back_w i j is_i p live u end shape edges_u prop b.vertex h.1.1,
               λ x k. subst (λ y. Contains (edges_of j y) x) at_b
                   ((Has-Contains x (edges_of j b.vertex)).0 (Has-IsPermutation x b.edges (edges_of j b.vertex) h.0.1
                   (Has-IsPermutation x r.others b.edges (IsPermutation-sym b.edges r.others es.1) k))),
@@ -267,14 +267,14 @@ module _ (i j : Synchronized) (is_i : IsSynchronized i) (is_j : IsSynchronized j
 
     once : Distinct (row_verts prop.rows_u ++ row_verts prop.rows_w)
     once = Distinct-append_right stay (row_verts prop.rows_u ++ row_verts prop.rows_w)
-        (names_once i j is_i is_j p live u end shape edges_u prop)
+        (names_once i j is_i p live u end shape edges_u prop)
 
     -- both trees are planted
-    tree_one : IsPlantedTree i j is_i is_j put from (ends-IsMoved i j is_i is_j p live u end shape edges_u prop)
+    tree_one : IsPlantedTree i j is_i is_j put from (ends-IsMoved i j is_i p live u end shape edges_u prop)
         t u vv.0 shape.root ks
     tree_one = record {
-      nodes = one_all (IsNodeOf i j is_i is_j put from (ends-IsMoved i j is_i is_j p live u end shape edges_u prop) u)
-          (all_then (Known t) (λ r. IsNodeOf i j is_i is_j put from (ends-IsMoved i j is_i is_j p live u end shape edges_u prop) u (first_row r))
+      nodes = one_all (IsNodeOf i j is_i is_j put from (ends-IsMoved i j is_i p live u end shape edges_u prop) u)
+          (all_then (Known t) (λ r. IsNodeOf i j is_i is_j put from (ends-IsMoved i j is_i p live u end shape edges_u prop) u (first_row r))
           laid.rows (λ r h. h.0) (known t laid.rows laid.laid));
       leaves = λ x h. (Has-Contains x (edges_of i u)).0
           (Has-IsPermutation x (shape.root ∷ word ks) (edges_of i u)
@@ -285,11 +285,11 @@ module _ (i j : Synchronized) (is_i : IsSynchronized i) (is_j : IsSynchronized j
           (all_then (Holds t) (λ r. IsTurn r.edges (t r.vertex.0)) laid.rows (λ r h. h.0) laid.all_good);
     }
 
-    tree_two : IsPlantedTree i j is_i is_j put from (ends-IsMoved i j is_i is_j p live u end shape edges_u prop)
+    tree_two : IsPlantedTree i j is_i is_j put from (ends-IsMoved i j is_i p live u end shape edges_u prop)
         t v vv.1 (phi shape.root) js
     tree_two = record {
-      nodes = two_all (IsNodeOf i j is_i is_j put from (ends-IsMoved i j is_i is_j p live u end shape edges_u prop) v)
-          (all_then (Known t) (λ r. IsNodeOf i j is_i is_j put from (ends-IsMoved i j is_i is_j p live u end shape edges_u prop) v (second_row r))
+      nodes = two_all (IsNodeOf i j is_i is_j put from (ends-IsMoved i j is_i p live u end shape edges_u prop) v)
+          (all_then (Known t) (λ r. IsNodeOf i j is_i is_j put from (ends-IsMoved i j is_i p live u end shape edges_u prop) v (second_row r))
           laid.rows (λ r h. h.1) (known t laid.rows laid.laid));
       leaves = λ x h. (Has-Contains x (edges_of i v)).0
           (Has-IsPermutation x (phi shape.root ∷ reverse (map phi (word ks))) (edges_of i v)
@@ -323,10 +323,10 @@ module _ (i j : Synchronized) (is_i : IsSynchronized i) (is_j : IsSynchronized j
         → All (λ x. ArrangesEdges (graph j) x (t x)) (vert_names j)
         → HasGenusZero (system (graph i) s) ↔ HasGenusZero (system (graph j) t)
     node-HasGenusZero s at_u at_w kept arranged_s arranged_t =
-        planted_ends-HasGenusZero i j is_i is_j put from (ends-IsMoved i j is_i is_j p live u end shape edges_u prop)
+        planted_ends-HasGenusZero i j is_i is_j put from (ends-IsMoved i j is_i p live u end shape edges_u prop)
         t u v stay vv.0 vv.1 shape.root (phi shape.root) ks js tree_one tree_two verts_j
-        s (verts_i i j is_i is_j p live u end shape edges_u prop) at_u
+        s (verts_i i j is_i p live u end shape edges_u prop) at_u
         (subst (λ zs. IsTurn (phi shape.root ∷ zs) (s v)) (sym word_two) at_w)
-        (λ z h. let n = Has_old i j is_i is_j p live u end shape edges_u prop z h in
-        (kept z h, λ y. put_old i j is_i is_j p live u end shape edges_u prop z y n.1 n.2))
+        (λ z h. let n = Has_old i j is_i p live u end shape edges_u prop z h in
+        (kept z h, λ y. put_old i j is_i p live u end shape edges_u prop z y n.1 n.2))
         arranged_s arranged_t
