@@ -1,9 +1,9 @@
 -- New names, and items under names.
-use Rattle.std.proofs.Common.{◌≡◌, ◌≢◌, ℕ, ◌+◌, ◌<◌, Bool, true, false, not, ◌||◌, eqb, List, [], ◌∷◌, length, map, sym, refl, subst, subst₂, ⊎_elim, arith}
+use Rattle.std.proofs.Common.{◌∙◌, ap, ◌≡◌, ◌≢◌, ℕ, ◌+◌, ◌<◌, Bool, true, false, not, ◌||◌, eqb, List, [], ◌∷◌, length, map, sym, refl, subst, subst₂, ⊎_elim, arith}
 use Rattle.std.specs.Prelude.{filter, find, take, None}
 use Rattle.std.specs.List.{range_with_len}
 use Rattle.std.specs.List.Sorted.{IsStrictlyIncreasing}
-use Rattle.std.proofs.lemmas.Bool.{both_ways, eq-eqb, ne_eqb}
+use Rattle.std.proofs.lemmas.Bool.{both_ways, eq-eqb, ne_eqb, false≢true}
 use Rattle.std.proofs.lemmas.List.{get_or-take, length-take}
 use Rattle.std.proofs.lemmas.List.Elements.{All-contains}
 use Rattle.std.proofs.lemmas.List.FromFn.{get_or-range_with_len, length-range_with_len}
@@ -65,3 +65,8 @@ fresh_other live names n m new h c e =
     both_ways (has live n)
     (All-contains (λ k. has live k ≡ false) names n (new_names-dead live names new) ((Has-Contains n names).0 h))
     (has-true live n (subst (λ z. Has z live) (sym e) c))
+
+-- an item that a test of names passes has none of the names
+pub passed : (names : List ℕ) (n : ℕ) → not (has names n) ≡ true → (m : ℕ) → Has m names → n ≢ m
+passed names n t m h e =
+    false≢true (sym (ap not (has-true names n (subst (λ z. Has z names) (sym e) h))) ∙ t)

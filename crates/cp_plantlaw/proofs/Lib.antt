@@ -29,3 +29,4 @@ pub mod PropagateSteps
 mod PlantedOrder
 mod PlantedEdges
 mod EdgesOfRows
+pub mod PropagatedRules

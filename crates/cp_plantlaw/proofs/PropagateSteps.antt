@@ -15,6 +15,7 @@ use Rattle.cp_board.proofs.NamedLists.{arranged}
 use Rattle.std.proofs.lemmas.List.Sorted.{Contains-permutation, IsPermutation-sym}
 use Rattle.cp_plantlaw.specs.Readings.{IsReadBack}
 use Rattle.cp_plantlaw.proofs.PropagateLaw.{IsSolvable-before, IsSolvable-propagated, read_back-Solves}
+use Rattle.cp_plantlaw.proofs.PropagatedRules.{AreSmall, IsSynchronized-propagated}
 use Rattle.cp_plantlaw.proofs.SolvedBlocks.{Solves-IsBlockOrder}
 
 -- what is found is one of the items
@@ -29,6 +30,19 @@ found-Contains {A} test (y ∷ ys) x e = ⊎_elim
     let rest = found-Contains test ys x (sym (cond-false (test y) (Some y) (find test ys) f) ∙ e) in
     (suc rest.0, omega (arith, rest.1), rest.2))
     (cases_Bool (test y))
+
+-- a step that is allowed on an instance keeps the rules, where its new names are small enough
+pub propagate-IsSynchronized : (i j : Synchronized) → IsSynchronized i → (pipe u : ℕ) (shape : Shape)
+    → Allowed i (Propagate pipe u shape)
+    → (after : After i (Propagate pipe u shape) j)
+    → AreSmall i j after.0 u shape after.2
+    → IsSynchronized j
+propagate-IsSynchronized i j is pipe u shape allowed after small =
+    let both : Some allowed.0 ≡ Some after.0 = sym allowed.1 ∙ after.1 in
+    let same : allowed.0 ≡ after.0 = cc in
+    let fits : IsFitting i after.0 u shape = subst (λ (q : Pipe). IsFitting i q u shape) same allowed.2 in
+    IsSynchronized-propagated i j is after.0 (found-Contains (λ q. eqb q.name pipe) i.pipes after.0 after.1) u fits.end shape
+    fits.leaves after.2 small
 
 -- a step that is allowed on an instance, and what it makes of it
 module _ (i j : Synchronized) (is_i : IsSynchronized i) (is_j : IsSynchronized j) (pipe u : ℕ) (shape : Shape)

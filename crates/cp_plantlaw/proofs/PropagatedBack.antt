@@ -59,7 +59,8 @@ kept_Contains q (y ∷ xs) x c t = ⊎_elim
 pub All-from_items : {A : Type 0} (R : A → Type 0) (xs : List A) → ((x : A) → Contains xs x → R x) → All R xs
 All-from_items R xs h k d lt = h (slice_index_or xs k d) (Contains-get_or xs k d lt)
 
-module _ (i j : Synchronized) (is_i : IsSynchronized i) (is_j : IsSynchronized j) (p : Pipe) (live : Contains i.pipes p)
+-- an instance with a pipe and one end of it, and what Propagate makes of it
+module _ (i j : Synchronized) (is_i : IsSynchronized i) (p : Pipe) (live : Contains i.pipes p)
     (u : ℕ) (end : IsEnd p u) (shape : Shape)
     (edges_u : rising (shape.root ∷ leaves shape.body) ≡ edges_of i u) (prop : IsPropagated i p u shape j) where
   -- the other end, and the partners
@@ -72,35 +73,6 @@ module _ (i j : Synchronized) (is_i : IsSynchronized i) (is_j : IsSynchronized j
   -- the names of the vertices that stay
   abbrev stay : List ℕ
   stay = map (λ v. v.name) (old_verts i j p u shape prop)
-
-  -- a row of the first tree is no empty one
-  pub not_leaf : (good : PairedRow → Type 0) (x : ℕ) → KidsLaid phi good (Kid.leaf x ∷ []) prop.rows_u prop.rows_w → ⊥
-  not_leaf good x laid = none prop.rows_u prop.rows_w laid.rows laid.laid
-      (let n = length_permutation laid.rows [] laid.same in omega (arith, n))
-      (rows_some i j is_i p live u end shape edges_u prop)
-    where
-      none : (hs bs : List Planted) (rs : List PairedRow) → AreLaid phi hs bs rs → length rs ≡ 0
-          → Has shape.root (row_edges hs) → ⊥
-      none [] bs rs l e h = h
-      none (a ∷ hs) [] rs l e h = absurd l
-      none (a ∷ hs) (b ∷ bs) [] l e h = absurd l
-      none (a ∷ hs) (b ∷ bs) (r ∷ rs) l e h = absurd (omega (arith, e))
-
-  -- a kid of both trees with the root edges that is laid on the planted rows: both systems have genus zero or none
-  pub trees-HasGenusZero : (t s : ℕ → List ℕ) (kid : Kid) → kid_tops phi kid ≡ (shape.root, phi shape.root)
-      → KidsLaid phi (Holds t) (kid ∷ []) prop.rows_u prop.rows_w
-      → IsPermutation (leaves shape.body) (kid_word kid)
-      → IsTurn (shape.root ∷ kid_word kid) (s u)
-      → IsTurn (phi shape.root ∷ reverse (map phi (kid_word kid))) (s w)
-      → ((x : ℕ) → Has x stay → s x ≡ t x)
-      → All (λ x. ArrangesEdges (graph i) x (s x)) (vert_names i)
-      → All (λ x. ArrangesEdges (graph j) x (t x)) (vert_names j)
-      → HasGenusZero (system (graph i) s)
-      ↔ HasGenusZero (system (graph j) t)
-  trees-HasGenusZero t s (Kid.leaf x) tops laid arr at_u at_w kept arranged_s arranged_t = absurd (not_leaf (Holds t) x laid)
-  trees-HasGenusZero t s (Kid.node v g inner) tops laid arr at_u at_w kept arranged_s arranged_t =
-      node-HasGenusZero i j is_i is_j p live u end shape edges_u prop t v g inner tops laid arr s at_u at_w kept
-      arranged_s arranged_t
 
   -- both ends are ends of the pipe
   ends_are : Has u (p.a ∷ p.b ∷ []) × Has w (p.a ∷ p.b ∷ [])
@@ -170,15 +142,59 @@ module _ (i j : Synchronized) (is_i : IsSynchronized i) (is_j : IsSynchronized j
       let same : Some v.kind ≡ Some P = sym (ap (option_map (λ (x : Vert). x.kind)) f) ∙ k in
       cc
 
+-- the same, where both keep the rules
+module _ (i j : Synchronized) (is_i : IsSynchronized i) (is_j : IsSynchronized j) (p : Pipe) (live : Contains i.pipes p)
+    (u : ℕ) (end : IsEnd p u) (shape : Shape)
+    (edges_u : rising (shape.root ∷ leaves shape.body) ≡ edges_of i u) (prop : IsPropagated i p u shape j) where
+  -- the other end, and the partners
+  abbrev other_end : ℕ
+  other_end = opposite p u
+
+  abbrev mate_of : ℕ → ℕ
+  mate_of = partner p u
+
+  -- the names of the vertices that stay
+  abbrev staying : List ℕ
+  staying = map (λ v. v.name) (old_verts i j p u shape prop)
+
+  -- a row of the first tree is no empty one
+  pub not_leaf : (good : PairedRow → Type 0) (x : ℕ) → KidsLaid mate_of good (Kid.leaf x ∷ []) prop.rows_u prop.rows_w → ⊥
+  not_leaf good x laid = none prop.rows_u prop.rows_w laid.rows laid.laid
+      (let n = length_permutation laid.rows [] laid.same in omega (arith, n))
+      (rows_some i j is_i p live u end shape edges_u prop)
+    where
+      none : (hs bs : List Planted) (rs : List PairedRow) → AreLaid mate_of hs bs rs → length rs ≡ 0
+          → Has shape.root (row_edges hs) → ⊥
+      none [] bs rs l e h = h
+      none (a ∷ hs) [] rs l e h = absurd l
+      none (a ∷ hs) (b ∷ bs) [] l e h = absurd l
+      none (a ∷ hs) (b ∷ bs) (r ∷ rs) l e h = absurd (omega (arith, e))
+
+  -- a kid of both trees with the root edges that is laid on the planted rows: both systems have genus zero or none
+  pub trees-HasGenusZero : (t s : ℕ → List ℕ) (kid : Kid) → kid_tops mate_of kid ≡ (shape.root, mate_of shape.root)
+      → KidsLaid mate_of (Holds t) (kid ∷ []) prop.rows_u prop.rows_w
+      → IsPermutation (leaves shape.body) (kid_word kid)
+      → IsTurn (shape.root ∷ kid_word kid) (s u)
+      → IsTurn (mate_of shape.root ∷ reverse (map mate_of (kid_word kid))) (s other_end)
+      → ((x : ℕ) → Has x staying → s x ≡ t x)
+      → All (λ x. ArrangesEdges (graph i) x (s x)) (vert_names i)
+      → All (λ x. ArrangesEdges (graph j) x (t x)) (vert_names j)
+      → HasGenusZero (system (graph i) s)
+      ↔ HasGenusZero (system (graph j) t)
+  trees-HasGenusZero t s (Kid.leaf x) tops laid arr at_u at_w kept arranged_s arranged_t = absurd (not_leaf (Holds t) x laid)
+  trees-HasGenusZero t s (Kid.node v g inner) tops laid arr at_u at_w kept arranged_s arranged_t =
+      node-HasGenusZero i j is_i is_j p live u end shape edges_u prop t v g inner tops laid arr s at_u at_w kept
+      arranged_s arranged_t
+
   -- lists t that solve j
   module _ (t : ℕ → List ℕ) (sol : Solves j t) where
     -- the vertices of the rows are those of j
     row_live : (x : ℕ) → Has x (row_verts prop.rows_u ++ row_verts prop.rows_w) → Contains (vert_names j) x
     row_live x h =
-        Contains-permutation (stay ++ (row_verts prop.rows_u ++ row_verts prop.rows_w)) (vert_names j) x
+        Contains-permutation (staying ++ (row_verts prop.rows_u ++ row_verts prop.rows_w)) (vert_names j) x
         (verts_named i j p u shape prop)
-        ((Has-Contains x (stay ++ (row_verts prop.rows_u ++ row_verts prop.rows_w))).0
-        (Has-append_right x stay (row_verts prop.rows_u ++ row_verts prop.rows_w) h))
+        ((Has-Contains x (staying ++ (row_verts prop.rows_u ++ row_verts prop.rows_w))).0
+        (Has-append_right x staying (row_verts prop.rows_u ++ row_verts prop.rows_w) h))
 
     -- the pipes and Q-vertices of the rows, with what the lists keep of them
     abbrev PipeOk : Pipe → Type 0
@@ -189,12 +205,12 @@ module _ (i j : Synchronized) (is_i : IsSynchronized i) (is_j : IsSynchronized j
 
     -- the order of two rows of one place
     one_order : (a b : Planted) → Has a.vertex (row_verts prop.rows_u) → HaveEdges i j p u shape prop is_j a b
-        → PairHas i j p u shape prop PipeOk VertOk a b → (fixed : Bool) → a.fixed ≡ fixed → HaveOrder phi (Holds t) a b
+        → PairHas i j p u shape prop PipeOk VertOk a b → (fixed : Bool) → a.fixed ≡ fixed → HaveOrder mate_of (Holds t) a b
     one_order a b here edges pair true e =
-        let k = pair.1 e in directed-HaveOrder phi t a b (sol.back k.0) k.1 k.2
+        let k = pair.1 e in directed-HaveOrder mate_of t a b (sol.back k.0) k.1 k.2
     one_order a b here edges pair false e =
         let k = pair.0 (ap not e) in
-        mirrored-HaveOrder phi t a b k.0 (ap not e)
+        mirrored-HaveOrder mate_of t a b k.0 (ap not e)
         (Distinct-IsPermutation (edges_of j a.vertex) a.edges (IsPermutation-sym a.edges (edges_of j a.vertex) edges.0)
         (filter-Distinct (ends_at (graph j) a.vertex) (edge_names j) (edges_once j is_j)))
         (IsPermutation-trans a.edges (edges_of j a.vertex) (t a.vertex) edges.0
@@ -202,23 +218,23 @@ module _ (i j : Synchronized) (is_i : IsSynchronized i) (is_j : IsSynchronized j
         (row_live a.vertex (Has-append_left a.vertex (row_verts prop.rows_u) (row_verts prop.rows_w) here)))) k.1
 
     -- so each two rows have an order
-    orders : AllZip (HaveOrder phi (Holds t)) prop.rows_u prop.rows_w
+    orders : AllZip (HaveOrder mate_of (Holds t)) prop.rows_u prop.rows_w
     orders =
         let hs : List Planted = prop.rows_u in
         let bs : List Planted = prop.rows_w in
         let E : Planted → Planted → Type 0 = HaveEdges i j p u shape prop is_j in
         let R : Planted → Planted → Type 0 = PairHas i j p u shape prop PipeOk VertOk in
         let edges = rows-HaveEdges i j p u shape prop is_j in
-        zip_then (λ a b. Has a.vertex (row_verts hs) × (E a b × R a b)) (HaveOrder phi (Holds t)) hs bs
+        zip_then (λ a b. Has a.vertex (row_verts hs) × (E a b × R a b)) (HaveOrder mate_of (Holds t)) hs bs
         (λ a b h. one_order a b h.0 h.1.0 h.1.1 a.fixed refl)
         (zip_both (λ a b. Has a.vertex (row_verts hs)) (λ a b. E a b × R a b) hs bs
         (rows_inside hs hs bs (λ x h. h) E edges)
         (zip_both E R hs bs edges (all_pairs i j p u shape prop PipeOk VertOk sol.mirrored sol.in_direction)))
 
     -- the two trees of these lists, which are read from the shape
-    pub told : ToldAs phi (Holds t) shape.body (shape.root, phi shape.root) prop.rows_u prop.rows_w
-    told = branch-ToldAs phi (Holds t) shape.body shape.root prop.at_u (shape.root ∷ prop.edges_u) prop.rows_u
-        (phi shape.root) prop.at_w (phi shape.root ∷ prop.edges_w) prop.rows_w prop.planted_u prop.planted_w orders
+    pub told : ToldAs mate_of (Holds t) shape.body (shape.root, mate_of shape.root) prop.rows_u prop.rows_w
+    told = branch-ToldAs mate_of (Holds t) shape.body shape.root prop.at_u (shape.root ∷ prop.edges_u) prop.rows_u
+        (mate_of shape.root) prop.at_w (mate_of shape.root ∷ prop.edges_w) prop.rows_w prop.planted_u prop.planted_w orders
 
     -- the leaves that they read
     abbrev pub told_word : List ℕ
@@ -227,10 +243,10 @@ module _ (i j : Synchronized) (is_i : IsSynchronized i) (is_j : IsSynchronized j
     pub told_leaves : IsPermutation (leaves shape.body) told_word
     told_leaves = reads-leaves shape.body told_word told.reads
 
-    -- lists s of i with this order at u, its mirror at w, and t elsewhere
+    -- lists s of i with this order at u, its mirror at other_end, and t elsewhere
     module _ (s : ℕ → List ℕ) (at_u : IsTurn (shape.root ∷ told_word) (s u))
-        (at_w : IsTurn (reverse (map phi (shape.root ∷ told_word))) (s w))
-        (kept : (x : ℕ) → Has x stay → s x ≡ t x) where
+        (at_w : IsTurn (reverse (map mate_of (shape.root ∷ told_word))) (s other_end))
+        (kept : (x : ℕ) → Has x staying → s x ≡ t x) where
       -- each arranges the edges of its vertex
       arranged_s : All (λ x. ArrangesEdges (graph i) x (s x)) (vert_names i)
       arranged_s = All-from_items (λ x. ArrangesEdges (graph i) x (s x)) (vert_names i)
@@ -240,21 +256,21 @@ module _ (i j : Synchronized) (is_i : IsSynchronized i) (is_j : IsSynchronized j
           (word-edges_u i j is_i is_j p live u end shape edges_u prop told_word told_leaves)
           (turn-IsPermutation (shape.root ∷ told_word) (s u) at_u)))
           (λ nu. ⊎_elim
-          (λ (e : x ≡ w). subst (λ y. ArrangesEdges (graph i) y (s y)) (sym e)
-          (IsPermutation-trans (edges_of i w) (reverse (map phi (shape.root ∷ told_word))) (s w)
+          (λ (e : x ≡ other_end). subst (λ y. ArrangesEdges (graph i) y (s y)) (sym e)
+          (IsPermutation-trans (edges_of i other_end) (reverse (map mate_of (shape.root ∷ told_word))) (s other_end)
           ((mirrors i j is_i p live u end shape edges_u prop).arranges (shape.root ∷ told_word)
           (word-edges_u i j is_i is_j p live u end shape edges_u prop told_word told_leaves))
-          (turn-IsPermutation (reverse (map phi (shape.root ∷ told_word))) (s w) at_w)))
+          (turn-IsPermutation (reverse (map mate_of (shape.root ∷ told_word))) (s other_end) at_w)))
           (λ nw.
-          let h : Has x stay = old_Has i j is_i p live u end shape edges_u prop x c nu nw in
+          let h : Has x staying = old_Has i j is_i p live u end shape edges_u prop x c nu nw in
           subst (IsPermutation (edges_of i x)) (sym (kept x h))
           (IsPermutation-trans (edges_of i x) (edges_of j x) (t x) (edges_stay i j is_i p live u end shape edges_u prop x h)
           (All-contains (λ y. ArrangesEdges (graph j) y (t y)) (vert_names j) x sol.rotation.arranged
-          (Contains-permutation (stay ++ (row_verts prop.rows_u ++ row_verts prop.rows_w)) (vert_names j) x
+          (Contains-permutation (staying ++ (row_verts prop.rows_u ++ row_verts prop.rows_w)) (vert_names j) x
           (verts_named i j p u shape prop)
-          ((Has-Contains x (stay ++ (row_verts prop.rows_u ++ row_verts prop.rows_w))).0
-          (Has-append_left x stay (row_verts prop.rows_u ++ row_verts prop.rows_w) h))))))
-          (cases_eq x w))
+          ((Has-Contains x (staying ++ (row_verts prop.rows_u ++ row_verts prop.rows_w))).0
+          (Has-append_left x staying (row_verts prop.rows_u ++ row_verts prop.rows_w) h))))))
+          (cases_eq x other_end))
           (cases_eq x u))
 
       -- they solve i
@@ -263,9 +279,9 @@ module _ (i j : Synchronized) (is_i : IsSynchronized i) (is_j : IsSynchronized j
         rotation = record {
           arranged = arranged_s;
           flat = (trees-HasGenusZero t s told.kid told.same_tops told.laid told_leaves at_u
-              (turn-trans (phi shape.root ∷ reverse (map phi told_word)) (reverse (map phi (shape.root ∷ told_word))) (s w)
-              (turn-sym (reverse (map phi (shape.root ∷ told_word))) (phi shape.root ∷ reverse (map phi told_word))
-              (turn_back (phi shape.root) (map phi told_word))) at_w)
+              (turn-trans (mate_of shape.root ∷ reverse (map mate_of told_word)) (reverse (map mate_of (shape.root ∷ told_word))) (s other_end)
+              (turn-sym (reverse (map mate_of (shape.root ∷ told_word))) (mate_of shape.root ∷ reverse (map mate_of told_word))
+              (turn_back (mate_of shape.root) (map mate_of told_word))) at_w)
               kept arranged_s sol.rotation.arranged).1 sol.rotation.flat;
         };
         mirrored = All-from_items (λ q. IsMirror (second_of q) (s q.a) (s q.b)) i.pipes
@@ -277,31 +293,31 @@ module _ (i j : Synchronized) (is_i : IsSynchronized i) (is_j : IsSynchronized j
             subst (λ (z : Pipe). IsMirror (second_of z) (s z.a) (s z.b)) (sym same)
             ((mirrors i j is_i p live u end shape edges_u prop).mirrors s
             (All-contains (λ x. ArrangesEdges (graph i) x (s x)) (vert_names i) u arranged_s
-            (kind_live i.verts u (live_end p live u ends_are.0)))
-            (turn-trans (reverse (map phi (s u))) (reverse (map phi (shape.root ∷ told_word))) (s w)
-            (turn-reverse (map phi (s u)) (map phi (shape.root ∷ told_word))
-            (turn-map phi (s u) (shape.root ∷ told_word) (turn-sym (shape.root ∷ told_word) (s u) at_u))) at_w)))
+            ((kind_live i j is_i p live u end shape edges_u prop) i.verts u ((live_end i j is_i p live u end shape edges_u prop) p live u (ends_are i j is_i p live u end shape edges_u prop).0)))
+            (turn-trans (reverse (map mate_of (s u))) (reverse (map mate_of (shape.root ∷ told_word))) (s other_end)
+            (turn-reverse (map mate_of (s u)) (map mate_of (shape.root ∷ told_word))
+            (turn-map mate_of (s u) (shape.root ∷ told_word) (turn-sym (shape.root ∷ told_word) (s u) at_u))) at_w)))
             (λ ne.
-            let one : s q.a ≡ t q.a = kept q.a (other_stays q c ne q.a (inl refl)) in
-            let two : s q.b ≡ t q.b = kept q.b (other_stays q c ne q.b (inr (inl refl))) in
+            let one : s q.a ≡ t q.a = kept q.a ((other_stays i j is_i p live u end shape edges_u prop) q c ne q.a (inl refl)) in
+            let two : s q.b ≡ t q.b = kept q.b ((other_stays i j is_i p live u end shape edges_u prop) q c ne q.b (inr (inl refl))) in
             subst₂ (λ (xs ys : List ℕ). IsMirror (second_of q) xs ys) (sym one) (sym two)
-            (All-contains (λ (z : Pipe). IsMirror (second_of z) (t z.a) (t z.b)) j.pipes q sol.mirrored (other_in_j q c ne)))
+            (All-contains (λ (z : Pipe). IsMirror (second_of z) (t z.a) (t z.b)) j.pipes q sol.mirrored ((other_in_j i j is_i p live u end shape edges_u prop) q c ne)))
             (cases_eq q.name p.name));
         back = sol.back;
         in_direction = All-from_items (λ v. IsInDirection sol.back (s v.name) v.kind) i.verts
             (λ v c. ⊎_elim
             (λ (e : v.name ≡ u). subst (IsInDirection sol.back (s v.name))
-            (sym (end_kind v c (subst (λ y. Has y (p.a ∷ p.b ∷ [])) (sym e) ends_are.0))) tt)
+            (sym ((end_kind i j is_i p live u end shape edges_u prop) v c (subst (λ y. Has y (p.a ∷ p.b ∷ [])) (sym e) (ends_are i j is_i p live u end shape edges_u prop).0))) tt)
             (λ nu. ⊎_elim
-            (λ (e : v.name ≡ w). subst (IsInDirection sol.back (s v.name))
-            (sym (end_kind v c (subst (λ y. Has y (p.a ∷ p.b ∷ [])) (sym e) ends_are.1))) tt)
+            (λ (e : v.name ≡ other_end). subst (IsInDirection sol.back (s v.name))
+            (sym ((end_kind i j is_i p live u end shape edges_u prop) v c (subst (λ y. Has y (p.a ∷ p.b ∷ [])) (sym e) (ends_are i j is_i p live u end shape edges_u prop).1))) tt)
             (λ nw.
             let live_v : Contains (vert_names i) v.name = map_has (λ (z : Vert). z.name) i.verts v c in
             let same : s v.name ≡ t v.name =
             kept v.name (old_Has i j is_i p live u end shape edges_u prop v.name live_v nu nw) in
             subst (λ xs. IsInDirection sol.back xs v.kind) (sym same)
             (All-contains (λ (z : Vert). IsInDirection sol.back (t z.name) z.kind) j.verts v sol.in_direction
-            (other_vert v c nu nw)))
-            (cases_eq v.name w))
+            ((other_vert i j is_i p live u end shape edges_u prop) v c nu nw)))
+            (cases_eq v.name other_end))
             (cases_eq v.name u));
       }

@@ -293,10 +293,10 @@ module _ (i j : Synchronized) (is_i : IsSynchronized i) (p : Pipe) (live : Conta
   at_w = row_verts prop.rows_w
 
   -- the vertices of the rows are the new names
-  verts_u : at_u ≡ prop.at_u
+  pub verts_u : at_u ≡ prop.at_u
   verts_u = planted-verts (λ y. y) shape.body shape.root prop.at_u (shape.root ∷ prop.edges_u) prop.rows_u prop.planted_u
 
-  verts_w : at_w ≡ prop.at_w
+  pub verts_w : at_w ≡ prop.at_w
   verts_w = planted-verts mate shape.body (mate shape.root) prop.at_w (mate shape.root ∷ prop.edges_w) prop.rows_w
       prop.planted_w
 

@@ -104,7 +104,7 @@ module _ (i j : Synchronized) (p : Pipe) (u : ℕ) (shape : Shape) (prop : IsPro
       prop.planted_u prop.planted_w
 
   -- as many are P-nodes
-  free_forms : AllZip HaveOneForm (free_nodes prop.rows_u) (free_nodes prop.rows_w)
+  pub free_forms : AllZip HaveOneForm (free_nodes prop.rows_u) (free_nodes prop.rows_w)
   free_forms = zip_kept (λ r. not r.fixed) HaveOneForm prop.rows_u prop.rows_w
       (zip_then HaveOneForm (λ a b. (not b.fixed ≡ not a.fixed) × (not a.fixed ≡ true → HaveOneForm a b))
       prop.rows_u prop.rows_w (λ a b h. (ap not h.0, λ t. h)) forms)
@@ -135,15 +135,17 @@ module _ (i j : Synchronized) (p : Pipe) (u : ℕ) (shape : Shape) (prop : IsPro
   abbrev pub all_verts : List Vert
   all_verts = old_verts ++ (new_free ++ new_fixed)
 
-  -- are those of j
-  pub verts_keep : IsPermutation all_verts j.verts
-  verts_keep =
+  -- in the order of their names, they are those of j
+  pub verts_ordered : j.verts ≡ by_name (λ v. v.name) all_verts
+  verts_ordered =
       let fu : List Vert = fixed_verts (λ es. es) prop.new_cells (fixed_nodes prop.rows_u) in
       let fw : List Vert = fixed_verts reverse prop.new_cells (fixed_nodes prop.rows_w) in
-      let same : j.verts ≡ by_name (λ v. v.name) all_verts =
       prop.verts
-      ∙ ap (by_name (λ v. v.name)) (append_assoc (old_verts ++ new_free) fu fw ∙ append_assoc old_verts new_free (fu ++ fw)) in
-      subst (IsPermutation all_verts) (sym same) (by_name_keeps (λ v. v.name) all_verts)
+      ∙ ap (by_name (λ v. v.name))
+      (append_assoc (old_verts ++ new_free) fu fw ∙ append_assoc old_verts new_free (fu ++ fw))
+
+  pub verts_keep : IsPermutation all_verts j.verts
+  verts_keep = subst (IsPermutation all_verts) (sym verts_ordered) (by_name_keeps (λ v. v.name) all_verts)
 
   -- the pipes of j, not in the order of their names
   abbrev pub new_pipes : List Pipe
@@ -167,14 +169,15 @@ module _ (i j : Synchronized) (p : Pipe) (u : ℕ) (shape : Shape) (prop : IsPro
   abbrev pub all_edges : List EdgeRow
   all_edges = moved_edges i (λ e v. place v e) ++ new_edges
 
-  -- are those of j
-  pub edges_keep : IsPermutation all_edges j.edges
-  edges_keep =
-      let same : j.edges ≡ by_name (λ e. e.name) all_edges =
+  -- in the order of their names, they are those of j
+  pub edges_ordered : j.edges ≡ by_name (λ e. e.name) all_edges
+  edges_ordered =
       prop.edges
       ∙ ap (by_name (λ e. e.name)) (append_assoc (moved_edges i (λ e v. place v e)) (tree_edges prop.rows_u prop.edges_u)
-      (tree_edges prop.rows_w prop.edges_w)) in
-      subst (IsPermutation all_edges) (sym same) (by_name_keeps (λ e. e.name) all_edges)
+      (tree_edges prop.rows_w prop.edges_w))
+
+  pub edges_keep : IsPermutation all_edges j.edges
+  edges_keep = subst (IsPermutation all_edges) (sym edges_ordered) (by_name_keeps (λ e. e.name) all_edges)
 
   -- the names of the vertices of j: those that stay, and those of both trees
   pub verts_named : IsPermutation (map (λ v. v.name) old_verts ++ (row_verts prop.rows_u ++ row_verts prop.rows_w)) (vert_names j)

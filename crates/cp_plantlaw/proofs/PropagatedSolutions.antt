@@ -31,7 +31,7 @@ use Rattle.cp_board.specs.Steps.{IsEnd, opposite, partner}
 use Rattle.cp_synclaw.proofs.InstanceDarts.{edges_once}
 use Rattle.cp_plantlaw.specs.NamedTrees.{PairedRow}
 use Rattle.cp_plantlaw.proofs.ApartPipes.{owned}
-use Rattle.cp_plantlaw.proofs.FreshNames.{fresh_once, fresh_other, has-true}
+use Rattle.cp_plantlaw.proofs.FreshNames.{fresh_once, fresh_other, passed}
 use Rattle.cp_plantlaw.proofs.LaidTrees.{KidsLaid}
 use Rattle.cp_plantlaw.proofs.PairedTrees.{first_row, second_row}
 use Rattle.cp_plantlaw.proofs.PropagatedBack.{All-from_items, kind_live, live_end, other_stays, trees-HasGenusZero}
@@ -71,11 +71,6 @@ same_direction : (back other : ℕ → Bool) (xs : List ℕ) (k : Kind) → ((c 
 same_direction back other xs P agree h = tt
 same_direction back other xs (Q c psi) agree h =
     subst (λ d. IsTurn (directed d psi) xs) (agree c (inl refl)) h
-
--- an item that a test of names passes has none of the names
-passed : (names : List ℕ) (n : ℕ) → not (has names n) ≡ true → (m : ℕ) → Has m names → n ≢ m
-passed names n t m h e =
-    false≢true (sym (ap not (has-true names n (subst (λ z. Has z names) (sym e) h))) ∙ t)
 
 module _ (i j : Synchronized) (is_i : IsSynchronized i) (is_j : IsSynchronized j) (p : Pipe) (live : Contains i.pipes p)
     (u : ℕ) (end : IsEnd p u) (shape : Shape)
@@ -201,8 +196,8 @@ module _ (i j : Synchronized) (is_i : IsSynchronized i) (is_j : IsSynchronized j
       let mirror : IsTurn (reverse (map phi (s u))) (s w) =
       (mirrors i j is_i p live u end shape edges_u prop).mirrored s
       (All-contains (λ x. ArrangesEdges (graph i) x (s x)) (vert_names i) p.a sol.rotation.arranged
-      (kind_live i j is_i is_j p live u end shape edges_u prop i.verts p.a
-      (live_end i j is_i is_j p live u end shape edges_u prop p live p.a (inl refl))))
+      (kind_live i j is_i p live u end shape edges_u prop i.verts p.a
+      (live_end i j is_i p live u end shape edges_u prop p live p.a (inl refl))))
       (All-contains (λ q. IsMirror (second_of q) (s q.a) (s q.b)) i.pipes p sol.mirrored live) in
       turn-trans (phi shape.root ∷ reverse (map phi word)) (reverse (map phi (shape.root ∷ word))) (s w)
       (turn-sym (reverse (map phi (shape.root ∷ word))) (phi shape.root ∷ reverse (map phi word))
@@ -228,8 +223,8 @@ module _ (i j : Synchronized) (is_i : IsSynchronized i) (is_j : IsSynchronized j
       let test : Pipe → Bool = λ (q : Pipe). not (has (p.name ∷ []) q.name) in
       let base : All (λ q. q.name ≢ p.name → Mirrored q) i.pipes =
       All-from_items (λ q. q.name ≢ p.name → Mirrored q) i.pipes (λ q c ne.
-      let one : t q.a ≡ s q.a = t_stay q.a (other_stays i j is_i is_j p live u end shape edges_u prop q c ne q.a (inl refl)) in
-      let two : t q.b ≡ s q.b = t_stay q.b (other_stays i j is_i is_j p live u end shape edges_u prop q c ne q.b (inr (inl refl))) in
+      let one : t q.a ≡ s q.a = t_stay q.a (other_stays i j is_i p live u end shape edges_u prop q c ne q.a (inl refl)) in
+      let two : t q.b ≡ s q.b = t_stay q.b (other_stays i j is_i p live u end shape edges_u prop q c ne q.b (inr (inl refl))) in
       subst₂ (λ (xs ys : List ℕ). IsMirror (second_of q) xs ys) (sym one) (sym two)
       (All-contains (λ (z : Pipe). IsMirror (second_of z) (s z.a) (s z.b)) i.pipes q sol.mirrored c)) in
       let kept = All-filter test (λ q. q.name ≢ p.name → Mirrored q) i.pipes base in
