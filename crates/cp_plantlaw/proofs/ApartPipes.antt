@@ -35,7 +35,8 @@ one_owner f (z ∷ xs) x y v once cx cy hx hy = ⊎_elim
     (Contains-cons_cases z x xs cx)
 
 -- items of one name are one
-pub one_name : {A : Type 0} (name : A → ℕ) (xs : List A) (x y : A) → Distinct (map name xs) → Contains xs x → Contains xs y
+pub one_name : {A : Type 0} (name : A → ℕ) (xs : List A) (x y : A) → Distinct (map name xs) → Contains xs x
+    → Contains xs y
     → name x ≡ name y → x ≡ y
 one_name {A} name xs x y once cx cy e =
     let fx = All-contains (λ z. find (λ w. eqb (name w) (name z)) xs ≡ Some z) xs x (found_own name xs once) cx in

@@ -21,10 +21,8 @@ use Rattle.cp_synclaw.proofs.InstanceDarts.{edges_once, live_at}
 use Rattle.cp_plantlaw.proofs.FreshNames.{fresh_once, fresh_other}
 use Rattle.cp_plantlaw.proofs.PlantedEdges.{new_ends-differ, row-edges_of}
 use Rattle.cp_plantlaw.proofs.PropagatedBack.{All-from_items}
-use Rattle.cp_plantlaw.proofs.PropagatedEnds.{Has_old, back, back_u, back_w, edges_u-leaves, edges_w-leaves, ends_by_row, held_u, held_w, holder_in, home, moved_row, names_once, old_Has, put, put_old, put_u, put_w, tops_u, tops_w, tree_ends}
-use Rattle.cp_plantlaw.proofs.PropagatedRows.{all_edges, edges_keep, new_edges, old_verts, row_edges, row_verts, verts_named}
-use Rattle.cp_plantlaw.proofs.PropagatedTrees.{turn_back}
-use Rattle.cp_plantlaw.proofs.RowPairs.{turn-IsPermutation}
+use Rattle.cp_plantlaw.proofs.PropagatedEnds.{back, back_u, back_w, edges_u-leaves, edges_w-leaves, ends_by_row, held_u, held_w, holder_in, home, moved_row, names_once, old_Has, put, put_old, put_u, put_w, tops_u, tops_w, tree_ends}
+use Rattle.cp_plantlaw.proofs.PropagatedRows.{all_edges, edges_keep, new_edges, old_verts, row_verts, verts_named}
 
 -- a list is its own image
 map_self : (xs : List ℕ) → map (λ x. x) xs ≡ xs
@@ -38,9 +36,11 @@ module _ (i j : Synchronized) (is_i : IsSynchronized i) (p : Pipe) (live : Conta
   abbrev w : ℕ
   w = opposite p u
 
+  -- the partner of an edge of u
   abbrev phi : ℕ → ℕ
   phi = partner p u
 
+  -- the names of the vertices that stay
   abbrev stay : List ℕ
   stay = map (λ v. v.name) (old_verts i j p u shape prop)
 
@@ -48,6 +48,7 @@ module _ (i j : Synchronized) (is_i : IsSynchronized i) (p : Pipe) (live : Conta
   abbrev tree_u : List EdgeRow
   tree_u = tree_edges prop.rows_u prop.edges_u
 
+  -- and those of the second tree
   abbrev tree_w : List EdgeRow
   tree_w = tree_edges prop.rows_w prop.edges_w
 
@@ -61,6 +62,7 @@ module _ (i j : Synchronized) (is_i : IsSynchronized i) (p : Pipe) (live : Conta
   ends_u = tree_ends i j is_i p live u end shape edges_u prop prop.rows_u prop.edges_u
       (λ x h. subst (Has x) (sym (tops_u i j is_i p live u end shape edges_u prop)) (inr h))
 
+  -- and those of the second tree
   ends_w : (e : EdgeRow) → Contains tree_w e → Has e.a (row_verts prop.rows_w) × Has e.b (row_verts prop.rows_w)
   ends_w = tree_ends i j is_i p live u end shape edges_u prop prop.rows_w prop.edges_w
       (λ x h. subst (Has x) (sym (tops_w i j is_i p live u end shape edges_u prop)) (inr h))
@@ -76,6 +78,7 @@ module _ (i j : Synchronized) (is_i : IsSynchronized i) (p : Pipe) (live : Conta
   fresh e h c = fresh_other (edge_names i) (prop.edges_u ++ prop.edges_w) e e prop.new_edges h
       ((Has-Contains e (edge_names i)).1 c) refl
 
+  -- no new edge is named twice
   new_once : Distinct (prop.edges_u ++ prop.edges_w)
   new_once = fresh_once (edge_names i) (prop.edges_u ++ prop.edges_w) prop.new_edges
 
@@ -84,6 +87,7 @@ module _ (i j : Synchronized) (is_i : IsSynchronized i) (p : Pipe) (live : Conta
   leaves_u = subst (λ zs. IsPermutation (edges_of i u) (shape.root ∷ zs)) (sym (map_self (leaves shape.body)))
       (edges_u-leaves i j is_i p live u end shape edges_u prop)
 
+  -- the edges of the other end are the partners of the root edge and the leaves
   leaves_w : IsPermutation (edges_of i w) (phi shape.root ∷ map phi (leaves shape.body))
   leaves_w =
       let all : List ℕ = map phi (shape.root ∷ leaves shape.body) in
@@ -98,19 +102,22 @@ module _ (i j : Synchronized) (is_i : IsSynchronized i) (p : Pipe) (live : Conta
       (λ k.
       let n = ends_w e k in
       inr (λ v h.
-      let apart : Lacks v (row_verts prop.rows_w) = Distinct-apart v (row_verts prop.rows_u) (row_verts prop.rows_w) rows_once h in (
+      let apart : Lacks v (row_verts prop.rows_w) = Distinct-apart v (row_verts prop.rows_u)
+      (row_verts prop.rows_w) rows_once h in (
         (λ s. has_lacks v (row_verts prop.rows_w) (subst (λ y. Has y (row_verts prop.rows_w)) s n.0) apart),
         (λ s. has_lacks v (row_verts prop.rows_w) (subst (λ y. Has y (row_verts prop.rows_w)) s n.1) apart),
       )))
       (Contains-append_cases tree_u tree_w e c)
 
+  -- a new edge is of the second tree, or has no end at it
   others_w : (e : EdgeRow) → Contains (new_edges i j p u shape prop) e
       → Contains tree_w e ⊎ ((v : ℕ) → Has v (row_verts prop.rows_w) → (e.a ≢ v) × (e.b ≢ v))
   others_w e c = ⊎_elim
       (λ k.
       let n = ends_u e k in
       inr (λ v h.
-      let apart : Lacks v (row_verts prop.rows_u) = Distinct-apart_right v (row_verts prop.rows_u) (row_verts prop.rows_w) rows_once h in (
+      let apart : Lacks v (row_verts prop.rows_u) = Distinct-apart_right v (row_verts prop.rows_u)
+      (row_verts prop.rows_w) rows_once h in (
         (λ s. has_lacks v (row_verts prop.rows_u) (subst (λ y. Has y (row_verts prop.rows_u)) s n.0) apart),
         (λ s. has_lacks v (row_verts prop.rows_u) (subst (λ y. Has y (row_verts prop.rows_u)) s n.1) apart),
       )))
@@ -153,6 +160,7 @@ module _ (i j : Synchronized) (is_i : IsSynchronized i) (p : Pipe) (live : Conta
       (Distinct-append_left prop.edges_u prop.edges_w new_once)
       (λ e c. new_in_j e (Contains-append_left tree_u tree_w e c)) others_u
 
+  -- the ends of a new edge of the second tree differ
   differ_w : (e : ℕ) → Has e prop.edges_w → holder prop.rows_w e ≢ lower_end prop.rows_w e
   differ_w = new_ends-differ i j is_i p live u end shape edges_u prop w phi (phi shape.root) prop.at_w prop.edges_w
       prop.rows_w prop.planted_w leaves_w
@@ -169,28 +177,33 @@ module _ (i j : Synchronized) (is_i : IsSynchronized i) (p : Pipe) (live : Conta
   live_name x h = Contains-permutation (stay ++ (row_verts prop.rows_u ++ row_verts prop.rows_w)) (vert_names j) x
       (verts_named i j p u shape prop) ((Has-Contains x (stay ++ (row_verts prop.rows_u ++ row_verts prop.rows_w))).0 h)
 
+  -- a vertex of a row of the first tree is one of j
   live_u_row : (x : ℕ) → Has x (row_verts prop.rows_u) → Contains (vert_names j) x
   live_u_row x h = live_name x (Has-append_right x stay (row_verts prop.rows_u ++ row_verts prop.rows_w)
       (Has-append_left x (row_verts prop.rows_u) (row_verts prop.rows_w) h))
 
+  -- a vertex of a row of the second tree is one of j
   live_w_row : (x : ℕ) → Has x (row_verts prop.rows_w) → Contains (vert_names j) x
   live_w_row x h = live_name x (Has-append_right x stay (row_verts prop.rows_u ++ row_verts prop.rows_w)
       (Has-append_right x (row_verts prop.rows_u) (row_verts prop.rows_w) h))
 
   -- where an end moves there is a vertex of j
-  put_live : (x e : ℕ) → Contains (edges_of i x) e → Contains (vert_names j) (put i j is_i p live u end shape edges_u prop x e)
+  put_live : (x e : ℕ) → Contains (edges_of i x) e
+      → Contains (vert_names j) (put i j is_i p live u end shape edges_u prop x e)
   put_live x e c =
       let to : ℕ → ℕ → ℕ = put i j is_i p live u end shape edges_u prop in
       ⊎_elim
       (λ (s : x ≡ u).
       let here : Contains (edges_of i u) e = subst (λ y. Contains (edges_of i y) e) s c in
       subst (Contains (vert_names j)) (sym (ap (λ y. to y e) s ∙ put_u i j is_i p live u end shape edges_u prop e))
-      (live_u_row (holder prop.rows_u e) (holder_in prop.rows_u e (held_u i j is_i p live u end shape edges_u prop e here))))
+      (live_u_row (holder prop.rows_u e) (holder_in prop.rows_u e
+      (held_u i j is_i p live u end shape edges_u prop e here))))
       (λ nu. ⊎_elim
       (λ (s : x ≡ w).
       let here : Contains (edges_of i w) e = subst (λ y. Contains (edges_of i y) e) s c in
       subst (Contains (vert_names j)) (sym (ap (λ y. to y e) s ∙ put_w i j is_i p live u end shape edges_u prop e))
-      (live_w_row (holder prop.rows_w e) (holder_in prop.rows_w e (held_w i j is_i p live u end shape edges_u prop e here))))
+      (live_w_row (holder prop.rows_w e) (holder_in prop.rows_w e
+      (held_w i j is_i p live u end shape edges_u prop e here))))
       (λ nw. subst (Contains (vert_names j)) (sym (put_old i j is_i p live u end shape edges_u prop x e nu nw))
       (live_name x (Has-append_left x stay (row_verts prop.rows_u ++ row_verts prop.rows_w)
       (old_Has i j is_i p live u end shape edges_u prop x (live_at i is_i x e c) nu nw))))
@@ -201,10 +214,12 @@ module _ (i j : Synchronized) (is_i : IsSynchronized i) (p : Pipe) (live : Conta
   abbrev pub AreEnds : EdgeRow → Type 0
   AreEnds e = (Contains (vert_names j) e.a × Contains (vert_names j) e.b) × (e.a ≢ e.b)
 
+  -- an edge that was there ends at two different vertices of j
   moved_ends : (e : EdgeRow) → Contains i.edges e → AreEnds (moved_row i j is_i p live u end shape edges_u prop e)
   moved_ends e c =
       let named : Contains (edge_names i) e.name = map_has (λ (x : EdgeRow). x.name) i.edges e c in
-      let ends : ends_of i e.name ≡ (e.a, e.b) = ends_by_row i j is_i p live u end shape edges_u prop i (edges_once i is_i) e c in
+      let ends : ends_of i e.name ≡ (e.a, e.b) = ends_by_row i j is_i p live u end shape edges_u prop i
+      (edges_once i is_i) e c in
       let at_a : Contains (edges_of i e.a) e.name = Contains-edges_at (graph i) e.a e.name named
       (joins_ends (graph i) e.a e.b e.name (inl (ap (λ (y : ℕ × ℕ). y.0) ends, ap (λ (y : ℕ × ℕ). y.1) ends))) in
       let at_b : Contains (edges_of i e.b) e.name = Contains-edges_at (graph i) e.b e.name named
@@ -216,22 +231,26 @@ module _ (i j : Synchronized) (is_i : IsSynchronized i) (p : Pipe) (live : Conta
             ∙ home i j is_i p live u end shape edges_u prop e.b e.name at_b),
       )
 
+  -- a new edge ends at two different vertices of j
   new_ends_right : (e : EdgeRow) → Contains (new_edges i j p u shape prop) e → AreEnds e
   new_ends_right e c = ⊎_elim
       (λ k.
       let n = ends_u e k in
-      let q = map_from (λ (y : ℕ). record { name = y; a = holder prop.rows_u y; b = lower_end prop.rows_u y }) prop.edges_u e k in (
+      let q = map_from
+      (λ (y : ℕ). record { name = y; a = holder prop.rows_u y; b = lower_end prop.rows_u y }) prop.edges_u e k in (
         (live_u_row e.a n.0, live_u_row e.b n.1),
         subst (λ (y : EdgeRow). y.a ≢ y.b) q.2 (differ_u q.0 ((Has-Contains q.0 prop.edges_u).1 q.1)),
       ))
       (λ k.
       let n = ends_w e k in
-      let q = map_from (λ (y : ℕ). record { name = y; a = holder prop.rows_w y; b = lower_end prop.rows_w y }) prop.edges_w e k in (
+      let q = map_from
+      (λ (y : ℕ). record { name = y; a = holder prop.rows_w y; b = lower_end prop.rows_w y }) prop.edges_w e k in (
         (live_w_row e.a n.0, live_w_row e.b n.1),
         subst (λ (y : EdgeRow). y.a ≢ y.b) q.2 (differ_w q.0 ((Has-Contains q.0 prop.edges_w).1 q.1)),
       ))
       (Contains-append_cases tree_u tree_w e c)
 
+  -- each edge of j ends at two different vertices of j
   pub ends_right : All AreEnds j.edges
   ends_right =
       let moved : List EdgeRow = moved_edges i (λ x v. put i j is_i p live u end shape edges_u prop v x) in

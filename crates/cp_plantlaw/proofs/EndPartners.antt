@@ -62,6 +62,7 @@ module _ (i : Synchronized) (is : IsSynchronized i) (p : Pipe) (differ : p.a ≢
   abbrev firsts : List ℕ
   firsts = map (λ x. x.0) p.pairs
 
+  -- the edges of the second end, in the order of the pairs
   abbrev seconds : List ℕ
   seconds = map (λ x. x.1) p.pairs
 
@@ -75,6 +76,7 @@ module _ (i : Synchronized) (is : IsSynchronized i) (p : Pipe) (differ : p.a ≢
       ap (λ o. option_map_or (λ z. z.1) o 0)
       (found_own (λ x. x.0) p.pairs (subst Distinct (sym right.first) (edges_at-Distinct p.a)) k d lt)
 
+  -- each second edge has its first
   firsts_found : All (λ x. first_of p x.1 ≡ x.0) p.pairs
   firsts_found k d lt =
       ap (λ o. option_map_or (λ z. z.0) o 0)
@@ -85,6 +87,7 @@ module _ (i : Synchronized) (is : IsSynchronized i) (p : Pipe) (differ : p.a ≢
   pub seconds_are : map (second_of p) firsts ≡ seconds
   seconds_are = map_each (second_of p) (λ x. x.0) (λ x. x.1) p.pairs seconds_found
 
+  -- the partners of the edges of the second end are those of the first
   firsts_are : map (first_of p) seconds ≡ firsts
   firsts_are = map_each (first_of p) (λ x. x.1) (λ x. x.0) p.pairs firsts_found
 
@@ -92,6 +95,7 @@ module _ (i : Synchronized) (is : IsSynchronized i) (p : Pipe) (differ : p.a ≢
   pair_of_first : (x : ℕ) → Contains (edges_at g p.a) x → (y : ℕ × ℕ) × Contains p.pairs y × (y.0 ≡ x)
   pair_of_first x c = map_from (λ y. y.0) p.pairs x (subst (λ zs. Contains zs x) (sym right.first) c)
 
+  -- an edge of the second end is the second of a pair
   pair_of_second : (x : ℕ) → Contains (edges_at g p.b) x → (y : ℕ × ℕ) × Contains p.pairs y × (y.1 ≡ x)
   pair_of_second x c =
       map_from (λ y. y.1) p.pairs x (Contains-permutation (edges_at g p.b) seconds x right.second c)
@@ -104,6 +108,7 @@ module _ (i : Synchronized) (is : IsSynchronized i) (p : Pipe) (differ : p.a ≢
       let back = All-contains (λ z. first_of p z.1 ≡ z.0) p.pairs y.0 firsts_found y.1 in
       ap (λ z. first_of p (second_of p z)) (sym y.2) ∙ ap (first_of p) there ∙ back ∙ y.2
 
+  -- the partner of the partner is the edge, from the second end
   pub second_first : (x : ℕ) → Contains (edges_at g p.b) x → second_of p (first_of p x) ≡ x
   second_first x c =
       let y = pair_of_second x c in
@@ -154,9 +159,11 @@ module _ (i : Synchronized) (is : IsSynchronized i) (p : Pipe) (differ : p.a ≢
     pub arranges : (xs : List ℕ) → ArrangesEdges g u xs → ArrangesEdges g w (reverse (map there xs))
     pub mirrored : (s : ℕ → List ℕ) → ArrangesEdges g p.a (s p.a) → IsMirror (second_of p) (s p.a) (s p.b)
         → IsTurn (reverse (map there (s u))) (s w)
+    -- lists of both ends mirror each other, seen from u
     pub mirrors : (s : ℕ → List ℕ) → ArrangesEdges g u (s u) → IsTurn (reverse (map there (s u))) (s w)
         → IsMirror (second_of p) (s p.a) (s p.b)
 
+  -- seen from the first end
   from_first : MirrorsFrom p.a p.b (second_of p) (first_of p)
   from_first = record {
     arranges = λ xs arr. IsPermutation-trans (edges_at g p.b) (map (second_of p) xs) (reverse (map (second_of p) xs))
@@ -168,6 +175,7 @@ module _ (i : Synchronized) (is : IsSynchronized i) (p : Pipe) (differ : p.a ≢
     mirrors = λ s arr m. m;
   }
 
+  -- seen from the second end
   from_second : MirrorsFrom p.b p.a (first_of p) (second_of p)
   from_second = record {
     arranges = λ xs arr. subst (λ zs. IsPermutation zs (reverse (map (first_of p) xs))) (firsts_are ∙ right.first)

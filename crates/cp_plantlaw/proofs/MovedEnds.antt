@@ -52,6 +52,7 @@ module _ (i j : Synchronized) (place : ℕ → ℕ → ℕ) (back : ℕ → ℕ)
   abbrev gi : NamedGraph
   gi = graph i
 
+  -- the graph of j
   abbrev gj : NamedGraph
   gj = graph j
 
@@ -62,8 +63,16 @@ module _ (i j : Synchronized) (place : ℕ → ℕ → ℕ) (back : ℕ → ℕ)
       let ends = moved.ends e h.0 in
       ⊎_elim
       (λ (x : ((gi.ends e).0 ≡ w) × ((gi.ends e).1 ≡ far gi w e)).
-      inl (ap (λ (y : ℕ × ℕ). y.0) ends ∙ ap (λ z. place z e) x.0, ap (λ (y : ℕ × ℕ). y.1) ends ∙ ap (λ z. place z e) x.1))
-      (λ x. inr (ap (λ (y : ℕ × ℕ). y.0) ends ∙ ap (λ z. place z e) x.0, ap (λ (y : ℕ × ℕ). y.1) ends ∙ ap (λ z. place z e) x.1))
+      inl (
+        ap (λ (y : ℕ × ℕ). y.0) ends ∙ ap (λ z. place z e) x.0,
+        ap (λ (y : ℕ × ℕ). y.1) ends ∙ ap
+            (λ z. place z e) x.1,
+      ))
+      (λ x. inr (
+        ap (λ (y : ℕ × ℕ). y.0) ends ∙ ap (λ z. place z e) x.0,
+        ap (λ (y : ℕ × ℕ). y.1) ends ∙ ap
+            (λ z. place z e) x.1,
+      ))
       (far_joins gi w e h.1)
 
   -- it is an edge of the vertex that its end moved to
@@ -83,6 +92,7 @@ module _ (i j : Synchronized) (is_i : IsSynchronized i) (is_j : IsSynchronized j
   abbrev graph_i : NamedGraph
   graph_i = graph i
 
+  -- the graph of j
   abbrev graph_j : NamedGraph
   graph_j = graph j
 
@@ -90,6 +100,7 @@ module _ (i j : Synchronized) (is_i : IsSynchronized i) (is_j : IsSynchronized j
   di : AreDartsOf graph_i (dart graph_i)
   di = instance_darts i is_i
 
+  -- the darts of j
   dj : AreDartsOf graph_j (dart graph_j)
   dj = instance_darts j is_j
 
@@ -104,7 +115,8 @@ module _ (i j : Synchronized) (is_i : IsSynchronized i) (is_j : IsSynchronized j
     edge_of = dj.edge_of;
     placed = λ w e c. ap back (dj.placed (place w e) e (moved_at i j place back moved w e c)) ∙ moved.home w e c;
     named = λ w e c. dj.named (place w e) e (moved_at i j place back moved w e c);
-    twins = λ w e c. ap (λ z. dart graph_j z e) (sym (moved_far i j place back moved w e c)) ∙ dj.twins (place w e) e (moved_at i j place back moved w e c);
+    twins = λ w e c. ap (λ z. dart graph_j z e) (sym (moved_far i j place back moved w e c)) ∙ dj.twins (place w e) e
+        (moved_at i j place back moved w e c);
   }
 
   -- the new name of a dart of i
@@ -119,6 +131,7 @@ module _ (i j : Synchronized) (is_i : IsSynchronized i) (is_j : IsSynchronized j
   abbrev m : ℕ
   m = length graph_i.edges
 
+  -- how many edges j has
   abbrev n : ℕ
   n = length graph_j.edges
 
@@ -137,7 +150,8 @@ module _ (i j : Synchronized) (is_i : IsSynchronized i) (is_j : IsSynchronized j
         sym k.3
         ∙ ap₂ (dart graph_i)
         (sym (moved-AreDartsOf.placed k.0 k.1 k.2) ∙ ap moved-AreDartsOf.at one ∙ moved-AreDartsOf.placed l.0 l.1 l.2)
-        (sym (moved-AreDartsOf.named k.0 k.1 k.2) ∙ ap moved-AreDartsOf.edge_of one ∙ moved-AreDartsOf.named l.0 l.1 l.2)
+        (sym (moved-AreDartsOf.named k.0 k.1 k.2) ∙ ap moved-AreDartsOf.edge_of one
+        ∙ moved-AreDartsOf.named l.0 l.1 l.2)
         ∙ l.3;
     twins = λ d lt.
         let k = dart_of_edge i is_i d lt in
@@ -173,9 +187,11 @@ module _ (i j : Synchronized) (is_i : IsSynchronized i) (is_j : IsSynchronized j
         let r : System = system graph_i s in
         let rot : IsRotation r = system-IsRotation i is_i s arranged in
         let one : OneGenus m (next r) n h =
-        named_lists-OneGenus m n renamed (next r) h (map (dart_list (dart graph_i) s) graph_i.verts) moved.more renamed-Names
+        named_lists-OneGenus m n renamed (next r) h (map (dart_list
+        (dart graph_i) s) graph_i.verts) moved.more renamed-Names
         (system-IsMapOf i is_i s arranged)
-        (subst (IsMapOf (2 * n) h) (sym (renamed_lists graph_i.verts (λ w c. (Has-Contains w graph_i.verts).0 c))) is_h) in
+        (subst (IsMapOf (2 * n) h) (sym (renamed_lists graph_i.verts
+        (λ w c. (Has-Contains w graph_i.verts).0 c))) is_h) in
         let size : edges r ≡ m = system_edges i is_i s arranged in (
           λ z. OneGenus-IsFlat m (next r) n h one (subst (λ k. IsFlat k (next r)) size ((system_flat r rot).0 z)),
           λ z. (system_flat r rot).1 (subst (λ k. IsFlat k (next r)) (sym size)
@@ -197,7 +213,8 @@ module _ (i j : Synchronized) (is_i : IsSynchronized i) (is_j : IsSynchronized j
         (λ same. same)
         (λ (other : v ≡ place (far graph_i u x) x). absurd (far_differs i is_i u x c
         (sym (moved.home (far graph_i u x) x (far_edges_at graph_i u x c)) ∙ ap back (sym other) ∙ at)))
-        (end_cases graph_j v (place u x) (place (far graph_i u x) x) x (moved_joins i j place back moved u x c) (edges_at-Contains graph_j v x here).1))
+        (end_cases graph_j v (place u x) (place (far graph_i u x) x) x (moved_joins i j place back moved u x c)
+        (edges_at-Contains graph_j v x here).1))
 
     -- an edge between two vertices has twin darts there
     twin_place : (v w g : ℕ) → v ≢ w → Contains (edges_at graph_j v) g → Contains (edges_at graph_j w) g
@@ -207,7 +224,8 @@ module _ (i j : Synchronized) (is_i : IsSynchronized i) (is_j : IsSynchronized j
         (⊎_elim
         (λ (e : w ≡ v). absurd (ne (sym e)))
         (λ e. e)
-        (end_cases graph_j w v (far graph_j v g) g (far_joins graph_j v g (edges_at-Contains graph_j v g cv).1) (edges_at-Contains graph_j w g cw).1))
+        (end_cases graph_j w v (far graph_j v g) g (far_joins graph_j v g (edges_at-Contains graph_j v g cv).1)
+        (edges_at-Contains graph_j w g cw).1))
         ∙ dj.twins v g cv
 
     -- so the tree fits the darts

@@ -71,11 +71,13 @@ module _ (partner : ℕ → ℕ) where
       let rest : List (ℕ × List ℕ) = map second_row (paired_rows partner ks) in
       let row : ℕ × List ℕ = (v.1, g.1 ∷ reverse (map (λ k. k.1) (both_tops partner inner))) in
       let same_row : row ≡ (v.1, g.1 ∷ tops below) =
-      ap (λ zs. (v.1, g.1 ∷ zs)) (sym (mirrored-tops inner Named.no_kid ∙ append-nil (reverse (map (λ k. k.1) (both_tops partner inner))))) in
+      ap (λ zs. (v.1, g.1 ∷ zs)) (sym (mirrored-tops inner Named.no_kid ∙ append-nil
+      (reverse (map (λ k. k.1) (both_tops partner inner))))) in
       let inside : IsPermutation ins (rows below) =
       subst (λ zs. IsPermutation zs (rows below)) (append-nil ins) (mirrored-rows inner Named.no_kid) in
       let here : IsPermutation (row ∷ ins) ((v.1, g.1 ∷ tops below) ∷ rows below) =
-      subst (λ z. IsPermutation (row ∷ ins) (z ∷ rows below)) same_row (IsPermutation-cons row ins (rows below) inside) in
+      subst (λ z. IsPermutation (row ∷ ins) (z ∷ rows below)) same_row
+      (IsPermutation-cons row ins (rows below) inside) in
       let front : IsPermutation ((row ∷ ins) ++ (rest ++ rows others)) (rest ++ ((row ∷ ins) ++ rows others)) =
       subst₂ IsPermutation (append_assoc (row ∷ ins) rest (rows others)) (append_assoc rest (row ∷ ins) (rows others))
       (IsPermutation-append_left (rows others) ((row ∷ ins) ++ rest) (rest ++ (row ∷ ins))
@@ -90,6 +92,7 @@ module _ (partner : ℕ → ℕ) where
       (IsPermutation-trans (rest ++ ((row ∷ ins) ++ rows others))
       (rest ++ (((v.1, g.1 ∷ tops below) ∷ rows below) ++ rows others))
       (rows (mirrored partner ks (Named.node_kid v.1 g.1 below others)))
-      (IsPermutation-append_right rest ((row ∷ ins) ++ rows others) (((v.1, g.1 ∷ tops below) ∷ rows below) ++ rows others)
+      (IsPermutation-append_right rest ((row ∷ ins) ++ rows others)
+      (((v.1, g.1 ∷ tops below) ∷ rows below) ++ rows others)
       (IsPermutation-append_left (rows others) (row ∷ ins) ((v.1, g.1 ∷ tops below) ∷ rows below) here))
       (mirrored-rows ks (Named.node_kid v.1 g.1 below others))))

@@ -78,7 +78,8 @@ pub IsPermutation-flat_map : {A B : Type 0} (f : A → List B) (xs ys : List A) 
 IsPermutation-flat_map f = along_permutation (λ xs ys. IsPermutation (flat_map f xs) (flat_map f ys))
     (λ xs. IsPermutation-refl _)
     (λ x xs ys h. IsPermutation-append_right (f x) _ _ h)
-    (λ x y xs. rw (← append_assoc (f x), ← append_assoc (f y)) (IsPermutation-append_left (flat_map f xs) _ _ (IsPermutation-append_comm (f x) (f y))))
+    (λ x y xs. rw (← append_assoc (f x), ← append_assoc (f y))
+    (IsPermutation-append_left (flat_map f xs) _ _ (IsPermutation-append_comm (f x) (f y))))
     (λ xs ys zs. IsPermutation-trans _ _ _)
 
 -- a map of a list from its end

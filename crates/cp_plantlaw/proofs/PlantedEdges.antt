@@ -1,21 +1,20 @@
 -- The edges of the vertices of a planted tree after Propagate are those of its rows.
-use Rattle.std.proofs.Common.{◌≡◌, ◌≢◌, ◌⊎◌, ℕ, suc, Bool, true, false, List, [], ◌∷◌, ◌++◌, map, sym, refl, ap, ap₂, ◌∙◌, subst, inl, inr, ⊎_elim, arith, IsPermutation}
+use Rattle.std.proofs.Common.{◌≡◌, ◌≢◌, ◌⊎◌, ℕ, suc, true, false, List, [], ◌∷◌, ◌++◌, map, sym, refl, ap, ◌∙◌, subst, inl, inr, ⊎_elim, arith, IsPermutation}
 use Rattle.std.specs.Prelude.{Option, Some, drop, find, take}
-use Rattle.std.specs.List.{Contains, flat_map}
+use Rattle.std.specs.List.{Contains}
 use Rattle.std.specs.Option.{option_map_or}
-use Rattle.std.proofs.lemmas.Bool.{cases_Bool, cond-false, cond-true, false≢true}
+use Rattle.std.proofs.lemmas.Bool.{cases_Bool, cond-false, cond-true}
 use Rattle.std.proofs.lemmas.List.Elements.{Contains-append_cases}
 use Rattle.std.proofs.lemmas.List.Sorted.{Contains-permutation, IsPermutation-sym}
 use Rattle.cp_lists.specs.CyclicLists.{Distinct, Has, Lacks}
 use Rattle.cp_lists.specs.Rows.{flat}
-use Rattle.cp_lists.proofs.DistinctLists.{Distinct-append, Distinct-append_left, Distinct-append_right, Distinct-apart, Distinct-apart_right, Has-append_cases, Has-append_left, Has-append_right, Has-Contains, Lacks-from, has_lacks}
+use Rattle.cp_lists.proofs.DistinctLists.{Distinct-append, Distinct-append_left, Distinct-append_right, Has-append_cases, Has-append_right, Has-Contains, Lacks-from, has_lacks}
 use Rattle.cp_lists.proofs.FilteredLists.{filter-Distinct}
 use Rattle.cp_lists.proofs.PermutedLists.{Distinct-IsPermutation, Has-IsPermutation, IsPermutation-from}
 use Rattle.cp_orbits.proofs.ClassLabels.{Contains-cons_cases}
-use Rattle.cp_base.specs.declared.shape.Branch.{Branch}
 use Rattle.cp_base.specs.declared.shape.Shape.{Shape}
 use Rattle.cp_base.specs.Shapes.{leaves}
-use Rattle.cp_conn.specs.NamedGraphs.{edges_at, ends_at, far}
+use Rattle.cp_conn.specs.NamedGraphs.{ends_at, far}
 use Rattle.cp_conn.proofs.NamedGraphs.{Contains-edges_at, edges_at-Contains, far_joins, joins_ends, map_from, map_has}
 use Rattle.cp_board.proofs.ListTests.{Contains-from_has}
 use Rattle.cp_board.specs.declared.parts.EdgeRow.{EdgeRow}
@@ -28,10 +27,10 @@ use Rattle.cp_board.specs.Propagations.{IsPropagated}
 use Rattle.cp_board.specs.Steps.{IsEnd}
 use Rattle.cp_synclaw.proofs.InstanceDarts.{edges_once}
 use Rattle.cp_plantlaw.proofs.ApartPipes.{one_name, one_owner, owned}
-use Rattle.cp_plantlaw.proofs.FreshNames.{fresh_other, has-true}
+use Rattle.cp_plantlaw.proofs.FreshNames.{has-true}
 use Rattle.cp_plantlaw.proofs.MovedEnds.{moved_at}
 use Rattle.cp_plantlaw.proofs.PlantedOrder.{Led, holder-of_row, planted-Led, planted-tails, row_tails, tail_of_row, top-no_tail}
-use Rattle.cp_plantlaw.proofs.PropagatedEnds.{back, edges_j_once, ends-IsMoved, ends_by_row, home, moved_row, put, row_of_j, row_tops, tops_edges}
+use Rattle.cp_plantlaw.proofs.PropagatedEnds.{back, edges_j_once, ends-IsMoved, ends_by_row, home, moved_row, put, row_tops, tops_edges}
 use Rattle.cp_plantlaw.proofs.PropagatedRows.{all_edges, edges_keep, new_edges, row_edges, row_verts}
 use Rattle.cp_plantlaw.proofs.ReadWords.{tops_flat}
 
@@ -74,10 +73,12 @@ whole_list [] x h = absurd h
 whole_list (e ∷ es) x h = ⊎_elim (λ s. inl (inl s)) (λ k. inr k) h
 
 -- the lists of rows of distinct tails are distinct
-tail_once : (rows : List Planted) (r : Planted) → Distinct (row_tails rows) → Contains rows r → Distinct (drop 1 r.edges)
+tail_once : (rows : List Planted) (r : Planted) → Distinct (row_tails rows) → Contains rows r
+    → Distinct (drop 1 r.edges)
 tail_once [] r once c = absurd (omega (arith, c.1))
 tail_once (q ∷ rows) r once c = ⊎_elim
-    (λ (e : q ≡ r). subst (λ (y : Planted). Distinct (drop 1 y.edges)) e (Distinct-append_left (drop 1 q.edges) (row_tails rows) once))
+    (λ (e : q ≡ r). subst (λ (y : Planted). Distinct (drop 1 y.edges)) e
+    (Distinct-append_left (drop 1 q.edges) (row_tails rows) once))
     (λ k. tail_once rows r (Distinct-append_right (drop 1 q.edges) (row_tails rows) once) k)
     (Contains-cons_cases q r rows c)
 
@@ -93,6 +94,7 @@ module _ (i j : Synchronized) (is_i : IsSynchronized i) (p : Pipe) (live : Conta
   abbrev to : ℕ → ℕ → ℕ
   to = put i j is_i p live u end shape edges_u prop
 
+  -- the vertex of i from which an end came
   abbrev from : ℕ → ℕ
   from = back i j is_i p live u end shape edges_u prop
 
@@ -130,6 +132,7 @@ module _ (i j : Synchronized) (is_i : IsSynchronized i) (p : Pipe) (live : Conta
     tails : IsPermutation (top ∷ row_tails rows) (map f (leaves shape.body) ++ top ∷ es)
     tails = planted-tails f shape.body top vs (top ∷ es) rows planted
 
+    -- so no edge goes to two kids
     tails_once : Distinct (top ∷ row_tails rows)
     tails_once =
         let ls : List ℕ = map f (leaves shape.body) in
@@ -142,9 +145,11 @@ module _ (i j : Synchronized) (is_i : IsSynchronized i) (p : Pipe) (live : Conta
           Lacks-from e es (λ k. apart_new e (inr h) k),
         )))
 
+    -- no edge is from above of two rows
     tops_once : Distinct (row_tops rows)
     tops_once = subst Distinct (sym tops_are) (Lacks-from top es (λ k. apart_new top (inl refl) k), es_once)
 
+    -- each row stands behind that of its parent
     led : Led (top ∷ []) rows
     led = planted-Led f shape.body top vs (top ∷ es) rows planted (top ∷ []) (inl refl)
 
@@ -152,10 +157,12 @@ module _ (i j : Synchronized) (is_i : IsSynchronized i) (p : Pipe) (live : Conta
     new_ends_are : (e : ℕ) → Has e es → ends_of j e ≡ (holder rows e, lower_end rows e)
     new_ends_are e h =
         let row : EdgeRow = record { name = e; a = holder rows e; b = lower_end rows e } in
-        ends_by_row i j is_i p live u end shape edges_u prop j (edges_j_once i j is_i p live u end shape edges_u prop) row
+        ends_by_row i j is_i p live u end shape edges_u prop j
+        (edges_j_once i j is_i p live u end shape edges_u prop) row
         (ours row (map_has (λ (y : ℕ). record { name = y; a = holder rows y; b = lower_end rows y }) es e
         ((Has-Contains e es).0 h)))
 
+    -- a new edge is one of j
     new_live : (e : ℕ) → Has e es → Contains (edge_names j) e
     new_live e h =
         let row : EdgeRow = record { name = e; a = holder rows e; b = lower_end rows e } in
@@ -163,11 +170,13 @@ module _ (i j : Synchronized) (is_i : IsSynchronized i) (p : Pipe) (live : Conta
         (ours row (map_has (λ (y : ℕ). record { name = y; a = holder rows y; b = lower_end rows y }) es e
         ((Has-Contains e es).0 h)))
 
+    -- a new edge ends at its holder
     at_holder : (e : ℕ) → Has e es → Contains (edges_of j (holder rows e)) e
     at_holder e h = Contains-edges_at (graph j) (holder rows e) e (new_live e h)
         (joins_ends (graph j) (holder rows e) (lower_end rows e) e
         (inl (ap (λ (y : ℕ × ℕ). y.0) (new_ends_are e h), ap (λ (y : ℕ × ℕ). y.1) (new_ends_are e h))))
 
+    -- a new edge ends at its lower end
     at_lower : (e : ℕ) → Has e es → Contains (edges_of j (lower_end rows e)) e
     at_lower e h = Contains-edges_at (graph j) (lower_end rows e) e (new_live e h)
         (joins_ends (graph j) (lower_end rows e) (holder rows e) e
@@ -183,7 +192,8 @@ module _ (i j : Synchronized) (is_i : IsSynchronized i) (p : Pipe) (live : Conta
     one_row q r cq cr e = one_name (λ (y : Planted). y.vertex) rows q r verts_once cq cr e
 
     -- a row with this edge from above is this row
-    one_top : (q r : Planted) (e : ℕ) → Contains rows q → Contains rows r → Has e (take 1 q.edges) → Has e (take 1 r.edges) → q ≡ r
+    one_top : (q r : Planted) (e : ℕ) → Contains rows q → Contains rows r → Has e (take 1 q.edges)
+        → Has e (take 1 r.edges) → q ≡ r
     one_top q r e cq cr hq hr = one_owner (λ (y : Planted). take 1 y.edges) rows q r e
         (subst Distinct (tops_flat rows) tops_once) cq cr hq hr
 
@@ -196,7 +206,8 @@ module _ (i j : Synchronized) (is_i : IsSynchronized i) (p : Pipe) (live : Conta
         ⊎_elim
         (λ (s : top ≡ e).
         let q = first_found (λ y. y.edges) rows e (held e (leaf_edge e (inl s))) in
-        let here : Contains (edges_of j q.0.vertex) e = subst (λ v. Contains (edges_of j v) e) q.3 (at_old e (leaf_edge e (inl s))) in
+        let here : Contains (edges_of j q.0.vertex) e = subst (λ v. Contains (edges_of j v) e) q.3
+        (at_old e (leaf_edge e (inl s))) in
         let same : q.0 ≡ r = ⊎_elim
         (λ k. one_top q.0 r e q.1 c k first)
         (λ k. absurd (has_lacks e (row_tails rows) (tail_of_row rows q.0 e q.1 k)
@@ -215,7 +226,8 @@ module _ (i j : Synchronized) (is_i : IsSynchronized i) (p : Pipe) (live : Conta
         (⊎_elim
         (λ k. at_old e (leaf_edge e (inr k)))
         (λ k. ⊎_elim
-        (λ (s : top ≡ e). absurd (has_lacks e (row_tails rows) in_tails (subst (λ y. Lacks y (row_tails rows)) s tails_once.0)))
+        (λ (s : top ≡ e). absurd (has_lacks e (row_tails rows) in_tails
+        (subst (λ y. Lacks y (row_tails rows)) s tails_once.0)))
         (λ l. at_holder e l) k)
         (Has-append_cases e (map f (leaves shape.body)) (top ∷ es)
         (Has-IsPermutation e (top ∷ row_tails rows) (map f (leaves shape.body) ++ top ∷ es) tails (inr in_tails)))))
@@ -238,7 +250,8 @@ module _ (i j : Synchronized) (is_i : IsSynchronized i) (p : Pipe) (live : Conta
         (Has-Contains r.vertex (row_verts rows)).1 (map_has (λ (y : Planted). y.vertex) rows r c) in
         let moved : List EdgeRow = moved_edges i (λ v y. to y v) in
         ⊎_elim
-        (λ m. old_edge r c at e row.0 row.2 (map_from (moved_row i j is_i p live u end shape edges_u prop) i.edges row.0 m) here)
+        (λ m. old_edge r c at e row.0 row.2
+        (map_from (moved_row i j is_i p live u end shape edges_u prop) i.edges row.0 m) here)
         (λ m. ⊎_elim
         (λ t. tree_edge r c e row.0 row.2 t here)
         (λ n. let v = n r.vertex at in ⊎_elim (λ s. absurd (v.0 s)) (λ s. absurd (v.1 s)) here)
@@ -248,21 +261,33 @@ module _ (i j : Synchronized) (is_i : IsSynchronized i) (p : Pipe) (live : Conta
         (IsPermutation-sym (all_edges i j p u shape prop) j.edges (edges_keep i j p u shape prop)) row.1))
       where
         -- an edge of i with an end there
-        old_edge : (r : Planted) → Contains rows r → Has r.vertex (row_verts rows) → (e : ℕ) (row : EdgeRow) → row.name ≡ e
+        old_edge : (r : Planted) → Contains rows r → Has r.vertex (row_verts rows) → (e : ℕ) (row : EdgeRow)
+            → row.name ≡ e
             → (q : EdgeRow) × Contains i.edges q × (moved_row i j is_i p live u end shape edges_u prop q ≡ row)
             → (row.a ≡ r.vertex) ⊎ (row.b ≡ r.vertex) → Has e r.edges
         old_edge r c at e row named q here =
             let name : q.0.name ≡ e = ap (λ (y : EdgeRow). y.name) q.2 ∙ named in
-            let live_e : Contains (edge_names i) e = subst (Contains (edge_names i)) name (map_has (λ (y : EdgeRow). y.name) i.edges q.0 q.1) in
+            let live_e : Contains (edge_names i) e = subst (Contains (edge_names i)) name
+            (map_has (λ (y : EdgeRow). y.name) i.edges q.0 q.1) in
             let old_ends : ends_of i e ≡ (q.0.a, q.0.b) =
-            ap (ends_of i) (sym name) ∙ ends_by_row i j is_i p live u end shape edges_u prop i (edges_once i is_i) q.0 q.1 in
+            ap (ends_of i) (sym name) ∙ ends_by_row i j is_i p live u end shape edges_u prop i
+            (edges_once i is_i) q.0 q.1 in
             let at_a : Contains (edges_of i q.0.a) e = Contains-edges_at (graph i) q.0.a e live_e
-            (joins_ends (graph i) q.0.a q.0.b e (inl (ap (λ (y : ℕ × ℕ). y.0) old_ends, ap (λ (y : ℕ × ℕ). y.1) old_ends))) in
+            (joins_ends (graph i) q.0.a q.0.b e (inl (
+              ap (λ (y : ℕ × ℕ). y.0) old_ends,
+              ap
+                  (λ (y : ℕ × ℕ). y.1) old_ends,
+            ))) in
             let at_b : Contains (edges_of i q.0.b) e = Contains-edges_at (graph i) q.0.b e live_e
-            (joins_ends (graph i) q.0.b q.0.a e (inr (ap (λ (y : ℕ × ℕ). y.0) old_ends, ap (λ (y : ℕ × ℕ). y.1) old_ends))) in
+            (joins_ends (graph i) q.0.b q.0.a e (inr (
+              ap (λ (y : ℕ × ℕ). y.0) old_ends,
+              ap
+                  (λ (y : ℕ × ℕ). y.1) old_ends,
+            ))) in
             let done : (y : ℕ) → Contains (edges_of i y) e → to y e ≡ r.vertex → Has e r.edges =
             λ y cy s.
-            let same : y ≡ x = sym (home i j is_i p live u end shape edges_u prop y e cy) ∙ ap from s ∙ from_x r.vertex at in
+            let same : y ≡ x = sym (home i j is_i p live u end shape edges_u prop y e cy) ∙ ap from s
+            ∙ from_x r.vertex at in
             let cx : Contains (edges_of i x) e = subst (λ z. Contains (edges_of i z) e) same cy in
             let g = first_found (λ z. z.edges) rows e (held e cx) in
             let one : g.0 ≡ r = one_row g.0 r g.1 c (sym g.3 ∙ sym (to_x e) ∙ ap (λ z. to z e) (sym same) ∙ s) in
@@ -302,12 +327,14 @@ module _ (i j : Synchronized) (is_i : IsSynchronized i) (p : Pipe) (live : Conta
     row-edges_of r c = IsPermutation-from r.edges (edges_of j r.vertex)
         (whole_once r.edges (tail_once rows r tails_once.1 c)
         (λ e top_e tail_e. top-no_tail (top ∷ []) rows led tails_once r e c top_e tail_e))
-        (filter-Distinct (ends_at (graph j) r.vertex) (edge_names j) (edges_j_once i j is_i p live u end shape edges_u prop))
+        (filter-Distinct (ends_at (graph j) r.vertex) (edge_names j)
+        (edges_j_once i j is_i p live u end shape edges_u prop))
         (λ e h. (Has-Contains e (edges_of j r.vertex)).1 (row_edge r c e h))
         (λ e h. edge_row r c e ((Has-Contains e (edges_of j r.vertex)).0 h))
 
     -- a new edge is one to a kid of some row
-    tail_row : (rs : List Planted) (e : ℕ) → Has e (row_tails rs) → (r : Planted) × Contains rs r × Has e (drop 1 r.edges)
+    tail_row : (rs : List Planted) (e : ℕ) → Has e (row_tails rs)
+        → (r : Planted) × Contains rs r × Has e (drop 1 r.edges)
     tail_row [] e h = absurd h
     tail_row (q ∷ rs) e h = ⊎_elim
         (λ k. (q, (0, omega arith, refl), k))
@@ -327,4 +354,5 @@ module _ (i j : Synchronized) (is_i : IsSynchronized i) (p : Pipe) (live : Conta
         let q = first_found (λ y. take 1 y.edges) rows e (subst (Has e) (sym tops_are) (inr h)) in
         let one : q.0 ≡ r.0 = one_row q.0 r.0 q.1 r.1
         (sym q.3 ∙ sym same ∙ holder-of_row (top ∷ []) rows led tails_once r.0 e r.1 r.2) in
-        top-no_tail (top ∷ []) rows led tails_once r.0 e r.1 (subst (λ (y : Planted). Has e (take 1 y.edges)) one q.2) r.2
+        top-no_tail (top ∷ []) rows led tails_once r.0 e r.1 (subst
+        (λ (y : Planted). Has e (take 1 y.edges)) one q.2) r.2

@@ -29,7 +29,8 @@ all_turned [] = tt
 all_turned (xs ∷ lists) = (turn-refl xs, all_turned lists)
 
 -- rows one behind the other
-zip_behind : (hs bs cs ds : List (List ℕ)) → AllZip IsTurn hs bs → AllZip IsTurn cs ds → AllZip IsTurn (hs ++ cs) (bs ++ ds)
+zip_behind : (hs bs cs ds : List (List ℕ)) → AllZip IsTurn hs bs → AllZip IsTurn cs ds
+    → AllZip IsTurn (hs ++ cs) (bs ++ ds)
 zip_behind [] [] cs ds one two = two
 zip_behind [] (b ∷ bs) cs ds one two = absurd one
 zip_behind (a ∷ hs) [] cs ds one two = absurd one
@@ -42,6 +43,7 @@ module _ (i j : Synchronized) (is_i : IsSynchronized i) (is_j : IsSynchronized j
   abbrev gi : NamedGraph
   gi = graph i
 
+  -- the graph of j
   abbrev gj : NamedGraph
   gj = graph j
 
@@ -158,7 +160,8 @@ module _ (i j : Synchronized) (is_i : IsSynchronized i) (is_j : IsSynchronized j
           ) h.1 in
           let flat : HasGenusZero (system gi s) ↔ IsFlat n h.0 =
           moved_lists-IsFlat i j is_i is_j place back moved s arranged_s h.0
-          (IsMapOf-permuted (2 * n) h.0 (map (dart_list dart_of s) (w ∷ u ∷ others)) (map (dart_list dart_of s) gi.verts)
+          (IsMapOf-permuted (2 * n) h.0 (map (dart_list dart_of s) (w ∷ u ∷ others))
+          (map (dart_list dart_of s) gi.verts)
           (IsPermutation-map (dart_list dart_of s) (w ∷ u ∷ others) gi.verts
           (IsPermutation-sym gi.verts (w ∷ u ∷ others) all_i)) turned) in (
             λ z. (system_flat c rot).1 (subst (λ k. IsFlat k f) (sym size)

@@ -1,5 +1,5 @@
 -- The edges of planted rows: each but the root edge goes to one kid, and each row stands behind the row of its parent.
-use Rattle.std.proofs.Common.{◌≡◌, ◌≢◌, ◌⊎◌, ℕ, Bool, true, false, List, [], ◌∷◌, ◌++◌, append_assoc, map, sym, refl, ap, ap₂, ◌∙◌, subst, subst₂, inl, inr, ⊎_elim, arith, IsPermutation}
+use Rattle.std.proofs.Common.{◌≡◌, ◌⊎◌, ℕ, true, false, List, [], ◌∷◌, ◌++◌, append_assoc, map, sym, refl, ap, ◌∙◌, subst, subst₂, inl, inr, ⊎_elim, arith, IsPermutation}
 use Rattle.std.specs.Prelude.{Option, Some, drop, find, take}
 use Rattle.std.specs.List.{Contains, flat_map}
 use Rattle.std.specs.Option.{option_map_or}
@@ -8,7 +8,7 @@ use Rattle.std.proofs.lemmas.List.{map-append}
 use Rattle.std.proofs.lemmas.List.Sorted.{IsPermutation-append, IsPermutation-append_comm, IsPermutation-append_left, IsPermutation-append_right, IsPermutation-cons, IsPermutation-middle, IsPermutation-refl, IsPermutation-sym, IsPermutation-trans}
 use Rattle.cp_lists.specs.CyclicLists.{Distinct, Has, Lacks}
 use Rattle.cp_lists.specs.Rows.{flat}
-use Rattle.cp_lists.proofs.DistinctLists.{Distinct-apart, Distinct-apart_right, Distinct-append_left, Distinct-append_right, Has-append_cases, Has-append_left, Has-append_right, Lacks-append_left, Lacks-append_right, Lacks-from, has_lacks}
+use Rattle.cp_lists.proofs.DistinctLists.{Distinct-apart, Distinct-apart_right, Distinct-append_right, Has-append_cases, Has-append_left, Has-append_right, Lacks-from, has_lacks}
 use Rattle.cp_orbits.proofs.ClassLabels.{Contains-cons_cases}
 use Rattle.cp_base.specs.declared.shape.Branch.{Branch}
 use Rattle.cp_base.specs.Shapes.{leaves}
@@ -59,6 +59,7 @@ mutual
       subst (λ zs. IsPermutation (top ∷ (tops ++ row_tails rows)) (map f zs ++ top ∷ es)) (sym (leaves_Q kids))
       (under_top top (tops ++ row_tails rows) (map f (flat_map leaves kids)) es (kids-tails f kids tops vs es rows all))
 
+  -- the same of the kids of a node
   kids-tails : (f : ℕ → ℕ) (kids : List Branch) (tops vs es : List ℕ) (rows : List Planted)
       → PlantsAll f kids tops vs es rows
       → IsPermutation (tops ++ row_tails rows) (map f (flat_map leaves kids) ++ es)
@@ -83,7 +84,8 @@ Led seen [] = Unit {0}
 Led seen (r ∷ rows) = ((x : ℕ) → Has x (take 1 r.edges) → Has x seen) × Led (seen ++ drop 1 r.edges) rows
 
 -- where more was seen
-led-more : (seen more : List ℕ) (rows : List Planted) → ((x : ℕ) → Has x seen → Has x more) → Led seen rows → Led more rows
+led-more : (seen more : List ℕ) (rows : List Planted) → ((x : ℕ) → Has x seen → Has x more) → Led seen rows
+    → Led more rows
 led-more seen more [] inside h = tt
 led-more seen more (r ∷ rows) inside h = (
   (λ x k. inside x (h.0 x k)),
@@ -117,6 +119,7 @@ mutual
     kids-Led f kids tops vs es rows all (seen ++ tops) (λ x k. Has-append_right x seen tops k),
   )
 
+  -- the same of the kids of a node
   kids-Led : (f : ℕ → ℕ) (kids : List Branch) (tops vs es : List ℕ) (rows : List Planted)
       → PlantsAll f kids tops vs es rows → (seen : List ℕ) → ((x : ℕ) → Has x tops → Has x seen) → Led seen rows
   kids-Led f _ _ _ _ _ PlantsAll.none seen h = tt
@@ -130,15 +133,18 @@ head_or_tail : (es : List ℕ) (x : ℕ) → Has x es → Has x (take 1 es) ⊎ 
 head_or_tail [] x h = absurd h
 head_or_tail (e ∷ es) x h = ⊎_elim (λ s. inl (inl s)) (λ k. inr k) h
 
+-- an item behind the first is one of the list
 tail_item : (es : List ℕ) (x : ℕ) → Has x (drop 1 es) → Has x es
 tail_item [] x h = absurd h
 tail_item (e ∷ es) x h = inr h
 
 -- an edge to a kid of one row is one of all
-pub tail_of_row : (rows : List Planted) (r : Planted) (x : ℕ) → Contains rows r → Has x (drop 1 r.edges) → Has x (row_tails rows)
+pub tail_of_row : (rows : List Planted) (r : Planted) (x : ℕ) → Contains rows r → Has x (drop 1 r.edges)
+    → Has x (row_tails rows)
 tail_of_row [] r x c h = absurd (omega (arith, c.1))
 tail_of_row (q ∷ rows) r x c h = ⊎_elim
-    (λ (e : q ≡ r). Has-append_left x (drop 1 q.edges) (row_tails rows) (subst (λ (y : Planted). Has x (drop 1 y.edges)) (sym e) h))
+    (λ (e : q ≡ r). Has-append_left x (drop 1 q.edges) (row_tails rows)
+    (subst (λ (y : Planted). Has x (drop 1 y.edges)) (sym e) h))
     (λ k. Has-append_right x (drop 1 q.edges) (row_tails rows) (tail_of_row rows r x k h))
     (Contains-cons_cases q r rows c)
 
@@ -166,7 +172,8 @@ holder-of_row seen (q ∷ rows) led once r x c h =
     (λ b. has_lacks x tail b not_tail)
     (head_or_tail q.edges x g))) in
     ap (λ o. option_map_or (λ (y : Planted). y.vertex) o 0) (cond-false (has q.edges x) (Some q) rest none)
-    ∙ holder-of_row (seen ++ tail) rows led.1 (subst Distinct (sym (append_assoc seen tail (row_tails rows))) once) r x k h)
+    ∙ holder-of_row (seen ++ tail) rows led.1 (subst Distinct
+    (sym (append_assoc seen tail (row_tails rows))) once) r x k h)
     (Contains-cons_cases q r rows c)
 
 -- no edge from above of a row goes to a kid of it
@@ -179,6 +186,8 @@ top-no_tail seen (q ∷ rows) led once r x c top h =
     (λ (e : q ≡ r).
     let t : Has x tail = subst (λ (y : Planted). Has x (drop 1 y.edges)) (sym e) h in
     has_lacks x (tail ++ row_tails rows) (Has-append_left x tail (row_tails rows) t)
-    (Distinct-apart x seen (tail ++ row_tails rows) once (led.0 x (subst (λ (y : Planted). Has x (take 1 y.edges)) (sym e) top))))
-    (λ k. top-no_tail (seen ++ tail) rows led.1 (subst Distinct (sym (append_assoc seen tail (row_tails rows))) once) r x k top h)
+    (Distinct-apart x seen (tail ++ row_tails rows) once (led.0 x
+    (subst (λ (y : Planted). Has x (take 1 y.edges)) (sym e) top))))
+    (λ k. top-no_tail (seen ++ tail) rows led.1 (subst Distinct
+    (sym (append_assoc seen tail (row_tails rows))) once) r x k top h)
     (Contains-cons_cases q r rows c)

@@ -40,7 +40,8 @@ use Rattle.cp_plantlaw.proofs.ToldTrees.{HaveOneForm}
 use Rattle.cp_plantlaw.proofs.ReadWords.{IsRead, no_top, node_reads, node_word, rows-IsRead, word-ReadsEach}
 
 -- each row is one of all
-own_rows : (all hs bs : List Planted) → ((r : Planted) → Contains hs r → Contains all r) → (R : Planted → Planted → Type 0)
+own_rows : (all hs bs : List Planted) → ((r : Planted) → Contains hs r → Contains all r)
+    → (R : Planted → Planted → Type 0)
     → AllZip R hs bs → AllZip (λ a b. Contains all a) hs bs
 own_rows all [] [] inside R z = tt
 own_rows all [] (b ∷ bs) inside R z = absurd z
@@ -64,6 +65,7 @@ module _ (i j : Synchronized) (is_i : IsSynchronized i) (is_j : IsSynchronized j
   abbrev w : ℕ
   w = opposite p u
 
+  -- the partner of an edge of u
   abbrev phi : ℕ → ℕ
   phi = partner p u
 
@@ -72,6 +74,7 @@ module _ (i j : Synchronized) (is_i : IsSynchronized i) (is_j : IsSynchronized j
   fresh_u x y h k = fresh_other (edge_names i) (prop.edges_u ++ prop.edges_w) x y prop.new_edges
       (Has-append_left x prop.edges_u prop.edges_w h) k
 
+  -- the root edge and the leaves are edges of i
   leaf_live : (x : ℕ) → Has x (shape.root ∷ leaves shape.body) → Has x (edge_names i)
   leaf_live x h =
       let all : List ℕ = shape.root ∷ leaves shape.body in
@@ -80,18 +83,22 @@ module _ (i j : Synchronized) (is_i : IsSynchronized i) (is_j : IsSynchronized j
       (Has-IsPermutation x all (edges_of i u) (IsPermutation-sym (edges_of i u) all
       (edges_u-leaves i j is_i p live u end shape edges_u prop)) h))).0
 
+  -- they are different
   leaves_once : Distinct (shape.root ∷ leaves shape.body)
   leaves_once = Distinct-IsPermutation (edges_of i u) (shape.root ∷ leaves shape.body)
       (edges_u-leaves i j is_i p live u end shape edges_u prop)
       (filter-Distinct (ends_at (graph i) u) (edge_names i) (edges_once i is_i))
 
+  -- the edges from above of the first tree
   tops_are : row_tops prop.rows_u ≡ shape.root ∷ prop.edges_u
   tops_are = tops_u i j is_i p live u end shape edges_u prop
 
+  -- no edge is from above of two rows
   tops_once : Distinct (row_tops prop.rows_u)
   tops_once = subst Distinct (sym tops_are) (
     Lacks-from shape.root prop.edges_u (λ h. fresh_u shape.root shape.root h (leaf_live shape.root (inl refl)) refl),
-    Distinct-append_left prop.edges_u prop.edges_w (fresh_once (edge_names i) (prop.edges_u ++ prop.edges_w) prop.new_edges),
+    Distinct-append_left prop.edges_u prop.edges_w (fresh_once (edge_names i)
+        (prop.edges_u ++ prop.edges_w) prop.new_edges),
   )
 
   -- a leaf begins no row
@@ -105,12 +112,14 @@ module _ (i j : Synchronized) (is_i : IsSynchronized i) (is_j : IsSynchronized j
     -- the list of a vertex of a row has each edge once
     row_list_once : (a : Planted) → Contains prop.rows_u a → Distinct (t a.vertex)
     row_list_once a c =
-        let all : List ℕ = map (λ v. v.name) (old_verts i j p u shape prop) ++ (row_verts prop.rows_u ++ row_verts prop.rows_w) in
+        let all : List ℕ = map (λ v. v.name) (old_verts i j p u shape prop) ++
+        (row_verts prop.rows_u ++ row_verts prop.rows_w) in
         let here : Has a.vertex (row_verts prop.rows_u) =
         (Has-Contains a.vertex (row_verts prop.rows_u)).1 (map_has (λ (r : Planted). r.vertex) prop.rows_u a c) in
         let live_a : Contains (vert_names j) a.vertex =
         Contains-permutation all (vert_names j) a.vertex (verts_named i j p u shape prop) ((Has-Contains a.vertex all).0
-        (Has-append_right a.vertex (map (λ v. v.name) (old_verts i j p u shape prop)) (row_verts prop.rows_u ++ row_verts prop.rows_w)
+        (Has-append_right a.vertex (map (λ v. v.name) (old_verts i j p u shape prop))
+        (row_verts prop.rows_u ++ row_verts prop.rows_w)
         (Has-append_left a.vertex (row_verts prop.rows_u) (row_verts prop.rows_w) here))) in
         Distinct-IsPermutation (edges_of j a.vertex) (t a.vertex)
         (All-contains (λ x. ArrangesEdges (graph j) x (t x)) (vert_names j) a.vertex sol.rotation.arranged live_a)
@@ -121,11 +130,13 @@ module _ (i j : Synchronized) (is_i : IsSynchronized i) (is_j : IsSynchronized j
     HasRow x = (r : Planted) × Contains prop.rows_u r × (take 1 r.edges ≡ take 1 x.1) × (r.vertex ≡ x.0)
         × IsTurn x.1 (t x.0) × Distinct (t x.0)
 
+    -- the rows of the trees have planted rows and lists
     rows_have : (rs : List PairedRow) → AreLaid phi prop.rows_u prop.rows_w rs → AllByRecursion (Holds t) rs
         → AllByRecursion (λ r. HasRow (first_row r)) rs
     rows_have rs laid good =
         let R : Planted → Planted → Type 0 = λ (a b : Planted). Contains prop.rows_u a in
-        let S : PairedRow → Type 0 = λ (r : PairedRow). (a : Planted) × Contains prop.rows_u a × (take 1 a.edges ≡ take 1 r.edges)
+        let S : PairedRow → Type 0 = λ (r : PairedRow). (a : Planted) × Contains prop.rows_u a ×
+        (take 1 a.edges ≡ take 1 r.edges)
         × (a.vertex ≡ r.vertex.0) in
         all_then (λ r. S r × Holds t r) (λ r. HasRow (first_row r)) rs
         (λ r h. (h.0.0, h.0.1, h.0.2, h.0.3, h.1.0, subst (λ x. Distinct (t x)) h.0.3 (row_list_once h.0.0 h.0.1)))
@@ -177,6 +188,7 @@ module _ (i j : Synchronized) (is_i : IsSynchronized i) (is_j : IsSynchronized j
     abbrev told_leaf_word : List ℕ
     told_leaf_word = told_word i j is_i is_j p live u end shape edges_u prop t sol
 
+    -- it is what is read below the root edge, and nothing else is
     told_read : ReadsBelow prop.rows_u t shape.root told_leaf_word
         × ((xs : List ℕ) → ReadsBelow prop.rows_u t shape.root xs → xs ≡ told_leaf_word)
     told_read =

@@ -41,7 +41,8 @@ propagate-IsSynchronized i j is pipe u shape allowed after small =
     let both : Some allowed.0 ≡ Some after.0 = sym allowed.1 ∙ after.1 in
     let same : allowed.0 ≡ after.0 = cc in
     let fits : IsFitting i after.0 u shape = subst (λ (q : Pipe). IsFitting i q u shape) same allowed.2 in
-    IsSynchronized-propagated i j is after.0 (found-Contains (λ q. eqb q.name pipe) i.pipes after.0 after.1) u fits.end shape
+    IsSynchronized-propagated i j is after.0
+    (found-Contains (λ q. eqb q.name pipe) i.pipes after.0 after.1) u fits.end shape
     fits.leaves after.2 small
 
 -- a step that is allowed on an instance, and what it makes of it
@@ -74,7 +75,8 @@ module _ (i j : Synchronized) (is_i : IsSynchronized i) (is_j : IsSynchronized j
   solution-Admits s sol = fitting.admits (s u) (Solves-IsBlockOrder i is_i s sol u shape.root root_edge fitting.uncut)
 
   -- lists read back from a solution after the step solve the instance before it
-  pub propagate-Solves_before : (t s : ℕ → List ℕ) → Solves j t → IsReadBack i p u shape.root after.2.rows_u t s → Solves i s
+  pub propagate-Solves_before : (t s : ℕ → List ℕ) → Solves j t → IsReadBack i p u shape.root after.2.rows_u t s
+      → Solves i s
   propagate-Solves_before t s sol back =
       read_back-Solves i j is_i is_j p live u fitting.end shape fitting.leaves after.2 t sol s back
 

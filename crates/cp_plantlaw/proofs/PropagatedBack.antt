@@ -46,7 +46,8 @@ use Rattle.cp_plantlaw.proofs.RowPairs.{turn-IsPermutation, zip_both, zip_then}
 use Rattle.cp_plantlaw.proofs.ToldTrees.{HaveOrder, ToldAs, branch-ToldAs}
 
 -- an item that passes the test is one of those that a filter keeps
-kept_Contains : {A : Type 0} (q : A → Bool) (xs : List A) (x : A) → Contains xs x → q x ≡ true → Contains (filter q xs) x
+kept_Contains : {A : Type 0} (q : A → Bool) (xs : List A) (x : A) → Contains xs x → q x ≡ true
+    → Contains (filter q xs) x
 kept_Contains q [] x c t = absurd (omega (arith, c.1))
 kept_Contains q (y ∷ xs) x c t = ⊎_elim
     (λ (e : y ≡ x). let ty : q y ≡ true = ap q e ∙ t in rw (ty) (0, omega arith, e))
@@ -67,6 +68,7 @@ module _ (i j : Synchronized) (is_i : IsSynchronized i) (p : Pipe) (live : Conta
   abbrev w : ℕ
   w = opposite p u
 
+  -- the partner of an edge of u
   abbrev phi : ℕ → ℕ
   phi = partner p u
 
@@ -82,7 +84,8 @@ module _ (i j : Synchronized) (is_i : IsSynchronized i) (p : Pipe) (live : Conta
       (inl refl, inr (inl refl)) (inr (inl refl), inl refl) u end
 
   -- another pipe has neither as an end
-  pub other_pipe : (q : Pipe) → Contains i.pipes q → q.name ≢ p.name → (x : ℕ) → Has x (q.a ∷ q.b ∷ []) → (x ≢ u) × (x ≢ w)
+  pub other_pipe : (q : Pipe) → Contains i.pipes q → q.name ≢ p.name → (x : ℕ) → Has x (q.a ∷ q.b ∷ [])
+      → (x ≢ u) × (x ≢ w)
   other_pipe q c ne x h = (
     (λ e. ne (ap (λ (z : Pipe). z.name) (one_owner (λ (z : Pipe). z.a ∷ z.b ∷ []) i.pipes q p x is_i.ends_apart c live h
         (subst (λ y. Has y (p.a ∷ p.b ∷ [])) (sym e) ends_are.0)))),
@@ -105,7 +108,8 @@ module _ (i j : Synchronized) (is_i : IsSynchronized i) (p : Pipe) (live : Conta
       (λ (s : v.name ≡ x). (0, omega arith, s))
       (λ ne.
       let rest : kind_in vs x ≡ Some P =
-      sym (ap (option_map (λ (y : Vert). y.kind)) (cond-false (eqb v.name x) (Some v) (find (λ y. eqb y.name x) vs) (ne_eqb v.name x ne))) ∙ e in
+      sym (ap (option_map (λ (y : Vert). y.kind)) (cond-false (eqb v.name x) (Some v) (find (λ y. eqb y.name x) vs)
+      (ne_eqb v.name x ne))) ∙ e in
       let c = kind_live vs x rest in
       (suc c.0, omega (arith, c.1), c.2))
       (cases_eq v.name x)
@@ -150,6 +154,7 @@ module _ (i j : Synchronized) (is_i : IsSynchronized i) (is_j : IsSynchronized j
   abbrev other_end : ℕ
   other_end = opposite p u
 
+  -- the partner of an edge of u
   abbrev mate_of : ℕ → ℕ
   mate_of = partner p u
 
@@ -158,7 +163,8 @@ module _ (i j : Synchronized) (is_i : IsSynchronized i) (is_j : IsSynchronized j
   staying = map (λ v. v.name) (old_verts i j p u shape prop)
 
   -- a row of the first tree is no empty one
-  pub not_leaf : (good : PairedRow → Type 0) (x : ℕ) → KidsLaid mate_of good (Kid.leaf x ∷ []) prop.rows_u prop.rows_w → ⊥
+  pub not_leaf : (good : PairedRow → Type 0) (x : ℕ) → KidsLaid mate_of good (Kid.leaf x ∷ []) prop.rows_u prop.rows_w
+      → ⊥
   not_leaf good x laid = none prop.rows_u prop.rows_w laid.rows laid.laid
       (let n = length_permutation laid.rows [] laid.same in omega (arith, n))
       (rows_some i j is_i p live u end shape edges_u prop)
@@ -181,7 +187,8 @@ module _ (i j : Synchronized) (is_i : IsSynchronized i) (is_j : IsSynchronized j
       → All (λ x. ArrangesEdges (graph j) x (t x)) (vert_names j)
       → HasGenusZero (system (graph i) s)
       ↔ HasGenusZero (system (graph j) t)
-  trees-HasGenusZero t s (Kid.leaf x) tops laid arr at_u at_w kept arranged_s arranged_t = absurd (not_leaf (Holds t) x laid)
+  trees-HasGenusZero t s (Kid.leaf x) tops laid arr at_u at_w kept arranged_s arranged_t = absurd
+      (not_leaf (Holds t) x laid)
   trees-HasGenusZero t s (Kid.node v g inner) tops laid arr at_u at_w kept arranged_s arranged_t =
       node-HasGenusZero i j is_i is_j p live u end shape edges_u prop t v g inner tops laid arr s at_u at_w kept
       arranged_s arranged_t
@@ -200,12 +207,14 @@ module _ (i j : Synchronized) (is_i : IsSynchronized i) (is_j : IsSynchronized j
     abbrev PipeOk : Pipe → Type 0
     PipeOk q = IsMirror (second_of q) (t q.a) (t q.b)
 
+    -- a vertex has its psi in the direction of its cell
     abbrev VertOk : Vert → Type 0
     VertOk v = IsInDirection sol.back (t v.name) v.kind
 
     -- the order of two rows of one place
     one_order : (a b : Planted) → Has a.vertex (row_verts prop.rows_u) → HaveEdges i j p u shape prop is_j a b
-        → PairHas i j p u shape prop PipeOk VertOk a b → (fixed : Bool) → a.fixed ≡ fixed → HaveOrder mate_of (Holds t) a b
+        → PairHas i j p u shape prop PipeOk VertOk a b → (fixed : Bool) → a.fixed ≡ fixed → HaveOrder mate_of
+        (Holds t) a b
     one_order a b here edges pair true e =
         let k = pair.1 e in directed-HaveOrder mate_of t a b (sol.back k.0) k.1 k.2
     one_order a b here edges pair false e =
@@ -234,12 +243,14 @@ module _ (i j : Synchronized) (is_i : IsSynchronized i) (is_j : IsSynchronized j
     -- the two trees of these lists, which are read from the shape
     pub told : ToldAs mate_of (Holds t) shape.body (shape.root, mate_of shape.root) prop.rows_u prop.rows_w
     told = branch-ToldAs mate_of (Holds t) shape.body shape.root prop.at_u (shape.root ∷ prop.edges_u) prop.rows_u
-        (mate_of shape.root) prop.at_w (mate_of shape.root ∷ prop.edges_w) prop.rows_w prop.planted_u prop.planted_w orders
+        (mate_of shape.root) prop.at_w
+        (mate_of shape.root ∷ prop.edges_w) prop.rows_w prop.planted_u prop.planted_w orders
 
     -- the leaves that they read
     abbrev pub told_word : List ℕ
     told_word = kid_word told.kid
 
+    -- they are the leaves of the shape, in some order
     pub told_leaves : IsPermutation (leaves shape.body) told_word
     told_leaves = reads-leaves shape.body told_word told.reads
 
@@ -264,7 +275,8 @@ module _ (i j : Synchronized) (is_i : IsSynchronized i) (is_j : IsSynchronized j
           (λ nw.
           let h : Has x staying = old_Has i j is_i p live u end shape edges_u prop x c nu nw in
           subst (IsPermutation (edges_of i x)) (sym (kept x h))
-          (IsPermutation-trans (edges_of i x) (edges_of j x) (t x) (edges_stay i j is_i p live u end shape edges_u prop x h)
+          (IsPermutation-trans (edges_of i x) (edges_of j x) (t x)
+          (edges_stay i j is_i p live u end shape edges_u prop x h)
           (All-contains (λ y. ArrangesEdges (graph j) y (t y)) (vert_names j) x sol.rotation.arranged
           (Contains-permutation (staying ++ (row_verts prop.rows_u ++ row_verts prop.rows_w)) (vert_names j) x
           (verts_named i j p u shape prop)
@@ -279,8 +291,10 @@ module _ (i j : Synchronized) (is_i : IsSynchronized i) (is_j : IsSynchronized j
         rotation = record {
           arranged = arranged_s;
           flat = (trees-HasGenusZero t s told.kid told.same_tops told.laid told_leaves at_u
-              (turn-trans (mate_of shape.root ∷ reverse (map mate_of told_word)) (reverse (map mate_of (shape.root ∷ told_word))) (s other_end)
-              (turn-sym (reverse (map mate_of (shape.root ∷ told_word))) (mate_of shape.root ∷ reverse (map mate_of told_word))
+              (turn-trans (mate_of shape.root ∷ reverse (map mate_of told_word))
+              (reverse (map mate_of (shape.root ∷ told_word))) (s other_end)
+              (turn-sym (reverse (map mate_of (shape.root ∷ told_word)))
+              (mate_of shape.root ∷ reverse (map mate_of told_word))
               (turn_back (mate_of shape.root) (map mate_of told_word))) at_w)
               kept arranged_s sol.rotation.arranged).1 sol.rotation.flat;
         };
@@ -293,24 +307,33 @@ module _ (i j : Synchronized) (is_i : IsSynchronized i) (is_j : IsSynchronized j
             subst (λ (z : Pipe). IsMirror (second_of z) (s z.a) (s z.b)) (sym same)
             ((mirrors i j is_i p live u end shape edges_u prop).mirrors s
             (All-contains (λ x. ArrangesEdges (graph i) x (s x)) (vert_names i) u arranged_s
-            ((kind_live i j is_i p live u end shape edges_u prop) i.verts u ((live_end i j is_i p live u end shape edges_u prop) p live u (ends_are i j is_i p live u end shape edges_u prop).0)))
+            ((kind_live i j is_i p live u end shape edges_u prop) i.verts u
+            ((live_end i j is_i p live u end shape edges_u prop) p live u
+            (ends_are i j is_i p live u end shape edges_u prop).0)))
             (turn-trans (reverse (map mate_of (s u))) (reverse (map mate_of (shape.root ∷ told_word))) (s other_end)
             (turn-reverse (map mate_of (s u)) (map mate_of (shape.root ∷ told_word))
             (turn-map mate_of (s u) (shape.root ∷ told_word) (turn-sym (shape.root ∷ told_word) (s u) at_u))) at_w)))
             (λ ne.
-            let one : s q.a ≡ t q.a = kept q.a ((other_stays i j is_i p live u end shape edges_u prop) q c ne q.a (inl refl)) in
-            let two : s q.b ≡ t q.b = kept q.b ((other_stays i j is_i p live u end shape edges_u prop) q c ne q.b (inr (inl refl))) in
+            let one : s q.a ≡ t q.a = kept q.a ((other_stays i j is_i p live u end shape edges_u prop) q c ne q.a
+            (inl refl)) in
+            let two : s q.b ≡ t q.b = kept q.b ((other_stays i j is_i p live u end shape edges_u prop) q c ne q.b
+            (inr (inl refl))) in
             subst₂ (λ (xs ys : List ℕ). IsMirror (second_of q) xs ys) (sym one) (sym two)
-            (All-contains (λ (z : Pipe). IsMirror (second_of z) (t z.a) (t z.b)) j.pipes q sol.mirrored ((other_in_j i j is_i p live u end shape edges_u prop) q c ne)))
+            (All-contains (λ (z : Pipe). IsMirror (second_of z) (t z.a) (t z.b)) j.pipes q sol.mirrored
+            ((other_in_j i j is_i p live u end shape edges_u prop) q c ne)))
             (cases_eq q.name p.name));
         back = sol.back;
         in_direction = All-from_items (λ v. IsInDirection sol.back (s v.name) v.kind) i.verts
             (λ v c. ⊎_elim
             (λ (e : v.name ≡ u). subst (IsInDirection sol.back (s v.name))
-            (sym ((end_kind i j is_i p live u end shape edges_u prop) v c (subst (λ y. Has y (p.a ∷ p.b ∷ [])) (sym e) (ends_are i j is_i p live u end shape edges_u prop).0))) tt)
+            (sym ((end_kind i j is_i p live u end shape edges_u prop) v c
+            (subst (λ y. Has y (p.a ∷ p.b ∷ [])) (sym e)
+            (ends_are i j is_i p live u end shape edges_u prop).0))) tt)
             (λ nu. ⊎_elim
             (λ (e : v.name ≡ other_end). subst (IsInDirection sol.back (s v.name))
-            (sym ((end_kind i j is_i p live u end shape edges_u prop) v c (subst (λ y. Has y (p.a ∷ p.b ∷ [])) (sym e) (ends_are i j is_i p live u end shape edges_u prop).1))) tt)
+            (sym ((end_kind i j is_i p live u end shape edges_u prop) v c
+            (subst (λ y. Has y (p.a ∷ p.b ∷ [])) (sym e)
+            (ends_are i j is_i p live u end shape edges_u prop).1))) tt)
             (λ nw.
             let live_v : Contains (vert_names i) v.name = map_has (λ (z : Vert). z.name) i.verts v c in
             let same : s v.name ≡ t v.name =

@@ -34,7 +34,7 @@ use Rattle.cp_synclaw.proofs.InstanceDarts.{edges_once, live_at, verts_once}
 use Rattle.cp_plantlaw.proofs.EndPartners.{MirrorsFrom, by_end, end-MirrorsFrom, found_own}
 use Rattle.cp_plantlaw.proofs.FreshNames.{has-false, has-true, fresh_once, fresh_other}
 use Rattle.cp_plantlaw.proofs.MovedEnds.{IsMoved, moved_at}
-use Rattle.cp_plantlaw.proofs.PropagatedRows.{all_edges, edges_keep, leaf_held, new_edges, old_verts, place, row_edges, row_verts, verts_named}
+use Rattle.cp_plantlaw.proofs.PropagatedRows.{all_edges, edges_keep, leaf_held, new_edges, old_verts, place, row_edges, row_verts}
 
 -- the first row that has an item x among what `pick` takes of it, if there is one, has one of the vertices
 first_in : (pick : Planted → List ℕ) (rows : List Planted) (x : ℕ) → Has x (flat (map pick rows))
@@ -90,6 +90,7 @@ mutual
   planted-tops f _ _ _ _ _ (Plants.fixed kids top v tops vs es rows all) =
       ap (λ zs. top ∷ zs) (kids-tops f kids tops vs es rows all)
 
+  -- the same of the kids of a node
   kids-tops : (f : ℕ → ℕ) (kids : List Branch) (tops vs es : List ℕ) (rows : List Planted)
       → PlantsAll f kids tops vs es rows → row_tops rows ≡ es
   kids-tops f _ _ _ _ _ PlantsAll.none = refl
@@ -108,6 +109,7 @@ mutual
   planted-verts f _ _ _ _ _ (Plants.fixed kids top v tops vs es rows all) =
       ap (λ zs. v ∷ zs) (kids-verts f kids tops vs es rows all)
 
+  -- the same of the kids of a node
   kids-verts : (f : ℕ → ℕ) (kids : List Branch) (tops vs es : List ℕ) (rows : List Planted)
       → PlantsAll f kids tops vs es rows → row_verts rows ≡ vs
   kids-verts f _ _ _ _ _ PlantsAll.none = refl
@@ -149,6 +151,7 @@ Has_kept q (y ∷ xs) x h = ⊎_elim
     (λ b. let g : Has x (filter q xs) = rw (b) at h in let r = Has_kept q xs x g in (inr r.0, r.1))
     (cases_Bool (q y))
 
+-- what a filter keeps of distinct items is distinct
 Distinct_kept : (q : ℕ → Bool) (xs : List ℕ) → Distinct xs → Distinct (filter q xs)
 Distinct_kept q [] d = tt
 Distinct_kept q (y ∷ xs) d = ⊎_elim
@@ -156,7 +159,8 @@ Distinct_kept q (y ∷ xs) d = ⊎_elim
     (λ b. rw (b) (Distinct_kept q xs d.1))
     (cases_Bool (q y))
 
--- an instance with a pipe p and one end u of it, a shape whose leaves are the edges of u, and what Propagate makes of it
+-- an instance with a pipe p and one end u of it, a shape whose leaves are the edges of u, and what Propagate makes of
+-- it
 module _ (i j : Synchronized) (is_i : IsSynchronized i) (p : Pipe) (live : Contains i.pipes p)
     (u : ℕ) (end : IsEnd p u) (shape : Shape)
     (edges_u : rising (shape.root ∷ leaves shape.body) ≡ edges_of i u) (prop : IsPropagated i p u shape j) where
@@ -164,6 +168,7 @@ module _ (i j : Synchronized) (is_i : IsSynchronized i) (p : Pipe) (live : Conta
   abbrev pub w : ℕ
   w = opposite p u
 
+  -- the partner of an edge of u
   abbrev pub mate : ℕ → ℕ
   mate = partner p u
 
@@ -171,12 +176,15 @@ module _ (i j : Synchronized) (is_i : IsSynchronized i) (p : Pipe) (live : Conta
   pub differ : p.a ≢ p.b
   differ = (All-contains (HasRightEnds i.verts) i.pipes p is_i.ends_free live).differ
 
+  -- the pairs of the pipe are right
   pub right : HasRightPairs (graph i) p
   right = All-contains (HasRightPairs (graph i)) i.pipes p is_i.pairs_right live
 
+  -- the two ends are two vertices
   pub u_not_w : u ≢ w
   u_not_w = by_end i is_i p differ right (λ x y there back. x ≢ y) differ (λ e. differ (sym e)) u end
 
+  -- lists of both ends mirror each other, seen from u
   pub mirrors : MirrorsFrom i is_i p differ right u w mate (λ x. partner p w x)
   mirrors = end-MirrorsFrom i is_i p differ right u end
 
@@ -184,6 +192,7 @@ module _ (i j : Synchronized) (is_i : IsSynchronized i) (p : Pipe) (live : Conta
   pub edges_u-leaves : IsPermutation (edges_of i u) (shape.root ∷ leaves shape.body)
   edges_u-leaves = arranged (edges_of i u) (shape.root ∷ leaves shape.body) edges_u
 
+  -- the edges of the other end are the partners of the leaves and of the root edge
   pub edges_w-leaves : IsPermutation (edges_of i w) (reverse (map mate (shape.root ∷ leaves shape.body)))
   edges_w-leaves = mirrors.arranges (shape.root ∷ leaves shape.body) edges_u-leaves
 
@@ -203,7 +212,8 @@ module _ (i j : Synchronized) (is_i : IsSynchronized i) (p : Pipe) (live : Conta
   pub held_u : (x : ℕ) → Contains (edges_of i u) x → Has x (row_edges prop.rows_u)
   held_u x c =
       let h : Has x (shape.root ∷ leaves shape.body) =
-      Has-IsPermutation x (edges_of i u) (shape.root ∷ leaves shape.body) edges_u-leaves ((Has-Contains x (edges_of i u)).1 c) in
+      Has-IsPermutation x (edges_of i u) (shape.root ∷ leaves shape.body) edges_u-leaves
+      ((Has-Contains x (edges_of i u)).1 c) in
       let root : Has shape.root (row_edges prop.rows_u) = rows_some in
       ⊎_elim
       (λ e. subst (λ y. Has y (row_edges prop.rows_u)) e root)
@@ -215,7 +225,8 @@ module _ (i j : Synchronized) (is_i : IsSynchronized i) (p : Pipe) (live : Conta
   held_w x c =
       let all : List ℕ = shape.root ∷ leaves shape.body in
       let h : Has x (reverse (map mate all)) =
-      Has-IsPermutation x (edges_of i w) (reverse (map mate all)) edges_w-leaves ((Has-Contains x (edges_of i w)).1 c) in
+      Has-IsPermutation x (edges_of i w) (reverse (map mate all)) edges_w-leaves
+      ((Has-Contains x (edges_of i w)).1 c) in
       let y = map_on-Has mate x all (reverse-Has x (map mate all) h) in
       let root : Has (mate shape.root) (row_edges prop.rows_w) =
       root_held mate shape.body (mate shape.root) prop.at_w (mate shape.root ∷ prop.edges_w) prop.rows_w prop.planted_w
@@ -223,7 +234,8 @@ module _ (i j : Synchronized) (is_i : IsSynchronized i) (p : Pipe) (live : Conta
       let there : Has (mate y.0) (row_edges prop.rows_w) = ⊎_elim
       (λ e. subst (λ z. Has z (row_edges prop.rows_w)) (ap mate e) root)
       (λ k. ⊎_elim (λ e. subst (λ z. Has z (row_edges prop.rows_w)) e root) (λ l. l)
-      (leaf_held mate shape.body (mate shape.root) prop.at_w (mate shape.root ∷ prop.edges_w) prop.rows_w y.0 prop.planted_w k))
+      (leaf_held mate shape.body (mate shape.root) prop.at_w
+      (mate shape.root ∷ prop.edges_w) prop.rows_w y.0 prop.planted_w k))
       y.1 in
       subst (λ z. Has z (row_edges prop.rows_w)) y.2 there
 
@@ -245,6 +257,7 @@ module _ (i j : Synchronized) (is_i : IsSynchronized i) (p : Pipe) (live : Conta
   abbrev stays : ℕ → Bool
   stays x = not (has (u ∷ w ∷ []) x)
 
+  -- they are the names that pass the test
   old_kept : old ≡ filter stays (vert_names i)
   old_kept = kept_names stays i.verts
 
@@ -255,6 +268,7 @@ module _ (i j : Synchronized) (is_i : IsSynchronized i) (p : Pipe) (live : Conta
       (kept_Has stays (vert_names i) x ((Has-Contains x (vert_names i)).1 c)
       (ap not (has-false (u ∷ w ∷ []) x ((λ e. nu (sym e)), ((λ e. nw (sym e)), tt)))))
 
+  -- a vertex that stays is live, and none of the two ends
   pub Has_old : (x : ℕ) → Has x old → Contains (vert_names i) x × (x ≢ u) × (x ≢ w)
   Has_old x h =
       let k = Has_kept stays (vert_names i) x (subst (Has x) old_kept h) in (
@@ -289,17 +303,21 @@ module _ (i j : Synchronized) (is_i : IsSynchronized i) (p : Pipe) (live : Conta
   abbrev at_u : List ℕ
   at_u = row_verts prop.rows_u
 
+  -- the vertices of the second tree
   abbrev at_w : List ℕ
   at_w = row_verts prop.rows_w
 
   -- the vertices of the rows are the new names
   pub verts_u : at_u ≡ prop.at_u
-  verts_u = planted-verts (λ y. y) shape.body shape.root prop.at_u (shape.root ∷ prop.edges_u) prop.rows_u prop.planted_u
+  verts_u = planted-verts (λ y. y) shape.body shape.root prop.at_u
+      (shape.root ∷ prop.edges_u) prop.rows_u prop.planted_u
 
+  -- the vertices of the second tree are the new names
   pub verts_w : at_w ≡ prop.at_w
   verts_w = planted-verts mate shape.body (mate shape.root) prop.at_w (mate shape.root ∷ prop.edges_w) prop.rows_w
       prop.planted_w
 
+  -- no vertex of j has two names
   pub names_once : Distinct (old ++ (at_u ++ at_w))
   names_once =
       let new : at_u ++ at_w ≡ prop.at_u ++ prop.at_w = ap₂ (λ (xs ys : List ℕ). xs ++ ys) verts_u verts_w in
@@ -320,7 +338,8 @@ module _ (i j : Synchronized) (is_i : IsSynchronized i) (p : Pipe) (live : Conta
       map-append name moved (tu ++ tw)
       ∙ ap₂ (λ (xs ys : List ℕ). xs ++ ys) (moved_names i.edges)
       (map-append name tu tw
-      ∙ ap₂ (λ (xs ys : List ℕ). xs ++ ys) (tree_names prop.rows_u prop.edges_u) (tree_names prop.rows_w prop.edges_w)) in
+      ∙ ap₂ (λ (xs ys : List ℕ). xs ++ ys) (tree_names prop.rows_u prop.edges_u)
+      (tree_names prop.rows_w prop.edges_w)) in
       subst (λ zs. IsPermutation zs (edge_names j)) same
       (IsPermutation-map name (all_edges i j p u shape prop) j.edges (edges_keep i j p u shape prop))
     where
@@ -332,6 +351,7 @@ module _ (i j : Synchronized) (is_i : IsSynchronized i) (p : Pipe) (live : Conta
       moved_names [] = refl
       moved_names (e ∷ es) = ap (λ zs. e.name ∷ zs) (moved_names es)
 
+      -- the names of the edges of a tree
       tree_names : (rows : List Planted) (es : List ℕ) → map (λ (e : EdgeRow). e.name) (tree_edges rows es) ≡ es
       tree_names rows [] = refl
       tree_names rows (e ∷ es) = ap (λ zs. e ∷ zs) (tree_names rows es)
@@ -348,9 +368,11 @@ module _ (i j : Synchronized) (is_i : IsSynchronized i) (p : Pipe) (live : Conta
   abbrev pub back : ℕ → ℕ
   back x = cond (has at_u x) u (cond (has at_w x) w x)
 
+  -- an end at the first tree came from u
   pub back_u : (x : ℕ) → Has x at_u → back x ≡ u
   back_u x h = cond-true (has at_u x) u (cond (has at_w x) w x) (has-true at_u x h)
 
+  -- an end at the second tree came from the other end
   pub back_w : (x : ℕ) → Has x at_w → back x ≡ w
   back_w x h =
       let apart : Lacks x at_u =
@@ -358,6 +380,7 @@ module _ (i j : Synchronized) (is_i : IsSynchronized i) (p : Pipe) (live : Conta
       cond-false (has at_u x) u (cond (has at_w x) w x) (has-false at_u x apart)
       ∙ cond-true (has at_w x) w x (has-true at_w x h)
 
+  -- an end at a vertex that stays was there
   back_old : (x : ℕ) → Has x old → back x ≡ x
   back_old x h =
       let apart : Lacks x (at_u ++ at_w) = Distinct-apart x old (at_u ++ at_w) names_once h in
@@ -368,15 +391,18 @@ module _ (i j : Synchronized) (is_i : IsSynchronized i) (p : Pipe) (live : Conta
   abbrev pub put : ℕ → ℕ → ℕ
   put = place i j p u shape prop
 
+  -- an end at u moves to the holder of its edge
   pub put_u : (e : ℕ) → put u e ≡ holder prop.rows_u e
   put_u e = cond-true (eqb u u) (holder prop.rows_u e) (cond (eqb u w) (holder prop.rows_w e) u) (eq-eqb u u refl)
 
+  -- so does one at the other end
   pub put_w : (e : ℕ) → put w e ≡ holder prop.rows_w e
   put_w e =
       cond-false (eqb w u) (holder prop.rows_u e) (cond (eqb w w) (holder prop.rows_w e) w)
       (ne_eqb w u (λ s. u_not_w (sym s)))
       ∙ cond-true (eqb w w) (holder prop.rows_w e) w (eq-eqb w w refl)
 
+  -- an end elsewhere stays
   pub put_old : (x e : ℕ) → x ≢ u → x ≢ w → put x e ≡ x
   put_old x e nu nw =
       cond-false (eqb x u) (holder prop.rows_u e) (cond (eqb x w) (holder prop.rows_w e) x) (ne_eqb x u nu)
@@ -425,10 +451,12 @@ module _ (i j : Synchronized) (is_i : IsSynchronized i) (p : Pipe) (live : Conta
   ends-IsMoved = record {
     live = λ e c.
         let r = map_from (λ (x : EdgeRow). x.name) i.edges e c in
-        subst (Contains (edge_names j)) r.2 (map_has (λ (x : EdgeRow). x.name) j.edges (moved_row r.0) (row_of_j r.0 r.1));
+        subst (Contains (edge_names j)) r.2 (map_has (λ (x : EdgeRow). x.name) j.edges (moved_row r.0)
+        (row_of_j r.0 r.1));
     ends = λ e c.
         let r = map_from (λ (x : EdgeRow). x.name) i.edges e c in
-        let old_ends : (r.0.a, r.0.b) ≡ ends_of i e = sym (ends_by_row i (edges_once i is_i) r.0 r.1) ∙ ap (ends_of i) r.2 in
+        let old_ends : (r.0.a, r.0.b) ≡ ends_of i e = sym (ends_by_row i (edges_once i is_i) r.0 r.1) ∙ ap
+        (ends_of i) r.2 in
         ap (ends_of j) (sym r.2) ∙ ends_by_row j edges_j_once (moved_row r.0) (row_of_j r.0 r.1)
         ∙ ap₂ (λ (x : ℕ × ℕ) (n : ℕ). (put x.0 n, put x.1 n)) old_ends r.2;
     home = home;
@@ -456,6 +484,7 @@ module _ (i j : Synchronized) (is_i : IsSynchronized i) (p : Pipe) (live : Conta
   pub tops_u : row_tops prop.rows_u ≡ shape.root ∷ prop.edges_u
   tops_u = planted-tops (λ y. y) shape.body shape.root prop.at_u (shape.root ∷ prop.edges_u) prop.rows_u prop.planted_u
 
+  -- the edges from above of the second tree
   pub tops_w : row_tops prop.rows_w ≡ mate shape.root ∷ prop.edges_w
   tops_w = planted-tops mate shape.body (mate shape.root) prop.at_w (mate shape.root ∷ prop.edges_w) prop.rows_w
       prop.planted_w
@@ -485,7 +514,8 @@ module _ (i j : Synchronized) (is_i : IsSynchronized i) (p : Pipe) (live : Conta
       let row_ends : ends_of j e ≡ (r.0.a, r.0.b) = ap (ends_of j) (sym r.2) ∙ ends_by_row j edges_j_once r.0 r.1 in
       let moved : List EdgeRow = moved_edges i (λ y v. put v y) in
       let here : (r.0.a ≡ x) ⊎ (r.0.b ≡ x) = ⊎_elim
-      (λ (s : ((ends_of j e).0 ≡ x) × ((ends_of j e).1 ≡ far (graph j) x e)). inl (sym (ap (λ (y : ℕ × ℕ). y.0) row_ends) ∙ s.0))
+      (λ (s : ((ends_of j e).0 ≡ x) × ((ends_of j e).1 ≡ far (graph j) x e)). inl
+      (sym (ap (λ (y : ℕ × ℕ). y.0) row_ends) ∙ s.0))
       (λ s. inr (sym (ap (λ (y : ℕ × ℕ). y.1) row_ends) ∙ s.1))
       (far_joins (graph j) x e k.1) in
       let case : Contains moved r.0 ⊎ Contains (new_edges i j p u shape prop) r.0 =
@@ -496,8 +526,10 @@ module _ (i j : Synchronized) (is_i : IsSynchronized i) (p : Pipe) (live : Conta
       (λ m.
       let q = map_from moved_row i.edges r.0 m in
       let named : q.0.name ≡ e = ap (λ (y : EdgeRow). y.name) q.2 ∙ r.2 in
-      let live_e : Contains (edge_names i) e = subst (Contains (edge_names i)) named (map_has (λ (y : EdgeRow). y.name) i.edges q.0 q.1) in
-      let old_ends : ends_of i e ≡ (q.0.a, q.0.b) = ap (ends_of i) (sym named) ∙ ends_by_row i (edges_once i is_i) q.0 q.1 in
+      let live_e : Contains (edge_names i) e = subst (Contains (edge_names i)) named
+      (map_has (λ (y : EdgeRow). y.name) i.edges q.0 q.1) in
+      let old_ends : ends_of i e ≡ (q.0.a, q.0.b) = ap (ends_of i) (sym named) ∙ ends_by_row i
+      (edges_once i is_i) q.0 q.1 in
       let at_a : Contains (edges_of i q.0.a) e = Contains-edges_at (graph i) q.0.a e live_e
       (joins_ends (graph i) q.0.a q.0.b e (inl (ap (λ (y : ℕ × ℕ). y.0) old_ends, ap (λ (y : ℕ × ℕ). y.1) old_ends))) in
       let at_b : Contains (edges_of i q.0.b) e = Contains-edges_at (graph i) q.0.b e live_e

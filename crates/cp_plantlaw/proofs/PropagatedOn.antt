@@ -84,7 +84,8 @@ IsDirected t a b bit = IsTurn (directed bit (turned_to_least a.edges)) (t a.vert
     × IsTurn (directed bit (turned_to_least (reverse b.edges))) (t b.vertex)
 
 -- the directions of all cells, from those of the Q-nodes
-abbrev pub bits_of : (t : ℕ → List ℕ) (cs : List ℕ) (hs bs : List Planted) → AllZip (λ a b. (bit : Bool) × IsDirected t a b bit) hs bs
+abbrev pub bits_of : (t : ℕ → List ℕ) (cs : List ℕ) (hs bs : List Planted) → AllZip
+    (λ a b. (bit : Bool) × IsDirected t a b bit) hs bs
     → List (ℕ × Bool)
 bits_of t [] hs bs z = []
 bits_of t (c ∷ cs) [] bs z = []
@@ -106,10 +107,16 @@ pub bits_verts : (t : ℕ → List ℕ) (back : ℕ → Bool) (cs : List ℕ) (h
     → ((b : ℕ × Bool) → Contains (bits_of t cs hs bs z) b → back b.0 ≡ b.1)
     → All (λ v. IsInDirection back (t v.name) v.kind) (fixed_verts (λ es. es) cs hs)
     × All (λ v. IsInDirection back (t v.name) v.kind) (fixed_verts reverse cs bs)
-bits_verts t back [] hs bs z found =
-    (All-nil (λ (v : Vert). IsInDirection back (t v.name) v.kind), All-nil (λ (v : Vert). IsInDirection back (t v.name) v.kind))
-bits_verts t back (c ∷ cs) [] [] z found =
-    (All-nil (λ (v : Vert). IsInDirection back (t v.name) v.kind), All-nil (λ (v : Vert). IsInDirection back (t v.name) v.kind))
+bits_verts t back [] hs bs z found = (
+  All-nil (λ (v : Vert). IsInDirection back (t v.name) v.kind),
+  All-nil
+      (λ (v : Vert). IsInDirection back (t v.name) v.kind),
+)
+bits_verts t back (c ∷ cs) [] [] z found = (
+  All-nil (λ (v : Vert). IsInDirection back (t v.name) v.kind),
+  All-nil
+      (λ (v : Vert). IsInDirection back (t v.name) v.kind),
+)
 bits_verts t back (c ∷ cs) [] (b ∷ bs) z found = absurd z
 bits_verts t back (c ∷ cs) (a ∷ hs) [] z found = absurd z
 bits_verts t back (c ∷ cs) (a ∷ hs) (b ∷ bs) z found =
@@ -123,7 +130,8 @@ bits_verts t back (c ∷ cs) (a ∷ hs) (b ∷ bs) z found =
     )
 
 -- lists that are in a direction
-directed_back : (bit : Bool) (es ts : List ℕ) → IsTurn (directed bit es) ts → IsTurn (directed bit (turned_to_least es)) ts
+directed_back : (bit : Bool) (es ts : List ℕ) → IsTurn (directed bit es) ts
+    → IsTurn (directed bit (turned_to_least es)) ts
 directed_back true es ts turn =
     turn-trans (reverse (turned_to_least es)) (reverse es) ts
     (turn-sym (reverse es) (reverse (turned_to_least es))
@@ -132,18 +140,22 @@ directed_back false es ts turn =
     turn-trans (turned_to_least es) es ts (turn-sym es (turned_to_least es) (turned_to_least-IsTurn es)) turn
 
 -- a row that is laid on two Q-nodes, with its lists
-module _ (partner : ℕ → ℕ) (t : ℕ → List ℕ) (a b : Planted) (r : PairedRow) (laid : IsLaid partner a b r) (holds : Holds t r)
+module _ (partner : ℕ → ℕ) (t : ℕ → List ℕ) (a b : Planted) (r : PairedRow) (laid : IsLaid partner a b r)
+    (holds : Holds t r)
   where
     -- the lists of the two vertices
     abbrev xs : List ℕ
     xs = map (λ k. k.0) laid.kids
 
+    -- the list of the second vertex, without its edge from above
     abbrev ys : List ℕ
     ys = map (λ k. k.1) laid.kids
 
+    -- the list of the first vertex
     at_first : IsTurn (laid.top.0 ∷ map (λ k. k.0) laid.order) (t a.vertex)
     at_first = subst (λ (z : PairedRow). IsTurn z.edges (t z.vertex.0)) laid.same_row holds.0
 
+    -- the list of the second vertex
     at_second : IsTurn (laid.top.1 ∷ reverse (map (λ k. k.1) laid.order)) (t b.vertex)
     at_second = subst (λ (z : PairedRow). IsTurn z.others (t z.vertex.1)) laid.same_row holds.1
 
@@ -168,12 +180,14 @@ module _ (partner : ℕ → ℕ) (t : ℕ → List ℕ) (a b : Planted) (r : Pai
             directed_back true a.edges (t a.vertex)
                 (subst (λ ws. IsTurn (reverse ws) (t a.vertex)) (sym laid.edges_a)
                 (turn-trans (reverse (laid.top.0 ∷ xs)) (laid.top.0 ∷ reverse xs) (t a.vertex) (turn_back laid.top.0 xs)
-                (subst (λ ws. IsTurn (laid.top.0 ∷ ws) (t a.vertex)) (ap (map (λ (k : ℕ × ℕ). k.0)) same ∙ map-reverse (λ (k : ℕ × ℕ). k.0) laid.kids)
+                (subst (λ ws. IsTurn (laid.top.0 ∷ ws) (t a.vertex))
+                (ap (map (λ (k : ℕ × ℕ). k.0)) same ∙ map-reverse (λ (k : ℕ × ℕ). k.0) laid.kids)
                 at_first))),
             directed_back true (reverse b.edges) (t b.vertex)
                 (subst (λ ws. IsTurn ws (t b.vertex)) (sym (reverse-reverse b.edges ∙ laid.edges_b))
                 (subst (λ ws. IsTurn (laid.top.1 ∷ ws) (t b.vertex))
-                (ap reverse (ap (map (λ (k : ℕ × ℕ). k.1)) same ∙ map-reverse (λ (k : ℕ × ℕ). k.1) laid.kids) ∙ reverse-reverse ys) at_second)),
+                (ap reverse (ap (map (λ (k : ℕ × ℕ). k.1)) same ∙ map-reverse (λ (k : ℕ × ℕ). k.1) laid.kids)
+                ∙ reverse-reverse ys) at_second)),
           ),
         ))
         (laid.allowed.kept fixed)
@@ -191,6 +205,8 @@ module _ (partner : ℕ → ℕ) (t : ℕ → List ℕ) (a b : Planted) (r : Pai
         ap₂ (λ (x : ℕ) zs. x ∷ zs) mates.0 (seconds_by star laid.order kids) in
         turn-trans (reverse (map star (t a.vertex))) (reverse (laid.top.1 ∷ map (λ k. k.1) laid.order)) (t b.vertex)
         (subst (λ ws. IsTurn (reverse (map star (t a.vertex))) (reverse ws)) image
-        (turn-reverse (map star (t a.vertex)) (map star us) (turn-map star (t a.vertex) us (turn-sym us (t a.vertex) at_first))))
-        (turn-trans (reverse (laid.top.1 ∷ map (λ k. k.1) laid.order)) (laid.top.1 ∷ reverse (map (λ k. k.1) laid.order)) (t b.vertex)
+        (turn-reverse (map star (t a.vertex)) (map star us) (turn-map star (t a.vertex) us
+        (turn-sym us (t a.vertex) at_first))))
+        (turn-trans (reverse (laid.top.1 ∷ map (λ k. k.1) laid.order))
+        (laid.top.1 ∷ reverse (map (λ k. k.1) laid.order)) (t b.vertex)
         (turn_back laid.top.1 (map (λ k. k.1) laid.order)) at_second)

@@ -51,11 +51,13 @@ mutual
   leaf_held f _ _ _ _ _ x (Plants.fixed kids top v tops vs es rows all) h =
       inr (inr (leaves_held f kids tops vs es rows x all (subst (Has x) (leaves_Q kids) h)))
 
+  -- the same of the kids of a node
   leaves_held : (f : ℕ → ℕ) (kids : List Branch) (tops vs es : List ℕ) (rows : List Planted) (x : ℕ)
       → PlantsAll f kids tops vs es rows → Has x (flat_map leaves kids) → Has (f x) (tops ++ row_edges rows)
   leaves_held f _ _ _ _ _ x PlantsAll.none h = absurd h
   leaves_held f _ _ _ _ _ x (PlantsAll.more k ks top tops us vs ds es rows more_rows one rest) h =
-      let joined : row_edges (rows ++ more_rows) ≡ row_edges rows ++ row_edges more_rows = row_edges-append rows more_rows in
+      let joined : row_edges (rows ++ more_rows)
+      ≡ row_edges rows ++ row_edges more_rows = row_edges-append rows more_rows in
       subst (λ zs. Has (f x) ((top ∷ tops) ++ zs)) (sym joined)
       (⊎_elim
       (λ l. ⊎_elim
@@ -71,10 +73,12 @@ mutual
       (Has-append_cases x (leaves k) (flat_map leaves ks) h))
 
 -- the vertices of P-nodes and of Q-nodes are those of all nodes
-kinds_together : (rows : List Planted) → IsPermutation (row_verts (free_nodes rows) ++ row_verts (fixed_nodes rows)) (row_verts rows)
+kinds_together : (rows : List Planted)
+    → IsPermutation (row_verts (free_nodes rows) ++ row_verts (fixed_nodes rows)) (row_verts rows)
 kinds_together rows =
     IsPermutation-sym (row_verts rows) (row_verts (free_nodes rows) ++ row_verts (fixed_nodes rows))
-    (subst (IsPermutation (row_verts rows)) (map-append (λ (r : Planted). r.vertex) (free_nodes rows) (fixed_nodes rows))
+    (subst (IsPermutation (row_verts rows)) (map-append (λ (r : Planted). r.vertex) (free_nodes rows)
+    (fixed_nodes rows))
     (IsPermutation-map (λ r. r.vertex) rows (free_nodes rows ++ fixed_nodes rows)
     (IsPermutation-filter_both (λ r. not r.fixed) (λ r. r.fixed) (λ r. twice r.fixed) rows)))
   where
@@ -88,7 +92,8 @@ fixed_names : (direction : List ℕ → List ℕ) (cells : List ℕ) (hs : List 
 fixed_names direction [] [] e = refl
 fixed_names direction [] (a ∷ hs) e = absurd (omega (arith, e))
 fixed_names direction (c ∷ cells) [] e = refl
-fixed_names direction (c ∷ cells) (a ∷ hs) e = ap (λ zs. a.vertex ∷ zs) (fixed_names direction cells hs (omega (arith, e)))
+fixed_names direction (c ∷ cells) (a ∷ hs) e = ap (λ zs. a.vertex ∷ zs)
+    (fixed_names direction cells hs (omega (arith, e)))
 
 -- the names of P-vertices
 free_names : (hs : List Planted) → map (λ v. v.name) (map (λ r. free_vert r.vertex) hs) ≡ row_verts hs
@@ -115,9 +120,11 @@ module _ (i j : Synchronized) (p : Pipe) (u : ℕ) (shape : Shape) (prop : IsPro
       (zip_then HaveOneForm (λ a b. (b.fixed ≡ a.fixed) × (a.fixed ≡ true → HaveOneForm a b))
       prop.rows_u prop.rows_w (λ a b h. (h.0, λ t. h)) forms)
 
+  -- both trees have as many P-nodes
   free_count : length (free_nodes prop.rows_w) ≡ length (free_nodes prop.rows_u)
   free_count = sym (zip_length HaveOneForm (free_nodes prop.rows_u) (free_nodes prop.rows_w) free_forms)
 
+  -- both trees have as many Q-nodes
   pub fixed_count : length (fixed_nodes prop.rows_w) ≡ length (fixed_nodes prop.rows_u)
   fixed_count = sym (zip_length HaveOneForm (fixed_nodes prop.rows_u) (fixed_nodes prop.rows_w) fixed_forms)
 
@@ -125,13 +132,16 @@ module _ (i j : Synchronized) (p : Pipe) (u : ℕ) (shape : Shape) (prop : IsPro
   abbrev pub old_verts : List Vert
   old_verts = other_verts i (u ∷ opposite p u ∷ [])
 
+  -- the new P-vertices
   abbrev pub new_free : List Vert
   new_free = map (λ r. free_vert r.vertex) (free_nodes prop.rows_u ++ free_nodes prop.rows_w)
 
+  -- the new Q-vertices
   abbrev pub new_fixed : List Vert
   new_fixed = fixed_verts (λ es. es) prop.new_cells (fixed_nodes prop.rows_u)
       ++ fixed_verts reverse prop.new_cells (fixed_nodes prop.rows_w)
 
+  -- all vertices of j
   abbrev pub all_verts : List Vert
   all_verts = old_verts ++ (new_free ++ new_fixed)
 
@@ -144,6 +154,7 @@ module _ (i j : Synchronized) (p : Pipe) (u : ℕ) (shape : Shape) (prop : IsPro
       ∙ ap (by_name (λ v. v.name))
       (append_assoc (old_verts ++ new_free) fu fw ∙ append_assoc old_verts new_free (fu ++ fw))
 
+  -- in any order they are those of j
   pub verts_keep : IsPermutation all_verts j.verts
   verts_keep = subst (IsPermutation all_verts) (sym verts_ordered) (by_name_keeps (λ v. v.name) all_verts)
 
@@ -151,6 +162,7 @@ module _ (i j : Synchronized) (p : Pipe) (u : ℕ) (shape : Shape) (prop : IsPro
   abbrev pub new_pipes : List Pipe
   new_pipes = node_pipes prop.names (free_nodes prop.rows_u) (free_nodes prop.rows_w)
 
+  -- all pipes of j
   abbrev pub all_pipes : List Pipe
   all_pipes = other_pipes i (p.name ∷ []) ++ new_pipes
 
@@ -166,6 +178,7 @@ module _ (i j : Synchronized) (p : Pipe) (u : ℕ) (shape : Shape) (prop : IsPro
   abbrev pub new_edges : List EdgeRow
   new_edges = tree_edges prop.rows_u prop.edges_u ++ tree_edges prop.rows_w prop.edges_w
 
+  -- all edges of j
   abbrev pub all_edges : List EdgeRow
   all_edges = moved_edges i (λ e v. place v e) ++ new_edges
 
@@ -173,14 +186,17 @@ module _ (i j : Synchronized) (p : Pipe) (u : ℕ) (shape : Shape) (prop : IsPro
   pub edges_ordered : j.edges ≡ by_name (λ e. e.name) all_edges
   edges_ordered =
       prop.edges
-      ∙ ap (by_name (λ e. e.name)) (append_assoc (moved_edges i (λ e v. place v e)) (tree_edges prop.rows_u prop.edges_u)
+      ∙ ap (by_name (λ e. e.name)) (append_assoc (moved_edges i (λ e v. place v e))
+      (tree_edges prop.rows_u prop.edges_u)
       (tree_edges prop.rows_w prop.edges_w))
 
+  -- in any order they are those of j
   pub edges_keep : IsPermutation all_edges j.edges
   edges_keep = subst (IsPermutation all_edges) (sym edges_ordered) (by_name_keeps (λ e. e.name) all_edges)
 
   -- the names of the vertices of j: those that stay, and those of both trees
-  pub verts_named : IsPermutation (map (λ v. v.name) old_verts ++ (row_verts prop.rows_u ++ row_verts prop.rows_w)) (vert_names j)
+  pub verts_named : IsPermutation (map (λ v. v.name) old_verts ++ (row_verts prop.rows_u ++ row_verts prop.rows_w))
+      (vert_names j)
   verts_named =
       let old : List ℕ = map (λ v. v.name) old_verts in
       let fu : List ℕ = row_verts (free_nodes prop.rows_u) in
@@ -199,7 +215,8 @@ module _ (i j : Synchronized) (p : Pipe) (u : ℕ) (shape : Shape) (prop : IsPro
       (fixed_names (λ es. es) prop.new_cells (fixed_nodes prop.rows_u) prop.one_cell_each)
       (fixed_names reverse prop.new_cells (fixed_nodes prop.rows_w) (prop.one_cell_each ∙ sym fixed_count)))) in
       let named : IsPermutation (old ++ ((fu ++ fw) ++ (qu ++ qw))) (vert_names j) =
-      subst (λ zs. IsPermutation zs (vert_names j)) whole (IsPermutation-map (λ v. v.name) all_verts j.verts verts_keep) in
+      subst (λ zs. IsPermutation zs (vert_names j)) whole (IsPermutation-map
+      (λ v. v.name) all_verts j.verts verts_keep) in
       let both : IsPermutation (row_verts prop.rows_u ++ row_verts prop.rows_w) ((fu ++ qu) ++ (fw ++ qw)) =
       IsPermutation-append (row_verts prop.rows_u) (fu ++ qu) (row_verts prop.rows_w) (fw ++ qw)
       (IsPermutation-sym (fu ++ qu) (row_verts prop.rows_u) (kinds_together prop.rows_u))
@@ -207,7 +224,8 @@ module _ (i j : Synchronized) (p : Pipe) (u : ℕ) (shape : Shape) (prop : IsPro
       IsPermutation-trans (old ++ (row_verts prop.rows_u ++ row_verts prop.rows_w)) (old ++ ((fu ++ fw) ++ (qu ++ qw)))
       (vert_names j)
       (IsPermutation-append_right old (row_verts prop.rows_u ++ row_verts prop.rows_w) ((fu ++ fw) ++ (qu ++ qw))
-      (IsPermutation-trans (row_verts prop.rows_u ++ row_verts prop.rows_w) ((fu ++ qu) ++ (fw ++ qw)) ((fu ++ fw) ++ (qu ++ qw))
+      (IsPermutation-trans (row_verts prop.rows_u ++ row_verts prop.rows_w) ((fu ++ qu) ++ (fw ++ qw))
+      ((fu ++ fw) ++ (qu ++ qw))
       both (middle fu qu fw qw))) named
     where
       middle : (ws xs ys zs : List ℕ) → IsPermutation ((ws ++ xs) ++ (ys ++ zs)) ((ws ++ ys) ++ (xs ++ zs))
@@ -226,6 +244,7 @@ module _ (i j : Synchronized) (p : Pipe) (u : ℕ) (shape : Shape) (prop : IsPro
       (not a.fixed ≡ true → (n : ℕ) × R (node_pipe n a b))
       × (a.fixed ≡ true → (c : ℕ) × S (node_vert (λ es. es) c a) × S (node_vert reverse c b))
 
+  -- so it holds at each two rows
   pub all_pairs : (R : Pipe → Type 0) (S : Vert → Type 0) → All R j.pipes → All S j.verts
       → AllZip (PairHas R S) prop.rows_u prop.rows_w
   all_pairs R S pipes verts =
@@ -253,6 +272,7 @@ module _ (i j : Synchronized) (p : Pipe) (u : ℕ) (shape : Shape) (prop : IsPro
     abbrev pub HaveEdges : Planted → Planted → Type 0
     HaveEdges a b = IsPermutation a.edges (edges_of j a.vertex) × IsPermutation b.edges (edges_of j b.vertex)
 
+    -- two P-nodes, whose pairs are right
     free_edges : (a b : Planted) (n : ℕ) → length b.edges ≡ length a.edges → HasRightPairs (graph j) (node_pipe n a b)
         → HaveEdges a b
     free_edges a b n size right =
@@ -262,11 +282,13 @@ module _ (i j : Synchronized) (p : Pipe) (u : ℕ) (shape : Shape) (prop : IsPro
               (subst (IsPermutation (map (λ x. x.0) pairs)) right.first
               (IsPermutation-map (λ x. x.0) pairs (by_name (λ x. x.0) pairs) kept)),
           subst (λ zs. IsPermutation zs (edges_of j b.vertex)) (second_zip a.edges b.edges size)
-              (IsPermutation-trans (map (λ x. x.1) pairs) (map (λ x. x.1) (by_name (λ x. x.0) pairs)) (edges_of j b.vertex)
+              (IsPermutation-trans (map (λ x. x.1) pairs) (map (λ x. x.1) (by_name (λ x. x.0) pairs))
+              (edges_of j b.vertex)
               (IsPermutation-map (λ x. x.1) pairs (by_name (λ x. x.0) pairs) kept)
               (IsPermutation-sym (edges_of j b.vertex) (map (λ x. x.1) (by_name (λ x. x.0) pairs)) right.second)),
         )
 
+    -- a psi that arranges the edges of a vertex
     arranged_psi : (v : ℕ) (es : List ℕ) → IsPermutation (edges_of j v) (turned_to_least es)
         → IsPermutation es (edges_of j v)
     arranged_psi v es arr =
@@ -274,6 +296,7 @@ module _ (i j : Synchronized) (p : Pipe) (u : ℕ) (shape : Shape) (prop : IsPro
         (turn-IsPermutation es (turned_to_least es) (turned_to_least-IsTurn es))
         (IsPermutation-sym (edges_of j v) (turned_to_least es) arr)
 
+    -- so each two rows of one place have the edges of their vertices
     pub rows-HaveEdges : AllZip HaveEdges prop.rows_u prop.rows_w
     rows-HaveEdges =
         let R : Pipe → Type 0 = HasRightPairs (graph j) in

@@ -1,7 +1,6 @@
 -- Propagate forwards: the lists of both trees, and the old lists elsewhere, solve the instance after it.
 use Rattle.std.proofs.Common.{◌≡◌, ◌≢◌, ℕ, Bool, true, not, List, [], ◌∷◌, ◌++◌, map, reverse, sym, refl, ap, ap₂, ◌∙◌, subst, subst₂, inl, inr, ⊎_elim, IsPermutation}
 use Rattle.std.specs.List.{All, AllByRecursion, AllZip, Contains}
-use Rattle.std.proofs.lemmas.Bool.{false≢true}
 use Rattle.std.proofs.lemmas.List.{map-append}
 use Rattle.std.proofs.lemmas.List.Elements.{All-append, All-contains, All-cons, All-filter, All-nil, Contains-append_left, Contains-append_right, filter_passes}
 use Rattle.std.proofs.lemmas.List.Sorted.{All-permutation, IsPermutation-sym, IsPermutation-trans}
@@ -81,6 +80,7 @@ module _ (i j : Synchronized) (is_i : IsSynchronized i) (is_j : IsSynchronized j
   abbrev w : ℕ
   w = opposite p u
 
+  -- the partner of an edge of u
   abbrev phi : ℕ → ℕ
   phi = partner p u
 
@@ -92,6 +92,7 @@ module _ (i j : Synchronized) (is_i : IsSynchronized i) (is_j : IsSynchronized j
   abbrev hs : List Planted
   hs = prop.rows_u
 
+  -- the rows of the second tree
   abbrev bs : List Planted
   bs = prop.rows_w
 
@@ -108,6 +109,7 @@ module _ (i j : Synchronized) (is_i : IsSynchronized i) (is_j : IsSynchronized j
   abbrev pub lists : List (ℕ × List ℕ)
   lists = map first_row rs ++ map second_row rs
 
+  -- they have the names of the vertices of both trees
   names_are : map (λ r. r.0) lists ≡ row_verts hs ++ row_verts bs
   names_are =
       let l = laid_verts phi hs bs rs read.laid.laid in
@@ -115,6 +117,7 @@ module _ (i j : Synchronized) (is_i : IsSynchronized i) (is_j : IsSynchronized j
       ∙ ap₂ (λ (xs ys : List ℕ). xs ++ ys) (map_map first_row (λ (r : ℕ × List ℕ). r.0) rs ∙ l.0)
       (map_map second_row (λ (r : ℕ × List ℕ). r.0) rs ∙ l.1)
 
+  -- no name stands twice
   pub lists_once : Distinct (map (λ r. r.0) lists)
   lists_once = subst Distinct (sym names_are)
       (Distinct-append_right stay (row_verts hs ++ row_verts bs) (names_once i j is_i p live u end shape edges_u prop))
@@ -123,6 +126,7 @@ module _ (i j : Synchronized) (is_i : IsSynchronized i) (is_j : IsSynchronized j
   abbrev pub t : ℕ → List ℕ
   t = listed lists lists_once s
 
+  -- a vertex that stays keeps its list
   t_stay : (x : ℕ) → Has x stay → t x ≡ s x
   t_stay x h = listed_other lists lists_once s x (subst (Lacks x) (sym names_are)
       (Distinct-apart x stay (row_verts hs ++ row_verts bs) (names_once i j is_i p live u end shape edges_u prop) h))
@@ -131,11 +135,14 @@ module _ (i j : Synchronized) (is_i : IsSynchronized i) (is_j : IsSynchronized j
   holds : AllByRecursion (Holds t) rs
   holds = all-by_items (Holds t) rs (λ r c. (
     subst (IsTurn r.edges) (sym (listed_row lists lists_once s (first_row r)
-        (Contains-append_left (map first_row rs) (map second_row rs) (first_row r) (map_has first_row rs r c)))) (turn-refl r.edges),
+        (Contains-append_left (map first_row rs) (map second_row rs) (first_row r) (map_has first_row rs r c))))
+        (turn-refl r.edges),
     subst (IsTurn r.others) (sym (listed_row lists lists_once s (second_row r)
-        (Contains-append_right (map first_row rs) (map second_row rs) (second_row r) (map_has second_row rs r c)))) (turn-refl r.others),
+        (Contains-append_right (map first_row rs) (map second_row rs) (second_row r) (map_has second_row rs r c))))
+        (turn-refl r.others),
   ))
 
+  -- the trees, with these lists
   laid : KidsLaid phi (Holds t) (read.kid ∷ []) hs bs
   laid = record { rows = rs; laid = read.laid.laid; same = read.laid.same; all_good = holds }
 
@@ -143,6 +150,7 @@ module _ (i j : Synchronized) (is_i : IsSynchronized i) (is_j : IsSynchronized j
   abbrev E : Planted → Planted → Type 0
   E = HaveEdges i j p u shape prop is_j
 
+  -- the edges of the vertices of two rows are those of the rows
   edges : AllZip E hs bs
   edges = rows-HaveEdges i j p u shape prop is_j
 
@@ -153,13 +161,16 @@ module _ (i j : Synchronized) (is_i : IsSynchronized i) (is_j : IsSynchronized j
       (filter-Distinct (ends_at (graph j) a.vertex) (edge_names j) (edges_once j is_j))
 
   -- the lists of two rows arrange their edges
-  rows_arranged : AllZip (λ a b. IsPermutation (edges_of j a.vertex) (t a.vertex) × IsPermutation (edges_of j b.vertex) (t b.vertex)) hs bs
+  rows_arranged : AllZip (λ a b. IsPermutation (edges_of j a.vertex) (t a.vertex) × IsPermutation
+      (edges_of j b.vertex) (t b.vertex)) hs bs
   rows_arranged =
       zip_then (λ a b. E a b × (IsPermutation a.edges (t a.vertex) × IsPermutation b.edges (t b.vertex)))
       (λ a b. IsPermutation (edges_of j a.vertex) (t a.vertex) × IsPermutation (edges_of j b.vertex) (t b.vertex)) hs bs
       (λ a b h. (
-        IsPermutation-trans (edges_of j a.vertex) a.edges (t a.vertex) (IsPermutation-sym a.edges (edges_of j a.vertex) h.0.0) h.1.0,
-        IsPermutation-trans (edges_of j b.vertex) b.edges (t b.vertex) (IsPermutation-sym b.edges (edges_of j b.vertex) h.0.1) h.1.1,
+        IsPermutation-trans (edges_of j a.vertex) a.edges (t a.vertex)
+            (IsPermutation-sym a.edges (edges_of j a.vertex) h.0.0) h.1.0,
+        IsPermutation-trans (edges_of j b.vertex) b.edges (t b.vertex)
+            (IsPermutation-sym b.edges (edges_of j b.vertex) h.0.1) h.1.1,
       ))
       (zip_both E (λ a b. IsPermutation a.edges (t a.vertex) × IsPermutation b.edges (t b.vertex)) hs bs edges
       (zip-laid phi (Holds t) (λ a b. IsPermutation a.edges (t a.vertex) × IsPermutation b.edges (t b.vertex))
@@ -176,7 +187,8 @@ module _ (i j : Synchronized) (is_i : IsSynchronized i) (is_j : IsSynchronized j
   -- so all lists arrange the edges of their vertices
   arranged_t : All (λ x. ArrangesEdges (graph j) x (t x)) (vert_names j)
   arranged_t =
-      let at = at_verts (λ x. IsPermutation (edges_of j x) (t x)) (λ x. IsPermutation (edges_of j x) (t x)) hs bs rows_arranged in
+      let at = at_verts (λ x. IsPermutation (edges_of j x) (t x))
+      (λ x. IsPermutation (edges_of j x) (t x)) hs bs rows_arranged in
       let all : List ℕ = stay ++ (row_verts hs ++ row_verts bs) in
       All-permutation (λ x. ArrangesEdges (graph j) x (t x)) all (vert_names j) (verts_named i j p u shape prop)
       (All-from_items (λ x. ArrangesEdges (graph j) x (t x)) all
@@ -218,19 +230,23 @@ module _ (i j : Synchronized) (is_i : IsSynchronized i) (is_j : IsSynchronized j
   abbrev Mirrored : Pipe → Type 0
   Mirrored q = IsMirror (second_of q) (t q.a) (t q.b)
 
+  -- the pipes that stay are mirrored
   old_mirrored : All Mirrored (other_pipes i (p.name ∷ []))
   old_mirrored =
       let test : Pipe → Bool = λ (q : Pipe). not (has (p.name ∷ []) q.name) in
       let base : All (λ q. q.name ≢ p.name → Mirrored q) i.pipes =
       All-from_items (λ q. q.name ≢ p.name → Mirrored q) i.pipes (λ q c ne.
-      let one : t q.a ≡ s q.a = t_stay q.a (other_stays i j is_i p live u end shape edges_u prop q c ne q.a (inl refl)) in
-      let two : t q.b ≡ s q.b = t_stay q.b (other_stays i j is_i p live u end shape edges_u prop q c ne q.b (inr (inl refl))) in
+      let one : t q.a ≡ s q.a = t_stay q.a (other_stays i j is_i p live u end shape edges_u prop q c ne q.a
+      (inl refl)) in
+      let two : t q.b ≡ s q.b = t_stay q.b (other_stays i j is_i p live u end shape edges_u prop q c ne q.b
+      (inr (inl refl))) in
       subst₂ (λ (xs ys : List ℕ). IsMirror (second_of q) xs ys) (sym one) (sym two)
       (All-contains (λ (z : Pipe). IsMirror (second_of z) (s z.a) (s z.b)) i.pipes q sol.mirrored c)) in
       let kept = All-filter test (λ q. q.name ≢ p.name → Mirrored q) i.pipes base in
       let passes = filter_passes test i.pipes in
       λ k d lt. kept k d lt (λ e. passed (p.name ∷ []) _ (passes k d lt) p.name (inl refl) e)
 
+  -- the pipes of the P-nodes are mirrored
   new_mirrored : All Mirrored (new_pipes i j p u shape prop)
   new_mirrored =
       let R : Planted → Planted → Type 0 = λ (a b : Planted). (n : ℕ) → Mirrored (node_pipe n a b) in
@@ -259,9 +275,11 @@ module _ (i j : Synchronized) (is_i : IsSynchronized i) (is_j : IsSynchronized j
   abbrev bits : List (ℕ × Bool)
   bits = bits_of t prop.new_cells (fixed_nodes hs) (fixed_nodes bs) fixed_directed
 
+  -- they are of the new cells
   bits_are : map (λ b. b.0) bits ≡ prop.new_cells
   bits_are = bits_cells t prop.new_cells (fixed_nodes hs) (fixed_nodes bs) fixed_directed prop.one_cell_each
 
+  -- no cell stands twice
   bits_once : Distinct (map (λ b. b.0) bits)
   bits_once = subst Distinct (sym bits_are) (fresh_once (cells i) prop.new_cells prop.are_cells)
 
@@ -269,6 +287,7 @@ module _ (i j : Synchronized) (is_i : IsSynchronized i) (is_j : IsSynchronized j
   abbrev back : ℕ → Bool
   back = direction bits bits_once sol.back
 
+  -- an old cell keeps its direction
   back_old : (c : ℕ) → Has c (cells i) → back c ≡ sol.back c
   back_old c h = direction_other bits bits_once sol.back c (subst (Lacks c) (sym bits_are)
       (Lacks-from c prop.new_cells (λ n. fresh_other (cells i) prop.new_cells c c prop.are_cells n h refl)))
@@ -277,6 +296,7 @@ module _ (i j : Synchronized) (is_i : IsSynchronized i) (is_j : IsSynchronized j
   abbrev Directed : Vert → Type 0
   Directed v = IsInDirection back (t v.name) v.kind
 
+  -- the vertices that stay are in the direction of their cell
   old_directed : All Directed (old_verts i j p u shape prop)
   old_directed =
       let test : Vert → Bool = λ (v : Vert). not (has (u ∷ w ∷ []) v.name) in
@@ -304,10 +324,12 @@ module _ (i j : Synchronized) (is_i : IsSynchronized i) (is_j : IsSynchronized j
       record {
         rotation = record { arranged = arranged_t; flat = flat_t };
         mirrored = All-permutation Mirrored (all_pipes i j p u shape prop) j.pipes (pipes_keep i j p u shape prop)
-            (All-append Mirrored (other_pipes i (p.name ∷ [])) (new_pipes i j p u shape prop) old_mirrored new_mirrored);
+            (All-append Mirrored (other_pipes i (p.name ∷ []))
+            (new_pipes i j p u shape prop) old_mirrored new_mirrored);
         back = back;
         in_direction = All-permutation Directed (all_verts i j p u shape prop) j.verts (verts_keep i j p u shape prop)
-            (All-append Directed (old_verts i j p u shape prop) (new_free i j p u shape prop ++ new_fixed i j p u shape prop)
+            (All-append Directed (old_verts i j p u shape prop)
+            (new_free i j p u shape prop ++ new_fixed i j p u shape prop)
             old_directed
             (All-append Directed (new_free i j p u shape prop) (new_fixed i j p u shape prop)
             (free_directed back t (free_nodes hs ++ free_nodes bs)) (All-append Directed fu fw fixed.0 fixed.1)));

@@ -21,7 +21,7 @@ use Rattle.cp_board.specs.Propagations.{IsPropagated}
 use Rattle.cp_board.specs.Rotations.{ArrangesEdges, system}
 use Rattle.cp_board.specs.Steps.{IsEnd}
 use Rattle.cp_plantlaw.specs.NamedTrees.{Named, Paired, PairedRow, both_tops, first, mirrored, node_row, paired_rows, rows, tops, verts, word}
-use Rattle.cp_plantlaw.proofs.LaidTrees.{AreLaid, IsLaid, Kid, KidsLaid, kid_tops, kid_word}
+use Rattle.cp_plantlaw.proofs.LaidTrees.{AreLaid, IsLaid, Kid, KidsLaid}
 use Rattle.cp_plantlaw.proofs.MovedEnds.{IsNodeOf}
 use Rattle.cp_plantlaw.proofs.PairedTrees.{first-rows, first-tops, first_row, mirrored-rows, mirrored-tops, mirrored-word, second_row}
 use Rattle.cp_plantlaw.proofs.PermutedRows.{all_permuted}
@@ -69,7 +69,8 @@ all_both X Y [] x y = tt
 all_both X Y (z ∷ zs) x y = ((x.0, y.0), all_both X Y zs x.1 y.1)
 
 -- a fact that follows from another
-pub all_then : {A : Type 0} (X Y : A → Type 0) (xs : List A) → ((x : A) → X x → Y x) → AllByRecursion X xs → AllByRecursion Y xs
+pub all_then : {A : Type 0} (X Y : A → Type 0) (xs : List A) → ((x : A) → X x → Y x) → AllByRecursion X xs
+    → AllByRecursion Y xs
 all_then X Y [] h x = tt
 all_then X Y (z ∷ zs) h x = (h z x.0, all_then X Y zs h x.1)
 
@@ -79,7 +80,8 @@ map_map f h [] = refl
 map_map f h (x ∷ xs) = ap (λ zs. h (f x) ∷ zs) (map_map f h xs)
 
 -- each row has its vertex among those of all
-pub rows_inside : (all hs bs : List Planted) → ((x : ℕ) → Has x (row_verts hs) → Has x (row_verts all)) → (R : Planted → Planted → Type 0)
+pub rows_inside : (all hs bs : List Planted) → ((x : ℕ) → Has x (row_verts hs) → Has x (row_verts all))
+    → (R : Planted → Planted → Type 0)
     → AllZip R hs bs → AllZip (λ a b. Has a.vertex (row_verts all)) hs bs
 rows_inside all [] [] inside R z = tt
 rows_inside all [] (b ∷ bs) inside R z = absurd z
@@ -88,7 +90,8 @@ rows_inside all (a ∷ hs) (b ∷ bs) inside R z =
     (inside a.vertex (inl refl), rows_inside all hs bs (λ x h. inside x (inr h)) R z.1)
 
 -- also on the other side
-others_inside : (all hs bs : List Planted) → ((x : ℕ) → Has x (row_verts bs) → Has x (row_verts all)) → (R : Planted → Planted → Type 0)
+others_inside : (all hs bs : List Planted) → ((x : ℕ) → Has x (row_verts bs) → Has x (row_verts all))
+    → (R : Planted → Planted → Type 0)
     → AllZip R hs bs → AllZip (λ a b. Has b.vertex (row_verts all)) hs bs
 others_inside all [] [] inside R z = tt
 others_inside all [] (b ∷ bs) inside R z = absurd z
@@ -110,7 +113,8 @@ laid_edges partner a b r l = (
   subst₂ IsPermutation (sym l.edges_b) (sym (ap (λ (z : PairedRow). z.others) l.same_row))
       (IsPermutation-cons l.top.1 (map (λ k. k.1) l.kids) (reverse (map (λ k. k.1) l.order))
       (IsPermutation-trans (map (λ k. k.1) l.kids) (map (λ k. k.1) l.order) (reverse (map (λ k. k.1) l.order))
-      (IsPermutation-map (λ k. k.1) l.kids l.order l.allowed.permuted) (IsPermutation-reverse (map (λ k. k.1) l.order)))),
+      (IsPermutation-map (λ k. k.1) l.kids l.order l.allowed.permuted)
+      (IsPermutation-reverse (map (λ k. k.1) l.order)))),
 )
 
 -- the lists of the two vertices of a row are, up to turns, those of the row
@@ -124,12 +128,15 @@ module _ (i j : Synchronized) (is_i : IsSynchronized i) (is_j : IsSynchronized j
   abbrev v : ℕ
   v = w i j is_i p live u end shape edges_u prop
 
+  -- the partner of an edge of u
   abbrev phi : ℕ → ℕ
   phi = mate i j is_i p live u end shape edges_u prop
 
+  -- the names of the vertices that stay
   abbrev stay : List ℕ
   stay = old i j is_i p live u end shape edges_u prop
 
+  -- the vertex of i from which an end came
   abbrev from : ℕ → ℕ
   from = back i j is_i p live u end shape edges_u prop
 
@@ -137,16 +144,9 @@ module _ (i j : Synchronized) (is_i : IsSynchronized i) (is_j : IsSynchronized j
   abbrev put : ℕ → ℕ → ℕ
   put = place i j p u shape prop
 
-  -- two trees, laid on the planted rows, with the lists t, and the leaves of the first
-  pub record HasTrees (good : PairedRow → Type 0) (leaf_word : List ℕ) : Type 0 where
-    pub kid : Kid
-    pub same_tops : kid_tops phi kid ≡ (shape.root, phi shape.root)
-    pub same_word : kid_word kid ≡ leaf_word
-    pub laid : KidsLaid phi good (kid ∷ []) prop.rows_u prop.rows_w
-    pub arranged : IsPermutation (leaves shape.body) leaf_word
-
   -- the edges of u, by this word
-  pub word-edges_u : (xs : List ℕ) → IsPermutation (leaves shape.body) xs → IsPermutation (edges_of i u) (shape.root ∷ xs)
+  pub word-edges_u : (xs : List ℕ) → IsPermutation (leaves shape.body) xs
+      → IsPermutation (edges_of i u) (shape.root ∷ xs)
   word-edges_u xs arr = IsPermutation-trans (edges_of i u) (shape.root ∷ leaves shape.body) (shape.root ∷ xs)
       (edges_u-leaves i j is_i p live u end shape edges_u prop)
       (IsPermutation-cons shape.root (leaves shape.body) xs arr)
@@ -165,6 +165,7 @@ module _ (i j : Synchronized) (is_i : IsSynchronized i) (is_j : IsSynchronized j
   Known t r = IsNodeOf i j is_i is_j put from (ends-IsMoved i j is_i p live u end shape edges_u prop) u (first_row r)
       × IsNodeOf i j is_i is_j put from (ends-IsMoved i j is_i p live u end shape edges_u prop) v (second_row r)
 
+  -- it is known of each row that is laid on the planted rows
   known : (t : ℕ → List ℕ) (rs : List PairedRow) → AreLaid phi prop.rows_u prop.rows_w rs → AllByRecursion (Known t) rs
   known t rs laid =
       let hs : List Planted = prop.rows_u in
@@ -177,7 +178,8 @@ module _ (i j : Synchronized) (is_i : IsSynchronized i) (is_j : IsSynchronized j
       (rows_inside hs hs bs (λ x h. h) E edges) (others_inside bs hs bs (λ x h. h) E edges))) laid
     where
       one : (a b : Planted) (r : PairedRow)
-          → HaveEdges i j p u shape prop is_j a b × (Has a.vertex (row_verts prop.rows_u) × Has b.vertex (row_verts prop.rows_w))
+          → HaveEdges i j p u shape prop is_j a b × (Has a.vertex (row_verts prop.rows_u) × Has b.vertex
+          (row_verts prop.rows_w))
           → IsLaid phi a b r → Known t r
       one a b r h l =
           let es = laid_edges phi a b r l in
@@ -205,6 +207,7 @@ module _ (i j : Synchronized) (is_i : IsSynchronized i) (is_j : IsSynchronized j
     abbrev ks : Named
     ks = first inner
 
+    -- the kids in the second tree
     abbrev js : Named
     js = mirrored phi inner Named.no_kid
 
@@ -212,6 +215,7 @@ module _ (i j : Synchronized) (is_i : IsSynchronized i) (is_j : IsSynchronized j
     abbrev pairs : List PairedRow
     pairs = node_row phi vv gg (both_tops phi inner) ∷ paired_rows phi inner
 
+    -- they are the rows that are laid, in some order
     all_pairs : IsPermutation laid.rows pairs
     all_pairs = subst (IsPermutation laid.rows) (append-nil pairs) laid.same
 
@@ -219,6 +223,7 @@ module _ (i j : Synchronized) (is_i : IsSynchronized i) (is_j : IsSynchronized j
     abbrev rows_one : List (ℕ × List ℕ)
     rows_one = (vv.0, shape.root ∷ tops ks) ∷ rows ks
 
+    -- they are those of the first tree
     same_one : map first_row pairs ≡ rows_one
     same_one = ap₂ (λ z zs. z ∷ zs)
         (ap₂ (λ (x : ℕ) (xs : List ℕ). (vv.0, x ∷ xs)) (ap (λ (z : ℕ × ℕ). z.0) same) (sym (first-tops phi inner)))
@@ -228,6 +233,7 @@ module _ (i j : Synchronized) (is_i : IsSynchronized i) (is_j : IsSynchronized j
     abbrev rows_two : List (ℕ × List ℕ)
     rows_two = (vv.1, phi shape.root ∷ tops js) ∷ rows js
 
+    -- in some order, they are those of the second tree
     same_two : IsPermutation (map second_row pairs) rows_two
     same_two =
         subst (λ z. IsPermutation (z ∷ map second_row (paired_rows phi inner)) rows_two)
@@ -241,9 +247,12 @@ module _ (i j : Synchronized) (is_i : IsSynchronized i) (is_j : IsSynchronized j
     pairs_all : (X : PairedRow → Type 0) → AllByRecursion X laid.rows → AllByRecursion X pairs
     pairs_all X h = all_permuted X laid.rows pairs all_pairs h
 
-    pub one_all : (X : ℕ × List ℕ → Type 0) → AllByRecursion (λ r. X (first_row r)) laid.rows → AllByRecursion X rows_one
+    -- what holds of each row holds of those of the first tree
+    pub one_all : (X : ℕ × List ℕ → Type 0) → AllByRecursion (λ r. X (first_row r)) laid.rows
+        → AllByRecursion X rows_one
     one_all X h = subst (AllByRecursion X) same_one (all_images first_row X pairs (pairs_all (λ r. X (first_row r)) h))
 
+    -- what holds of each row holds of those of the second tree
     two_all : (X : ℕ × List ℕ → Type 0) → AllByRecursion (λ r. X (second_row r)) laid.rows → AllByRecursion X rows_two
     two_all X h = all_permuted X (map second_row pairs) rows_two same_two
         (all_images second_row X pairs (pairs_all (λ r. X (second_row r)) h))
@@ -254,8 +263,10 @@ module _ (i j : Synchronized) (is_i : IsSynchronized i) (is_j : IsSynchronized j
         (sym (map_map first_row (λ r. r.0) pairs) ∙ ap (map (λ r. r.0)) same_one)
         (IsPermutation-map (λ r. r.vertex.0) laid.rows pairs all_pairs)
 
+    -- the vertices of the second tree
     verts_two : IsPermutation (row_verts prop.rows_w) (map (λ r. r.0) rows_two)
-    verts_two = IsPermutation-trans (row_verts prop.rows_w) (map (λ r. r.0) (map second_row pairs)) (map (λ r. r.0) rows_two)
+    verts_two = IsPermutation-trans (row_verts prop.rows_w) (map (λ r. r.0) (map second_row pairs))
+        (map (λ r. r.0) rows_two)
         (subst₂ IsPermutation (laid_verts phi prop.rows_u prop.rows_w laid.rows laid.laid).1
         (sym (map_map second_row (λ r. r.0) pairs))
         (IsPermutation-map (λ r. r.vertex.1) laid.rows pairs all_pairs))
@@ -265,6 +276,7 @@ module _ (i j : Synchronized) (is_i : IsSynchronized i) (is_j : IsSynchronized j
     word_two : word js ≡ reverse (map phi (word ks))
     word_two = mirrored-word phi inner Named.no_kid ∙ append-nil (reverse (map phi (word ks)))
 
+    -- the vertices of both trees are different
     once : Distinct (row_verts prop.rows_u ++ row_verts prop.rows_w)
     once = Distinct-append_right stay (row_verts prop.rows_u ++ row_verts prop.rows_w)
         (names_once i j is_i p live u end shape edges_u prop)
@@ -274,7 +286,8 @@ module _ (i j : Synchronized) (is_i : IsSynchronized i) (is_j : IsSynchronized j
         t u vv.0 shape.root ks
     tree_one = record {
       nodes = one_all (IsNodeOf i j is_i is_j put from (ends-IsMoved i j is_i p live u end shape edges_u prop) u)
-          (all_then (Known t) (λ r. IsNodeOf i j is_i is_j put from (ends-IsMoved i j is_i p live u end shape edges_u prop) u (first_row r))
+          (all_then (Known t) (λ r. IsNodeOf i j is_i is_j put from
+          (ends-IsMoved i j is_i p live u end shape edges_u prop) u (first_row r))
           laid.rows (λ r h. h.0) (known t laid.rows laid.laid));
       leaves = λ x h. (Has-Contains x (edges_of i u)).0
           (Has-IsPermutation x (shape.root ∷ word ks) (edges_of i u)
@@ -285,11 +298,13 @@ module _ (i j : Synchronized) (is_i : IsSynchronized i) (is_j : IsSynchronized j
           (all_then (Holds t) (λ r. IsTurn r.edges (t r.vertex.0)) laid.rows (λ r h. h.0) laid.all_good);
     }
 
+    -- the second tree is planted
     tree_two : IsPlantedTree i j is_i is_j put from (ends-IsMoved i j is_i p live u end shape edges_u prop)
         t v vv.1 (phi shape.root) js
     tree_two = record {
       nodes = two_all (IsNodeOf i j is_i is_j put from (ends-IsMoved i j is_i p live u end shape edges_u prop) v)
-          (all_then (Known t) (λ r. IsNodeOf i j is_i is_j put from (ends-IsMoved i j is_i p live u end shape edges_u prop) v (second_row r))
+          (all_then (Known t) (λ r. IsNodeOf i j is_i is_j put from
+          (ends-IsMoved i j is_i p live u end shape edges_u prop) v (second_row r))
           laid.rows (λ r h. h.1) (known t laid.rows laid.laid));
       leaves = λ x h. (Has-Contains x (edges_of i v)).0
           (Has-IsPermutation x (phi shape.root ∷ reverse (map phi (word ks))) (edges_of i v)
@@ -308,9 +323,11 @@ module _ (i j : Synchronized) (is_i : IsSynchronized i) (is_j : IsSynchronized j
         let as_w : List ℕ = row_verts prop.rows_w in
         IsPermutation-trans (vert_names j) (stay ++ (as_u ++ as_w)) ((vv.0 ∷ verts ks) ++ ((vv.1 ∷ verts js) ++ stay))
         (IsPermutation-sym (stay ++ (as_u ++ as_w)) (vert_names j) (verts_named i j p u shape prop))
-        (IsPermutation-trans (stay ++ (as_u ++ as_w)) ((as_u ++ as_w) ++ stay) ((vv.0 ∷ verts ks) ++ ((vv.1 ∷ verts js) ++ stay))
+        (IsPermutation-trans (stay ++ (as_u ++ as_w)) ((as_u ++ as_w) ++ stay)
+        ((vv.0 ∷ verts ks) ++ ((vv.1 ∷ verts js) ++ stay))
         (IsPermutation-append_comm stay (as_u ++ as_w))
-        (subst (λ zs. IsPermutation zs ((vv.0 ∷ verts ks) ++ ((vv.1 ∷ verts js) ++ stay))) (sym (append_assoc as_u as_w stay))
+        (subst (λ zs. IsPermutation zs ((vv.0 ∷ verts ks) ++ ((vv.1 ∷ verts js) ++ stay)))
+        (sym (append_assoc as_u as_w stay))
         (IsPermutation-append as_u (vv.0 ∷ verts ks) (as_w ++ stay) ((vv.1 ∷ verts js) ++ stay) verts_one
         (IsPermutation-append_left stay as_w (vv.1 ∷ verts js) verts_two))))
 

@@ -17,9 +17,11 @@ through_order kids order xs p h =
 mutual
   -- what is read of a branch are its leaves, in some order
   pub reads-leaves : (b : Branch) (xs : List ℕ) → Reads b xs → IsPermutation (leaves b) xs
-  reads-leaves _ _ (Reads.leaf x) = subst (λ zs. IsPermutation zs (x ∷ [])) (sym (leaves_Leaf x)) (IsPermutation-refl (x ∷ []))
+  reads-leaves _ _ (Reads.leaf x) = subst (λ zs. IsPermutation zs (x ∷ [])) (sym (leaves_Leaf x))
+      (IsPermutation-refl (x ∷ []))
   reads-leaves _ _ (Reads.any_order kids order xs p all) =
-      subst (λ zs. IsPermutation zs xs) (sym (leaves_P kids)) (through_order kids order xs p (reads_all-leaves order xs all))
+      subst (λ zs. IsPermutation zs xs) (sym (leaves_P kids))
+      (through_order kids order xs p (reads_all-leaves order xs all))
   reads-leaves _ _ (Reads.forward kids xs all) =
       subst (λ zs. IsPermutation zs xs) (sym (leaves_Q kids)) (reads_all-leaves kids xs all)
   reads-leaves _ _ (Reads.backward kids xs all) =

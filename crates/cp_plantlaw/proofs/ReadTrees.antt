@@ -74,7 +74,8 @@ module _ (partner : ℕ → ℕ) where
       (record { vertex = v.0; fixed = false; edges = g.0 ∷ tops } ∷ hs)
       (record { vertex = v.1; fixed = false; edges = g.1 ∷ us } ∷ bs)
   free_reads v g tops us kids order xs hs bs p reads below =
-      let w = zip_permuted (λ (ys : List ℕ) (b : Branch). Reads b ys) order kids (IsPermutation-sym kids order p) reads.0
+      let w = zip_permuted (λ (ys : List ℕ) (b : Branch). Reads b ys) order kids
+      (IsPermutation-sym kids order p) reads.0
       (zip_flipped Reads order reads.0 reads.1) in
       let all = below w.0 (zip_flipped (λ (ys : List ℕ) (b : Branch). Reads b ys) w.0 kids w.2) in
       let ks = permuted_images kid_word all.kids reads.0
@@ -119,7 +120,8 @@ module _ (partner : ℕ → ℕ) where
         → Reads b xs
         → ReadsAs (top, u) xs hs bs
     branch-ReadsAs _ _ _ _ _ u ws ds bs xs (Plants.leaf x) other reads =
-        let l = subst (λ z. PlantsLayer partner z u ws ds bs) (out_Leaf x) (planted_layer partner (Leaf x) u ws ds bs other) in
+        let l = subst (λ z. PlantsLayer partner z u ws ds bs) (out_Leaf x)
+        (planted_layer partner (Leaf x) u ws ds bs other) in
         let e : xs ≡ x ∷ [] = subst (λ z. ReadsLayer z xs) (out_Leaf x) (reads_layer (Leaf x) xs reads) in
         record {
           kid = Kid.leaf x;
@@ -161,15 +163,18 @@ module _ (partner : ℕ → ℕ) where
     kids-AllReadAs _ _ _ _ _ us ws ds bs (xs ∷ words) PlantsAll.none other read = absurd read
     kids-AllReadAs _ _ _ _ _ us ws ds bs [] (PlantsAll.more k ks top tops vs1 vs2 es1 es2 hs cs one rest) other read =
         absurd read
-    kids-AllReadAs _ _ _ _ _ us ws ds bs (xs ∷ words) (PlantsAll.more k ks top tops vs1 vs2 es1 es2 hs cs one rest) other
+    kids-AllReadAs _ _ _ _ _ us ws ds bs (xs ∷ words)
+        (PlantsAll.more k ks top tops vs1 vs2 es1 es2 hs cs one rest) other
         read =
         let l = planted_kids partner (k ∷ ks) us ws ds bs other in
         let here = branch-ReadsAs k top vs1 es1 hs l.top l.verts l.edges l.below xs one l.one read.0 in
-        let behind = kids-AllReadAs ks tops vs2 es2 cs l.others l.other_verts l.other_edges l.other_rows words rest l.rest read.1 in
+        let behind = kids-AllReadAs ks tops vs2 es2 cs l.others l.other_verts l.other_edges l.other_rows words rest
+        l.rest read.1 in
         record {
           kids = here.kid ∷ behind.kids;
           first_tops = ap₂ (λ (z : ℕ) zs. z ∷ zs) (ap (λ (z : ℕ × ℕ). z.0) here.same_tops) behind.first_tops;
-          second_tops = ap₂ (λ (z : ℕ) zs. z ∷ zs) (ap (λ (z : ℕ × ℕ). z.1) here.same_tops) behind.second_tops ∙ sym l.same_tops;
+          second_tops = ap₂ (λ (z : ℕ) zs. z ∷ zs) (ap (λ (z : ℕ × ℕ). z.1) here.same_tops) behind.second_tops
+              ∙ sym l.same_tops;
           same_words = ap₂ (λ (z : List ℕ) zs. z ∷ zs) here.same_word behind.same_words;
           laid = subst (KidsLaid partner any_row (here.kid ∷ behind.kids) (hs ++ cs)) (sym l.same_rows)
               (kids-KidsLaid partner any_row here.kid behind.kids hs l.below cs l.other_rows here.laid behind.laid);

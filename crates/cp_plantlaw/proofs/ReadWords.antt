@@ -35,7 +35,8 @@ no_tops (Named.node_kid v g inner ks) e = absurd cc
 
 -- planted rows that begin with different edges, and lists
 module _ (planted : List Planted) (once : Distinct (row_tops planted)) (t : ℕ → List ℕ) where
-  -- each leaf is no first edge, each inner node has a row that begins with its edge from above, and its list begins with
+  -- each leaf is no first edge, each inner node has a row that begins with its edge from above, and its list begins
+  -- with
   -- this edge and goes on with the edges to the kids, each once
   abbrev pub IsRead : Named → Type 0
   IsRead Named.no_kid = Unit {0}
@@ -66,7 +67,8 @@ module _ (planted : List Planted) (once : Distinct (row_tops planted)) (t : ℕ 
         let same : y ≡ top = cc in
         absurd (All-contains (λ q. take 1 q.edges ≢ y ∷ []) planted r is.0 c
         (first_of_row r top others_in edges ∙ ap (λ z. z ∷ []) (sym same)))
-    below_word _ _ (Named.node_kid v g inner ks) (ReadsBelow.node r top others_in below xs c edges turn each) is rest e =
+    below_word _ _ (Named.node_kid v g inner ks)
+        (ReadsBelow.node r top others_in below xs c edges turn each) is rest e =
         let same : g ≡ top = cc in
         let two : tops ks ≡ rest = cc in
         let row : is.0.0 ≡ r = one_owner (λ (q : Planted). take 1 q.edges) planted is.0.0 r top
@@ -77,7 +79,8 @@ module _ (planted : List Planted) (once : Distinct (row_tops planted)) (t : ℕ 
         let listed : IsTurn (g ∷ tops inner) (g ∷ below) =
         turn-trans (g ∷ tops inner) (t v) (g ∷ below) is.0.4
         (subst₂ (λ y z. IsTurn (t y) (z ∷ below)) at (sym same) turn) in
-        let distinct : Distinct (g ∷ tops inner) = turn-Distinct (t v) (g ∷ tops inner) (turn-sym (g ∷ tops inner) (t v) is.0.4) is.0.5 in
+        let distinct : Distinct (g ∷ tops inner) = turn-Distinct (t v) (g ∷ tops inner)
+        (turn-sym (g ∷ tops inner) (t v) is.0.4) is.0.5 in
         let goes : tops inner ≡ below = turn_same g (tops inner) below distinct.0 listed in
         (ks, is.1.1, two, ap (λ zs. zs ++ word ks) (each_word below xs inner each is.1.0 goes))
 

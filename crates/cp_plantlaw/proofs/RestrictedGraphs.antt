@@ -36,12 +36,15 @@ module _ (g : NamedGraph) (inside : ℕ → Bool) (verts_rise : IsStrictlyIncrea
   abbrev part : NamedGraph
   part = only inside g
 
+  -- the edges inside of a list
   abbrev pub inner : ℕ → List ℕ
   inner v = filter inside (s v)
 
+  -- no edge of the graph stands twice
   edges_once : Distinct g.edges
   edges_once = Distinct-from_rises g.edges (rises_from g.edges edges_rise)
 
+  -- no edge of the part stands twice
   part_once : Distinct part.edges
   part_once = filter-Distinct inside g.edges edges_once
 
@@ -51,6 +54,7 @@ module _ (g : NamedGraph) (inside : ℕ → Bool) (verts_rise : IsStrictlyIncrea
       let h = Has_kept inside g.edges e ((Has-Contains e part.edges).1 c) in
       ((Has-Contains e g.edges).0 h.0, h.1)
 
+  -- an edge of the graph that is inside is one of the part
   inside_edge : (e : ℕ) → Contains g.edges e → inside e ≡ true → Contains part.edges e
   inside_edge e c t =
       (Has-Contains e part.edges).0 (kept_Has inside g.edges e ((Has-Contains e g.edges).1 c) t)
@@ -84,12 +88,15 @@ module _ (g : NamedGraph) (inside : ℕ → Bool) (verts_rise : IsStrictlyIncrea
   abbrev whole : System
   whole = system g s
 
+  -- the system of the part
   abbrev kept : System
   kept = system part inner
 
+  -- the system of the graph is a rotation system
   whole_rotation : IsRotation whole
   whole_rotation = IsRotation-system g verts_rise edges_rise live differ s rotation.arranged
 
+  -- so is that of the part
   kept_rotation : IsRotation kept
   kept_rotation = IsRotation-system part verts_rise (IsStrictlyIncreasing-filter inside g.edges edges_rise)
       (λ e c. live e (part_edge e c).0) (λ e c. differ e (part_edge e c).0) inner inner-arranged
@@ -98,9 +105,11 @@ module _ (g : NamedGraph) (inside : ℕ → Bool) (verts_rise : IsStrictlyIncrea
   abbrev numbers : ℕ → ℕ × ℕ
   numbers e = (rank g.verts (g.ends e).0, rank g.verts (g.ends e).1)
 
+  -- how many edges the first has
   whole_size : edges whole ≡ length g.edges
   whole_size = let h = length-two_each numbers g.edges in omega (arith, h, whole_rotation.paired)
 
+  -- how many edges the second has
   kept_size : edges kept ≡ length part.edges
   kept_size = let h = length-two_each numbers part.edges in omega (arith, h, kept_rotation.paired)
 
@@ -108,9 +117,11 @@ module _ (g : NamedGraph) (inside : ℕ → Bool) (verts_rise : IsStrictlyIncrea
   abbrev number : ℕ → ℕ
   number k = rank part.edges (get_or g.edges k 0)
 
+  -- the number in the graph of an edge of the part
   abbrev original : ℕ → ℕ
   original k = rank g.edges (get_or part.edges k 0)
 
+  -- the edge of a number is inside
   abbrev keeps : ℕ → Bool
   keeps k = inside (get_or g.edges k 0)
 
@@ -123,13 +134,15 @@ module _ (g : NamedGraph) (inside : ℕ → Bool) (verts_rise : IsStrictlyIncrea
       let place : d ≡ 2 * (d / 2) = omega (arith, even) in
       let at : List ℕ = flat_map (λ e. rank g.verts (g.ends e).0 ∷ rank g.verts (g.ends e).1 ∷ []) es in
       ap (slice_index at) place ∙ two_each-first numbers es (d / 2) (omega (arith, lt))
-      ∙ sym (cond-true (eqb (d % 2) 0) (numbers (get_or es (d / 2) 0)).0 (numbers (get_or es (d / 2) 0)).1 (eq-eqb (d % 2) 0 even)))
+      ∙ sym (cond-true (eqb (d % 2) 0) (numbers (get_or es (d / 2) 0)).0 (numbers (get_or es (d / 2) 0)).1
+      (eq-eqb (d % 2) 0 even)))
       (λ (odd : d % 2 ≢ 0).
       let bit : d % 2 ≡ 1 = omega (arith, odd) in
       let place : d ≡ 2 * (d / 2) + 1 = omega (arith, bit) in
       let at : List ℕ = flat_map (λ e. rank g.verts (g.ends e).0 ∷ rank g.verts (g.ends e).1 ∷ []) es in
       ap (slice_index at) place ∙ two_each-second numbers es (d / 2) (omega (arith, lt))
-      ∙ sym (cond-false (eqb (d % 2) 0) (numbers (get_or es (d / 2) 0)).0 (numbers (get_or es (d / 2) 0)).1 (ne_eqb (d % 2) 0 odd)))
+      ∙ sym (cond-false (eqb (d % 2) 0) (numbers (get_or es (d / 2) 0)).0 (numbers (get_or es (d / 2) 0)).1
+      (ne_eqb (d % 2) 0 odd)))
       (cases_eq (d % 2) 0)
 
   -- the list of a vertex by its name, with the darts of the edges inside

@@ -1,4 +1,5 @@
--- The orders of two planted rows, from lists that mirror each other over their pipe or keep the direction of their cell.
+-- The orders of two planted rows, from lists that mirror each other over their pipe or keep the direction of their
+-- cell.
 use Rattle.std.proofs.Common.{◌≡◌, ℕ, Bool, true, false, not, eqb, List, [], ◌∷◌, map, reverse, sym, refl, ap, ap₂, ◌∙◌, subst, subst₂, inl, inr, ⊎_elim, IsPermutation}
 use Rattle.std.specs.Prelude.{Some, find}
 use Rattle.std.specs.List.{All, AllByRecursion, zip}
@@ -45,6 +46,7 @@ firsts_of_values : (f : ℕ → ℕ) (xs : List ℕ) → map (λ (k : ℕ × ℕ
 firsts_of_values f [] = refl
 firsts_of_values f (x ∷ xs) = ap (λ zs. x ∷ zs) (firsts_of_values f xs)
 
+-- and the seconds
 seconds_of_values : (f : ℕ → ℕ) (xs : List ℕ) → map (λ (k : ℕ × ℕ). k.1) (map (λ x. (x, f x)) xs) ≡ map f xs
 seconds_of_values f [] = refl
 seconds_of_values f (x ∷ xs) = ap (λ zs. f x ∷ zs) (seconds_of_values f xs)
@@ -76,7 +78,8 @@ mate_of_row n a b top kids once ea eb =
     subst (λ zs. IsPermutation zs (map (λ (x : ℕ × ℕ). x.0) q.pairs)) (ap (map (λ (x : ℕ × ℕ). x.0)) same ∙ sym ea)
     (IsPermutation-map (λ (x : ℕ × ℕ). x.0) (zip a.edges b.edges) q.pairs kept) in
     let found : All (λ (x : ℕ × ℕ). find (λ (y : ℕ × ℕ). eqb y.0 x.0) q.pairs ≡ Some x) q.pairs =
-    found_own (λ (x : ℕ × ℕ). x.0) q.pairs (Distinct-IsPermutation a.edges (map (λ (x : ℕ × ℕ). x.0) q.pairs) firsts once) in
+    found_own (λ (x : ℕ × ℕ). x.0) q.pairs (Distinct-IsPermutation a.edges
+    (map (λ (x : ℕ × ℕ). x.0) q.pairs) firsts once) in
     let all : All (λ (x : ℕ × ℕ). second_of q x.0 ≡ x.1) q.pairs =
     λ k d lt. ap (λ o. option_map_or (λ (y : ℕ × ℕ). y.1) o 0) (found k d lt) in
     recursion_from_All (λ k. second_of q k.0 ≡ k.1) (top ∷ kids)
@@ -109,7 +112,8 @@ module _ (partner : ℕ → ℕ) (t : ℕ → List ℕ) (a b : Planted) where
       subst (λ ws. IsTurn (top.0 ∷ ws) (t a.vertex)) (sym (firsts_of_values star zs))
       (turn-sym (t a.vertex) (top.0 ∷ zs) turn.1) in
       let image : IsTurn (reverse (map star (t a.vertex))) (star top.0 ∷ reverse (map star zs)) =
-      turn-trans (reverse (map star (t a.vertex))) (reverse (star top.0 ∷ map star zs)) (star top.0 ∷ reverse (map star zs))
+      turn-trans (reverse (map star (t a.vertex))) (reverse (star top.0 ∷ map star zs))
+      (star top.0 ∷ reverse (map star zs))
       (turn-reverse (map star (t a.vertex)) (star top.0 ∷ map star zs) (turn-map star (t a.vertex) (top.0 ∷ zs) turn.1))
       (turn_back (star top.0) (map star zs)) in
       let two : IsTurn (top.1 ∷ reverse (map (λ k. k.1) order)) (t b.vertex) =

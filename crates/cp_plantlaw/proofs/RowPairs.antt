@@ -100,7 +100,8 @@ each_pipe P (n ∷ names) [] bs e d all = absurd (omega (arith, e))
 each_pipe P (n ∷ names) (a ∷ hs) [] e d all = absurd (omega (arith, d))
 each_pipe P (n ∷ names) (a ∷ hs) (b ∷ bs) e d all = (
   (n, All-head P (node_pipe n a b) (node_pipes names hs bs) all),
-  each_pipe P names hs bs (omega (arith, e)) (omega (arith, d)) (All-tail P (node_pipe n a b) (node_pipes names hs bs) all),
+  each_pipe P names hs bs (omega (arith, e)) (omega (arith, d))
+      (All-tail P (node_pipe n a b) (node_pipes names hs bs) all),
 )
 
 -- and the other way round

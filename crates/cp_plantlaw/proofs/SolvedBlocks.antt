@@ -28,8 +28,11 @@ use Rattle.cp_plantlaw.proofs.RestrictedGraphs.{inner-IsRotationOf}
 kept_direction : (inside : ℕ → Bool) (back : ℕ → Bool) (xs : List ℕ) (k : Kind) → IsInDirection back xs k
     → IsKept inside (filter inside xs) k
 kept_direction inside back xs P h = tt
-kept_direction inside back xs (Q cell psi) h =
-    (back cell, subst (λ zs. IsTurn zs (filter inside xs)) (same (back cell)) (turn-filter inside (directed (back cell) psi) xs h))
+kept_direction inside back xs (Q cell psi) h = (
+  back cell,
+  subst (λ zs. IsTurn zs (filter inside xs)) (same (back cell))
+      (turn-filter inside (directed (back cell) psi) xs h),
+)
   where
     same : (b : Bool) → filter inside (directed b psi) ≡ directed b (filter inside psi)
     same true = filter-reverse inside psi

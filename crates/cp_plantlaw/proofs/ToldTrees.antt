@@ -35,7 +35,8 @@ abbrev pub HaveOneForm : Planted → Planted → Type 0
 HaveOneForm a b = (b.fixed ≡ a.fixed) × (length b.edges ≡ length a.edges)
 
 -- rows that stand place by place are as many
-pub zip_length : {A B : Type 0} (R : A → B → Type 0) (xs : List A) (ys : List B) → AllZip R xs ys → length xs ≡ length ys
+pub zip_length : {A B : Type 0} (R : A → B → Type 0) (xs : List A) (ys : List B) → AllZip R xs ys
+    → length xs ≡ length ys
 zip_length R [] [] z = refl
 zip_length R [] (y ∷ ys) z = absurd z
 zip_length R (x ∷ xs) [] z = absurd z
@@ -61,6 +62,7 @@ mutual
       subst (AllZip HaveOneForm (record { vertex = v; fixed = true; edges = top ∷ tops } ∷ hs)) (sym l.same_rows)
       ((refl, ap suc k.1), k.0)
 
+  -- the same of the kids of a node
   kids-HaveOneForm : (f h : ℕ → ℕ) (kids : List Branch) (tops vs es : List ℕ) (hs : List Planted) (us ws ds : List ℕ)
       (bs : List Planted) → PlantsAll f kids tops vs es hs → PlantsAll h kids us ws ds bs
       → AllZip HaveOneForm hs bs × (length us ≡ length tops)
@@ -69,7 +71,8 @@ mutual
   kids-HaveOneForm f h _ _ _ _ _ us ws ds bs (PlantsAll.more k ks top tops vs1 vs2 es1 es2 hs cs one rest) other =
       let l = planted_kids h (k ∷ ks) us ws ds bs other in
       let here = planted-HaveOneForm f h k top vs1 es1 hs l.top l.verts l.edges l.below one l.one in
-      let behind = kids-HaveOneForm f h ks tops vs2 es2 cs l.others l.other_verts l.other_edges l.other_rows rest l.rest in (
+      let behind = kids-HaveOneForm f h ks tops vs2 es2 cs l.others l.other_verts l.other_edges
+      l.other_rows rest l.rest in (
         subst (AllZip HaveOneForm (hs ++ cs)) (sym l.same_rows)
             (zip_join HaveOneForm hs cs l.below l.other_rows here behind.0),
         ap length l.same_tops ∙ ap suc behind.1,
@@ -174,7 +177,8 @@ module _ (partner : ℕ → ℕ) (good : PairedRow → Type 0) where
             (subst (λ zs. good (node_row partner v g zs)) same h.2);
       })
       (λ back.
-      let same : h.0 ≡ map (kid_tops partner) (reverse all.kids) = back ∙ sym (map-reverse (kid_tops partner) all.kids) in
+      let same : h.0 ≡ map (kid_tops partner) (reverse all.kids) = back ∙ sym
+      (map-reverse (kid_tops partner) all.kids) in
       record {
         kid = Kid.node v g (kids_of (reverse all.kids));
         same_tops = refl;
@@ -196,7 +200,8 @@ module _ (partner : ℕ → ℕ) (good : PairedRow → Type 0) where
         → AllZip HaveOrder hs bs
         → ToldAs b (top, u) hs bs
     branch-ToldAs _ _ _ _ _ u ws ds bs (Plants.leaf x) other told =
-        let l = subst (λ z. PlantsLayer partner z u ws ds bs) (out_Leaf x) (planted_layer partner (Leaf x) u ws ds bs other) in
+        let l = subst (λ z. PlantsLayer partner z u ws ds bs) (out_Leaf x)
+        (planted_layer partner (Leaf x) u ws ds bs other) in
         record {
           kid = Kid.leaf x;
           same_tops = ap (λ z. (x, z)) (sym l.same_top);
@@ -206,15 +211,19 @@ module _ (partner : ℕ → ℕ) (good : PairedRow → Type 0) where
     branch-ToldAs _ _ _ _ _ u ws ds bs (Plants.free kids top v tops vs es hs all) other told =
         let l : IsPlantedNode partner false kids u ws ds bs =
         subst (λ z. PlantsLayer partner z u ws ds bs) (out_P kids) (planted_layer partner (P kids) u ws ds bs other) in
-        let z = subst (AllZip HaveOrder (record { vertex = v; fixed = false; edges = top ∷ tops } ∷ hs)) l.same_rows told in
-        subst (ToldAs (P kids) (top, u) (record { vertex = v; fixed = false; edges = top ∷ tops } ∷ hs)) (sym l.same_rows)
+        let z = subst
+        (AllZip HaveOrder (record { vertex = v; fixed = false; edges = top ∷ tops } ∷ hs)) l.same_rows told in
+        subst (ToldAs (P kids) (top, u) (record { vertex = v; fixed = false; edges = top ∷ tops } ∷ hs))
+        (sym l.same_rows)
         (free_told (v, l.vertex) (top, u) kids tops l.tops hs l.below
         (kids-AllToldAs kids tops vs es hs l.tops l.verts l.edges l.below all l.kids_planted z.1) z.0)
     branch-ToldAs _ _ _ _ _ u ws ds bs (Plants.fixed kids top v tops vs es hs all) other told =
         let l : IsPlantedNode partner true kids u ws ds bs =
         subst (λ z. PlantsLayer partner z u ws ds bs) (out_Q kids) (planted_layer partner (Q kids) u ws ds bs other) in
-        let z = subst (AllZip HaveOrder (record { vertex = v; fixed = true; edges = top ∷ tops } ∷ hs)) l.same_rows told in
-        subst (ToldAs (Q kids) (top, u) (record { vertex = v; fixed = true; edges = top ∷ tops } ∷ hs)) (sym l.same_rows)
+        let z = subst
+        (AllZip HaveOrder (record { vertex = v; fixed = true; edges = top ∷ tops } ∷ hs)) l.same_rows told in
+        subst (ToldAs (Q kids) (top, u) (record { vertex = v; fixed = true; edges = top ∷ tops } ∷ hs))
+        (sym l.same_rows)
         (fixed_told (v, l.vertex) (top, u) kids tops l.tops hs l.below
         (kids-AllToldAs kids tops vs es hs l.tops l.verts l.edges l.below all l.kids_planted z.1) z.0)
 
@@ -241,11 +250,13 @@ module _ (partner : ℕ → ℕ) (good : PairedRow → Type 0) where
         (planted-HaveOneForm (λ x. x) partner k top vs1 es1 hs l.top l.verts l.edges l.below one l.one))
         (subst (AllZip HaveOrder (hs ++ cs)) l.same_rows told) in
         let here = branch-ToldAs k top vs1 es1 hs l.top l.verts l.edges l.below one l.one z.0 in
-        let behind = kids-AllToldAs ks tops vs2 es2 cs l.others l.other_verts l.other_edges l.other_rows rest l.rest z.1 in
+        let behind = kids-AllToldAs ks tops vs2 es2 cs l.others l.other_verts l.other_edges
+        l.other_rows rest l.rest z.1 in
         record {
           kids = here.kid ∷ behind.kids;
           first_tops = ap₂ (λ (y : ℕ) ys. y ∷ ys) (ap (λ (y : ℕ × ℕ). y.0) here.same_tops) behind.first_tops;
-          second_tops = ap₂ (λ (y : ℕ) ys. y ∷ ys) (ap (λ (y : ℕ × ℕ). y.1) here.same_tops) behind.second_tops ∙ sym l.same_tops;
+          second_tops = ap₂ (λ (y : ℕ) ys. y ∷ ys) (ap (λ (y : ℕ × ℕ). y.1) here.same_tops) behind.second_tops
+              ∙ sym l.same_tops;
           reads = (here.reads, behind.reads);
           laid = subst (KidsLaid partner good (here.kid ∷ behind.kids) (hs ++ cs)) (sym l.same_rows)
               (kids-KidsLaid partner good here.kid behind.kids hs l.below cs l.other_rows here.laid behind.laid);
