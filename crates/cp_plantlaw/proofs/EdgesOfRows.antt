@@ -1,6 +1,6 @@
 -- The edges of the vertices of both planted trees after Propagate, and the ends of all edges.
 use Rattle.std.proofs.Common.{◌≡◌, ◌≢◌, ◌⊎◌, ℕ, List, [], ◌∷◌, ◌++◌, map, reverse, sym, refl, ap, ◌∙◌, subst, inl, inr, ⊎_elim, IsPermutation}
-use Rattle.std.specs.List.{All, Contains}
+use Rattle.std.specs.List.{All, AllZip, Contains}
 use Rattle.std.proofs.lemmas.Bool.{cases_eq}
 use Rattle.std.proofs.lemmas.List.Elements.{All-append, All-contains, Contains-append_cases, Contains-append_left, Contains-append_right}
 use Rattle.std.proofs.lemmas.List.Sorted.{All-permutation, Contains-permutation, IsPermutation-reverse, IsPermutation-sym, IsPermutation-trans}
@@ -18,11 +18,12 @@ use Rattle.cp_board.specs.Plantings.{Planted, holder, lower_end, tree_edges}
 use Rattle.cp_board.specs.Propagations.{IsPropagated}
 use Rattle.cp_board.specs.Steps.{IsEnd, opposite, partner}
 use Rattle.cp_synclaw.proofs.InstanceDarts.{edges_once, live_at}
-use Rattle.cp_plantlaw.proofs.FreshNames.{fresh_once, fresh_other}
+use Rattle.cp_plantlaw.proofs.FreshNames.{All-from_items, fresh_once, fresh_other}
 use Rattle.cp_plantlaw.proofs.PlantedEdges.{new_ends-differ, row-edges_of}
-use Rattle.cp_plantlaw.proofs.PropagatedBack.{All-from_items}
 use Rattle.cp_plantlaw.proofs.PropagatedEnds.{back, back_u, back_w, edges_u-leaves, edges_w-leaves, ends_by_row, held_u, held_w, holder_in, home, moved_row, names_once, old_Has, put, put_old, put_u, put_w, tops_u, tops_w, tree_ends}
-use Rattle.cp_plantlaw.proofs.PropagatedRows.{all_edges, edges_keep, new_edges, old_verts, row_verts, verts_named}
+use Rattle.cp_plantlaw.proofs.PropagatedRows.{HaveEdges, all_edges, edges_keep, forms, new_edges, old_verts, row_verts, verts_named}
+use Rattle.cp_plantlaw.proofs.RowPairs.{own_others, own_rows, zip_both, zip_then}
+use Rattle.cp_plantlaw.proofs.ToldTrees.{HaveOneForm}
 
 -- a list is its own image
 map_self : (xs : List ℕ) → map (λ x. x) xs ≡ xs
@@ -147,6 +148,18 @@ module _ (i j : Synchronized) (is_i : IsSynchronized i) (p : Pipe) (live : Conta
       (λ e h. fresh e (Has-append_right e prop.edges_u prop.edges_w h))
       (Distinct-append_right prop.edges_u prop.edges_w new_once)
       (λ e c. new_in_j e (Contains-append_right tree_u tree_w e c)) others_w
+
+  -- so each two rows of one place have the edges of their vertices
+  pub rows-HaveEdges : AllZip (HaveEdges i j p u shape prop) prop.rows_u prop.rows_w
+  rows-HaveEdges =
+      let hs : List Planted = prop.rows_u in
+      let bs : List Planted = prop.rows_w in
+      let U : Planted → Planted → Type 0 = λ (a b : Planted). Contains hs a in
+      let W : Planted → Planted → Type 0 = λ (a b : Planted). Contains bs b in
+      zip_then (λ a b. U a b × W a b) (HaveEdges i j p u shape prop) hs bs
+      (λ a b h. (rows_u-edges a h.0, rows_w-edges b h.1))
+      (zip_both U W hs bs (own_rows hs hs bs (λ r c. c) HaveOneForm (forms i j p u shape prop))
+      (own_others bs hs bs (λ r c. c) HaveOneForm (forms i j p u shape prop)))
 
   -- the ends of a new edge differ
   differ_u : (e : ℕ) → Has e prop.edges_u → holder prop.rows_u e ≢ lower_end prop.rows_u e

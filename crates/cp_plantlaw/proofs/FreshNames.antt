@@ -1,11 +1,11 @@
 -- New names, and items under names.
-use Rattle.std.proofs.Common.{◌∙◌, ap, ◌≡◌, ◌≢◌, ℕ, ◌+◌, ◌<◌, Bool, true, false, not, ◌||◌, eqb, List, [], ◌∷◌, length, map, sym, refl, subst, subst₂, ⊎_elim, arith}
+use Rattle.std.proofs.Common.{Contains, slice_index_or, ◌∙◌, ap, ◌≡◌, ◌≢◌, ℕ, ◌+◌, ◌<◌, Bool, true, false, not, ◌||◌, eqb, List, [], ◌∷◌, length, map, sym, refl, subst, subst₂, ⊎_elim, arith}
 use Rattle.std.specs.Prelude.{filter, find, take, None}
-use Rattle.std.specs.List.{range_with_len}
+use Rattle.std.specs.List.{All, range_with_len}
 use Rattle.std.specs.List.Sorted.{IsStrictlyIncreasing}
 use Rattle.std.proofs.lemmas.Bool.{both_ways, eq-eqb, ne_eqb, false≢true}
 use Rattle.std.proofs.lemmas.List.{get_or-take, length-take}
-use Rattle.std.proofs.lemmas.List.Elements.{All-contains}
+use Rattle.std.proofs.lemmas.List.Elements.{Contains-get_or, All-contains}
 use Rattle.std.proofs.lemmas.List.FromFn.{get_or-range_with_len, length-range_with_len}
 use Rattle.std.proofs.lemmas.List.Kept.{IsStrictlyIncreasing-filter}
 use Rattle.cp_lists.specs.CyclicLists.{Distinct, Has, Lacks}
@@ -70,3 +70,7 @@ fresh_other live names n m new h c e =
 pub passed : (names : List ℕ) (n : ℕ) → not (has names n) ≡ true → (m : ℕ) → Has m names → n ≢ m
 passed names n t m h e =
     false≢true (sym (ap not (has-true names n (subst (λ z. Has z names) (sym e) h))) ∙ t)
+
+-- what holds of each item that a list contains
+pub All-from_items : {A : Type 0} (R : A → Type 0) (xs : List A) → ((x : A) → Contains xs x → R x) → All R xs
+All-from_items R xs h k d lt = h (slice_index_or xs k d) (Contains-get_or xs k d lt)

@@ -1,9 +1,9 @@
 -- Propagate keeps solutions (Bläsius, Rutter 2016; Bläsius, Fink, Rutter 2021): where the shape admits the list of the
 -- end, a solution before it gives one after it, and each solution after it, read from the tree planted for the end, is
 -- one before it.
-use Rattle.std.proofs.Common.{◌≡◌, ◌≢◌, ℕ, suc, eqb, cond, List, [], ◌∷◌, ◌++◌, map, reverse, sym, refl, ap, ◌∙◌, subst, inl, inr, arith, IsPermutation}
+use Rattle.std.proofs.Common.{◌≡◌, ◌≢◌, ℕ, eqb, cond, List, [], ◌∷◌, ◌++◌, map, reverse, sym, refl, ap, ◌∙◌, subst, inl, inr, IsPermutation}
 use Rattle.std.specs.Prelude.{take}
-use Rattle.std.specs.List.{All, AllByRecursion, AllZip, Contains}
+use Rattle.std.specs.List.{All, AllByRecursion, Contains}
 use Rattle.std.proofs.lemmas.Bool.{cond-false, cond-true, eq-eqb, ne_eqb}
 use Rattle.std.proofs.lemmas.List.Elements.{All-contains}
 use Rattle.std.proofs.lemmas.List.Sorted.{Contains-permutation, IsPermutation-sym}
@@ -37,19 +37,8 @@ use Rattle.cp_plantlaw.proofs.PropagatedRows.{forms, old_verts, row_verts, verts
 use Rattle.cp_plantlaw.proofs.PropagatedSolutions.{Solves-planted, t}
 use Rattle.cp_plantlaw.proofs.PropagatedTrees.{Holds, all_both, all_then, laid-all, one_all}
 use Rattle.cp_plantlaw.proofs.ToldTrees.{HaveOneForm}
+use Rattle.cp_plantlaw.proofs.RowPairs.{own_rows}
 use Rattle.cp_plantlaw.proofs.ReadWords.{IsRead, no_top, node_reads, node_word, rows-IsRead, word-ReadsEach}
-
--- each row is one of all
-own_rows : (all hs bs : List Planted) → ((r : Planted) → Contains hs r → Contains all r)
-    → (R : Planted → Planted → Type 0)
-    → AllZip R hs bs → AllZip (λ a b. Contains all a) hs bs
-own_rows all [] [] inside R z = tt
-own_rows all [] (b ∷ bs) inside R z = absurd z
-own_rows all (a ∷ hs) [] inside R z = absurd z
-own_rows all (a ∷ hs) (b ∷ bs) inside R z = (
-  inside a (0, omega arith, refl),
-  own_rows all hs bs (λ r c. inside r (suc c.0, omega (arith, c.1), c.2)) R z.1,
-)
 
 module _ (i j : Synchronized) (is_i : IsSynchronized i) (is_j : IsSynchronized j) (p : Pipe) (live : Contains i.pipes p)
     (u : ℕ) (end : IsEnd p u) (shape : Shape)

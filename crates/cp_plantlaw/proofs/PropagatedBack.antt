@@ -1,10 +1,10 @@
 -- Propagate backwards: lists that solve the instance after it, read from both trees, solve the instance before it.
-use Rattle.std.proofs.Common.{◌≡◌, ◌≢◌, ◌↔◌, ℕ, suc, Bool, true, false, not, eqb, List, [], ◌∷◌, ◌++◌, length, map, reverse, sym, refl, ap, ◌∙◌, subst, subst₂, slice_index_or, inl, inr, ⊎_elim, arith, IsPermutation}
+use Rattle.std.proofs.Common.{◌≡◌, ◌≢◌, ◌↔◌, ℕ, suc, Bool, true, false, not, eqb, List, [], ◌∷◌, ◌++◌, length, map, reverse, sym, refl, ap, ◌∙◌, subst, subst₂, inl, inr, ⊎_elim, arith, IsPermutation}
 use Rattle.std.specs.Prelude.{None, Some, filter, find}
 use Rattle.std.specs.List.{All, AllZip, Contains}
 use Rattle.std.specs.Option.{option_map}
 use Rattle.std.proofs.lemmas.Bool.{cases_eq, cond-false, cond_both, ne_eqb}
-use Rattle.std.proofs.lemmas.List.Elements.{All-contains, Contains-append_left, Contains-get_or}
+use Rattle.std.proofs.lemmas.List.Elements.{All-contains, Contains-append_left}
 use Rattle.std.proofs.lemmas.List.Sorted.{Contains-permutation, IsPermutation-sym, IsPermutation-trans, length_permutation}
 use Rattle.cp_lists.specs.CyclicLists.{Has}
 use Rattle.cp_lists.specs.Turns.{IsTurn}
@@ -35,10 +35,11 @@ use Rattle.cp_synclaw.proofs.InstanceDarts.{edges_once, verts_once}
 use Rattle.cp_plantlaw.specs.NamedTrees.{PairedRow}
 use Rattle.cp_plantlaw.proofs.ApartPipes.{one_name, one_owner}
 use Rattle.cp_plantlaw.proofs.EndPartners.{by_end, found_own}
-use Rattle.cp_plantlaw.proofs.FreshNames.{has-false}
+use Rattle.cp_plantlaw.proofs.FreshNames.{All-from_items, has-false}
 use Rattle.cp_plantlaw.proofs.LaidTrees.{AreLaid, Kid, KidsLaid, kid_tops, kid_word}
 use Rattle.cp_plantlaw.proofs.PropagatedEnds.{differ, edges_stay, mirrors, old_Has, right, rows_some}
-use Rattle.cp_plantlaw.proofs.PropagatedRows.{HaveEdges, PairHas, all_pairs, all_pipes, all_verts, new_fixed, new_free, new_pipes, old_verts, pipes_keep, row_edges, row_verts, rows-HaveEdges, verts_keep, verts_named}
+use Rattle.cp_plantlaw.proofs.PropagatedRows.{HaveEdges, PairHas, all_pairs, all_pipes, all_verts, new_fixed, new_free, new_pipes, old_verts, pipes_keep, row_edges, row_verts, verts_keep, verts_named}
+use Rattle.cp_plantlaw.proofs.EdgesOfRows.{rows-HaveEdges}
 use Rattle.cp_plantlaw.proofs.PropagatedTrees.{Holds, node-HasGenusZero, rows_inside, turn_back, word-edges_u}
 use Rattle.cp_plantlaw.proofs.ReadLeaves.{reads-leaves}
 use Rattle.cp_plantlaw.proofs.RowOrders.{directed-HaveOrder, mirrored-HaveOrder}
@@ -55,10 +56,6 @@ kept_Contains q (y ∷ xs) x c t = ⊎_elim
     cond_both (q y) (y ∷ filter q xs) (filter q xs) (λ zs. Contains zs x)
     (λ a. (suc r.0, omega (arith, r.1), r.2)) (λ b. r))
     (Contains-cons_cases y x xs c)
-
--- what holds of each item that a list contains
-pub All-from_items : {A : Type 0} (R : A → Type 0) (xs : List A) → ((x : A) → Contains xs x → R x) → All R xs
-All-from_items R xs h k d lt = h (slice_index_or xs k d) (Contains-get_or xs k d lt)
 
 -- an instance with a pipe and one end of it, and what Propagate makes of it
 module _ (i j : Synchronized) (is_i : IsSynchronized i) (p : Pipe) (live : Contains i.pipes p)
@@ -212,7 +209,7 @@ module _ (i j : Synchronized) (is_i : IsSynchronized i) (is_j : IsSynchronized j
     VertOk v = IsInDirection sol.back (t v.name) v.kind
 
     -- the order of two rows of one place
-    one_order : (a b : Planted) → Has a.vertex (row_verts prop.rows_u) → HaveEdges i j p u shape prop is_j a b
+    one_order : (a b : Planted) → Has a.vertex (row_verts prop.rows_u) → HaveEdges i j p u shape prop a b
         → PairHas i j p u shape prop PipeOk VertOk a b → (fixed : Bool) → a.fixed ≡ fixed → HaveOrder mate_of
         (Holds t) a b
     one_order a b here edges pair true e =
@@ -231,9 +228,9 @@ module _ (i j : Synchronized) (is_i : IsSynchronized i) (is_j : IsSynchronized j
     orders =
         let hs : List Planted = prop.rows_u in
         let bs : List Planted = prop.rows_w in
-        let E : Planted → Planted → Type 0 = HaveEdges i j p u shape prop is_j in
+        let E : Planted → Planted → Type 0 = HaveEdges i j p u shape prop in
         let R : Planted → Planted → Type 0 = PairHas i j p u shape prop PipeOk VertOk in
-        let edges = rows-HaveEdges i j p u shape prop is_j in
+        let edges = rows-HaveEdges i j is_i p live u end shape edges_u prop in
         zip_then (λ a b. Has a.vertex (row_verts hs) × (E a b × R a b)) (HaveOrder mate_of (Holds t)) hs bs
         (λ a b h. one_order a b h.0 h.1.0 h.1.1 a.fixed refl)
         (zip_both (λ a b. Has a.vertex (row_verts hs)) (λ a b. E a b × R a b) hs bs

@@ -18,10 +18,9 @@ use Rattle.cp_board.specs.Solutions.{IsInDirection, IsMirror, directed, second_o
 use Rattle.cp_board.specs.Steps.{partner}
 use Rattle.cp_plantlaw.specs.NamedTrees.{PairedRow}
 use Rattle.cp_plantlaw.proofs.EndPartners.{found_own}
-use Rattle.cp_plantlaw.proofs.FreshNames.{find-none}
+use Rattle.cp_plantlaw.proofs.FreshNames.{All-from_items, find-none}
 use Rattle.cp_plantlaw.proofs.LaidTrees.{AreLaid, IsLaid}
 use Rattle.cp_plantlaw.proofs.PermutedRows.{map-reverse}
-use Rattle.cp_plantlaw.proofs.PropagatedBack.{All-from_items}
 use Rattle.cp_plantlaw.proofs.PropagatedTrees.{Holds, turn_back}
 use Rattle.cp_plantlaw.proofs.RowOrders.{mate_of_row, seconds_by}
 use Rattle.cp_plantlaw.proofs.RowPairs.{node_pipe, node_vert}

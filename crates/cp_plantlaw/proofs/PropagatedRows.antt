@@ -1,13 +1,11 @@
 -- What Propagate makes of an instance: the vertices, edges and pipes that stand for the planted rows.
 use Rattle.std.proofs.Common.{◌≡◌, ℕ, Bool, true, false, not, cond, eqb, List, [], ◌∷◌, ◌++◌, append_assoc, length, map, reverse, sym, refl, ap, ap₂, ◌∙◌, subst, inl, inr, ⊎_elim, arith, IsPermutation}
-use Rattle.std.specs.List.{All, AllZip, flat_map, zip}
+use Rattle.std.specs.List.{All, AllZip, flat_map}
 use Rattle.std.proofs.lemmas.List.{map-append}
-use Rattle.std.proofs.lemmas.List.Sorted.{All-permutation, IsPermutation-append, IsPermutation-append_comm, IsPermutation-append_left, IsPermutation-append_right, IsPermutation-filter_both, IsPermutation-map, IsPermutation-reverse, IsPermutation-sym, IsPermutation-trans}
+use Rattle.std.proofs.lemmas.List.Sorted.{All-permutation, IsPermutation-append, IsPermutation-append_comm, IsPermutation-append_left, IsPermutation-append_right, IsPermutation-filter_both, IsPermutation-map, IsPermutation-sym, IsPermutation-trans}
 use Rattle.cp_lists.specs.CyclicLists.{Has}
 use Rattle.cp_lists.specs.Rows.{flat}
-use Rattle.cp_lists.specs.Turns.{turned_to_least}
 use Rattle.cp_lists.proofs.DistinctLists.{Has-append_cases, Has-append_left, Has-append_right}
-use Rattle.cp_lists.proofs.LeastItems.{turned_to_least-IsTurn}
 use Rattle.cp_base.specs.declared.shape.Branch.{Branch}
 use Rattle.cp_base.specs.declared.shape.Shape.{Shape}
 use Rattle.cp_base.specs.Shapes.{leaves}
@@ -15,7 +13,7 @@ use Rattle.cp_board.specs.declared.parts.EdgeRow.{EdgeRow}
 use Rattle.cp_board.specs.declared.parts.Pipe.{Pipe}
 use Rattle.cp_board.specs.declared.parts.Vert.{Vert}
 use Rattle.cp_board.specs.Changes.{free_vert, moved_edges, other_pipes, other_verts}
-use Rattle.cp_board.specs.Instances.{Synchronized, IsSynchronized, HasRightPairs, IsRightKind, edges_of, graph, vert_names}
+use Rattle.cp_board.specs.Instances.{Synchronized, edges_of, vert_names}
 use Rattle.cp_board.specs.Names.{by_name}
 use Rattle.cp_board.specs.Plantings.{Planted, Plants, PlantsAll, fixed_nodes, free_nodes, holder, tree_edges}
 use Rattle.cp_board.specs.Propagations.{IsPropagated, fixed_verts, node_pipes}
@@ -23,7 +21,7 @@ use Rattle.cp_board.specs.Steps.{opposite, partner}
 use Rattle.cp_board.proofs.NamedLists.{by_name_keeps}
 use Rattle.cp_board.proofs.Rules.{All-first, All-second}
 use Rattle.cp_board.proofs.ShapeEquations.{leaves_Leaf, leaves_P, leaves_Q}
-use Rattle.cp_plantlaw.proofs.RowPairs.{each_pipe, each_vert, first_zip, node_pipe, node_vert, second_zip, turn-IsPermutation, zip_both, zip_from_kept, zip_kept, zip_then}
+use Rattle.cp_plantlaw.proofs.RowPairs.{each_pipe, each_vert, node_pipe, node_vert, zip_both, zip_from_kept, zip_kept, zip_then}
 use Rattle.cp_plantlaw.proofs.ToldTrees.{HaveOneForm, planted-HaveOneForm, zip_length}
 
 -- all edges of some planted rows
@@ -266,52 +264,6 @@ module _ (i j : Synchronized) (p : Pipe) (u : ℕ) (shape : Shape) (prop : IsPro
       (each_vert S prop.new_cells (fixed_nodes prop.rows_u) (fixed_nodes prop.rows_w) prop.one_cell_each fixed_count
       (All-first S fu fw new) (All-second S fu fw new)))
 
-  -- j keeps the rules
-  module _ (is_j : IsSynchronized j) where
-    -- the edges of the vertices of two rows are those of the rows
-    abbrev pub HaveEdges : Planted → Planted → Type 0
-    HaveEdges a b = IsPermutation a.edges (edges_of j a.vertex) × IsPermutation b.edges (edges_of j b.vertex)
-
-    -- two P-nodes, whose pairs are right
-    free_edges : (a b : Planted) (n : ℕ) → length b.edges ≡ length a.edges → HasRightPairs (graph j) (node_pipe n a b)
-        → HaveEdges a b
-    free_edges a b n size right =
-        let pairs : List (ℕ × ℕ) = zip a.edges b.edges in
-        let kept : IsPermutation pairs (by_name (λ x. x.0) pairs) = by_name_keeps (λ x. x.0) pairs in (
-          subst (λ zs. IsPermutation zs (edges_of j a.vertex)) (first_zip a.edges b.edges size)
-              (subst (IsPermutation (map (λ x. x.0) pairs)) right.first
-              (IsPermutation-map (λ x. x.0) pairs (by_name (λ x. x.0) pairs) kept)),
-          subst (λ zs. IsPermutation zs (edges_of j b.vertex)) (second_zip a.edges b.edges size)
-              (IsPermutation-trans (map (λ x. x.1) pairs) (map (λ x. x.1) (by_name (λ x. x.0) pairs))
-              (edges_of j b.vertex)
-              (IsPermutation-map (λ x. x.1) pairs (by_name (λ x. x.0) pairs) kept)
-              (IsPermutation-sym (edges_of j b.vertex) (map (λ x. x.1) (by_name (λ x. x.0) pairs)) right.second)),
-        )
-
-    -- a psi that arranges the edges of a vertex
-    arranged_psi : (v : ℕ) (es : List ℕ) → IsPermutation (edges_of j v) (turned_to_least es)
-        → IsPermutation es (edges_of j v)
-    arranged_psi v es arr =
-        IsPermutation-trans es (turned_to_least es) (edges_of j v)
-        (turn-IsPermutation es (turned_to_least es) (turned_to_least-IsTurn es))
-        (IsPermutation-sym (edges_of j v) (turned_to_least es) arr)
-
-    -- so each two rows of one place have the edges of their vertices
-    pub rows-HaveEdges : AllZip HaveEdges prop.rows_u prop.rows_w
-    rows-HaveEdges =
-        let R : Pipe → Type 0 = HasRightPairs (graph j) in
-        let S : Vert → Type 0 = λ (v : Vert). IsRightKind (graph j) v.name v.kind in
-        zip_then (λ a b. HaveOneForm a b × PairHas R S a b) HaveEdges prop.rows_u prop.rows_w
-        (λ a b h. by_kind a b a.fixed refl h.0.1 h.1)
-        (zip_both HaveOneForm (PairHas R S) prop.rows_u prop.rows_w forms
-        (all_pairs R S is_j.pairs_right is_j.lists_right))
-      where
-        by_kind : (a b : Planted) (fixed : Bool) → a.fixed ≡ fixed → length b.edges ≡ length a.edges
-            → PairHas (HasRightPairs (graph j)) (λ v. IsRightKind (graph j) v.name v.kind) a b → HaveEdges a b
-        by_kind a b true e size h =
-            let k = h.1 e in (
-              arranged_psi a.vertex a.edges k.1.0,
-              IsPermutation-trans b.edges (reverse b.edges) (edges_of j b.vertex) (IsPermutation-reverse b.edges)
-                  (arranged_psi b.vertex (reverse b.edges) k.2.0),
-            )
-        by_kind a b false e size h = let k = h.0 (ap not e) in free_edges a b k.0 size k.1
+  -- the edges of the vertices of two rows are those of the rows
+  abbrev pub HaveEdges : Planted → Planted → Type 0
+  HaveEdges a b = IsPermutation a.edges (edges_of j a.vertex) × IsPermutation b.edges (edges_of j b.vertex)

@@ -37,9 +37,9 @@ use Rattle.cp_sync.proofs.EqualOrders.{rising_same}
 use Rattle.cp_plantlaw.proofs.ApartPipes.{owned}
 use Rattle.cp_plantlaw.proofs.EdgesOfRows.{ends_right, rows_u-edges, rows_w-edges}
 use Rattle.cp_plantlaw.proofs.EndPartners.{found_own}
-use Rattle.cp_plantlaw.proofs.FreshNames.{fresh_once, fresh_other, has-false, passed}
+use Rattle.cp_plantlaw.proofs.FreshNames.{All-from_items, fresh_once, fresh_other, has-false, passed}
 use Rattle.cp_plantlaw.proofs.PermutedRows.{IsPermutation-flat_map}
-use Rattle.cp_plantlaw.proofs.PropagatedBack.{All-from_items, other_stays, other_vert}
+use Rattle.cp_plantlaw.proofs.PropagatedBack.{other_stays, other_vert}
 use Rattle.cp_plantlaw.proofs.PropagatedEnds.{Has_old, edges_j_once, edges_named, edges_stay, names_once, old_Has, verts_u, verts_w}
 use Rattle.cp_plantlaw.proofs.PropagatedRows.{all_edges, all_pipes, all_verts, edges_ordered, free_forms, new_fixed, new_free, new_pipes, old_verts, pipes_keep, row_verts, verts_keep, verts_named, verts_ordered}
 use Rattle.cp_plantlaw.proofs.RowPairs as row_pairs

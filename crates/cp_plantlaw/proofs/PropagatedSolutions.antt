@@ -30,13 +30,14 @@ use Rattle.cp_board.specs.Steps.{IsEnd, opposite, partner}
 use Rattle.cp_synclaw.proofs.InstanceDarts.{edges_once}
 use Rattle.cp_plantlaw.specs.NamedTrees.{PairedRow}
 use Rattle.cp_plantlaw.proofs.ApartPipes.{owned}
-use Rattle.cp_plantlaw.proofs.FreshNames.{fresh_once, fresh_other, passed}
+use Rattle.cp_plantlaw.proofs.FreshNames.{All-from_items, fresh_once, fresh_other, passed}
 use Rattle.cp_plantlaw.proofs.LaidTrees.{KidsLaid}
 use Rattle.cp_plantlaw.proofs.PairedTrees.{first_row, second_row}
-use Rattle.cp_plantlaw.proofs.PropagatedBack.{All-from_items, kind_live, live_end, other_stays, trees-HasGenusZero}
+use Rattle.cp_plantlaw.proofs.PropagatedBack.{kind_live, live_end, other_stays, trees-HasGenusZero}
 use Rattle.cp_plantlaw.proofs.PropagatedEnds.{Has_old, edges_stay, mirrors, names_once, old_Has}
 use Rattle.cp_plantlaw.proofs.PropagatedOn.{IsDirected, all-by_items, bits_cells, bits_of, bits_verts, direction, direction_bit, direction_other, laid-IsDirected, laid-IsMirror, listed, listed_other, listed_row, zip-laid}
-use Rattle.cp_plantlaw.proofs.PropagatedRows.{HaveEdges, all_pipes, all_verts, forms, new_fixed, new_free, new_pipes, old_verts, pipes_keep, row_verts, rows-HaveEdges, verts_keep, verts_named}
+use Rattle.cp_plantlaw.proofs.PropagatedRows.{HaveEdges, all_pipes, all_verts, forms, new_fixed, new_free, new_pipes, old_verts, pipes_keep, row_verts, verts_keep, verts_named}
+use Rattle.cp_plantlaw.proofs.EdgesOfRows.{rows-HaveEdges}
 use Rattle.cp_plantlaw.proofs.PropagatedTrees.{Holds, laid_edges, laid_verts, map_map, turn_back}
 use Rattle.cp_plantlaw.proofs.ReadLeaves.{reads-leaves}
 use Rattle.cp_plantlaw.proofs.ReadTrees.{ReadsAs, branch-ReadsAs}
@@ -148,11 +149,11 @@ module _ (i j : Synchronized) (is_i : IsSynchronized i) (is_j : IsSynchronized j
 
   -- the edges of the rows, and their lists
   abbrev E : Planted → Planted → Type 0
-  E = HaveEdges i j p u shape prop is_j
+  E = HaveEdges i j p u shape prop
 
   -- the edges of the vertices of two rows are those of the rows
   edges : AllZip E hs bs
-  edges = rows-HaveEdges i j p u shape prop is_j
+  edges = rows-HaveEdges i j is_i p live u end shape edges_u prop
 
   -- no edge stands twice in a row
   row_once : (a b : Planted) → E a b → Distinct a.edges

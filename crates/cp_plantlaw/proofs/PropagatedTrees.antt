@@ -27,7 +27,8 @@ use Rattle.cp_plantlaw.proofs.PairedTrees.{first-rows, first-tops, first_row, mi
 use Rattle.cp_plantlaw.proofs.PermutedRows.{all_permuted}
 use Rattle.cp_plantlaw.proofs.PlantedEnds.{IsPlantedTree, planted_ends-HasGenusZero}
 use Rattle.cp_plantlaw.proofs.PropagatedEnds.{Has_old, back, back_u, back_w, edges_u-leaves, ends-IsMoved, mate, mirrors, names_once, old, put_old, verts_i, w}
-use Rattle.cp_plantlaw.proofs.PropagatedRows.{HaveEdges, place, row_verts, rows-HaveEdges, verts_named}
+use Rattle.cp_plantlaw.proofs.PropagatedRows.{HaveEdges, place, row_verts, verts_named}
+use Rattle.cp_plantlaw.proofs.EdgesOfRows.{rows-HaveEdges}
 use Rattle.cp_plantlaw.proofs.RowPairs.{turn-IsPermutation, zip_both}
 
 -- what holds at two rows of one place holds at the row that is laid on them
@@ -170,15 +171,15 @@ module _ (i j : Synchronized) (is_i : IsSynchronized i) (is_j : IsSynchronized j
   known t rs laid =
       let hs : List Planted = prop.rows_u in
       let bs : List Planted = prop.rows_w in
-      let edges = rows-HaveEdges i j p u shape prop is_j in
-      let E : Planted → Planted → Type 0 = HaveEdges i j p u shape prop is_j in
+      let edges = rows-HaveEdges i j is_i p live u end shape edges_u prop in
+      let E : Planted → Planted → Type 0 = HaveEdges i j p u shape prop in
       laid-all phi (λ a b. E a b × (Has a.vertex (row_verts hs) × Has b.vertex (row_verts bs))) (Known t) one hs bs rs
       (zip_both E (λ a b. Has a.vertex (row_verts hs) × Has b.vertex (row_verts bs)) hs bs edges
       (zip_both (λ a b. Has a.vertex (row_verts hs)) (λ a b. Has b.vertex (row_verts bs)) hs bs
       (rows_inside hs hs bs (λ x h. h) E edges) (others_inside bs hs bs (λ x h. h) E edges))) laid
     where
       one : (a b : Planted) (r : PairedRow)
-          → HaveEdges i j p u shape prop is_j a b × (Has a.vertex (row_verts prop.rows_u) × Has b.vertex
+          → HaveEdges i j p u shape prop a b × (Has a.vertex (row_verts prop.rows_u) × Has b.vertex
           (row_verts prop.rows_w))
           → IsLaid phi a b r → Known t r
       one a b r h l =

@@ -10,10 +10,10 @@ use Rattle.cp_lists.proofs.DistinctLists.{Has-append_left, Has-append_right, has
 use Rattle.cp_lists.proofs.EachItem.{all_parts}
 use Rattle.cp_lists.proofs.TurnedLists.{turn-Distinct, turn-sym, turn-trans, turn_same}
 use Rattle.cp_board.specs.Plantings.{Planted}
+use Rattle.cp_plantlaw.proofs.FreshNames.{All-from_items}
 use Rattle.cp_plantlaw.specs.NamedTrees.{Named, rows, tops, word}
 use Rattle.cp_plantlaw.specs.Readings.{ReadsBelow, ReadsEach}
 use Rattle.cp_plantlaw.proofs.ApartPipes.{one_owner, owned}
-use Rattle.cp_plantlaw.proofs.PropagatedBack.{All-from_items}
 use Rattle.cp_plantlaw.proofs.PropagatedEnds.{row_tops}
 
 -- the edges from above of rows, one for each row

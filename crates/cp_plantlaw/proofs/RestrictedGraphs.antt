@@ -23,7 +23,7 @@ use Rattle.cp_board.proofs.NamedLists.{rises_from}
 use Rattle.cp_board.proofs.NumberOfNewNames.{Distinct-from_rises}
 use Rattle.cp_sync.proofs.NumberedGraphs.{IsRotation-system}
 use Rattle.cp_synclaw.proofs.InstanceDarts.{length-two_each, two_each-first, two_each-second}
-use Rattle.cp_plantlaw.proofs.PropagatedBack.{All-from_items}
+use Rattle.cp_plantlaw.proofs.FreshNames.{All-from_items}
 use Rattle.cp_plantlaw.proofs.PropagatedEnds.{Has_kept, kept_Has}
 
 -- a graph whose names rise and whose edges join two different vertices, and lists of a rotation of it

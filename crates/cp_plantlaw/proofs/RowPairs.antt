@@ -1,7 +1,7 @@
 -- Rows of two trees that stand place by place: the pipes and cells that they make.
-use Rattle.std.proofs.Common.{◌≡◌, ℕ, Bool, true, false, List, [], ◌∷◌, ◌++◌, length, map, reverse, sym, refl, ap, ◌∙◌, subst, ⊎_elim, arith, IsPermutation}
+use Rattle.std.proofs.Common.{suc, ◌≡◌, ℕ, Bool, true, false, List, [], ◌∷◌, ◌++◌, length, map, reverse, sym, refl, ap, ◌∙◌, subst, ⊎_elim, arith, IsPermutation}
 use Rattle.std.specs.Prelude.{filter}
-use Rattle.std.specs.List.{All, AllZip, zip}
+use Rattle.std.specs.List.{All, AllZip, Contains, zip}
 use Rattle.std.proofs.lemmas.Bool.{cases_Bool, false≢true}
 use Rattle.std.proofs.lemmas.List.Elements.{All-cons, All-head, All-nil, All-tail}
 use Rattle.std.proofs.lemmas.List.Sorted.{IsPermutation-append_comm}
@@ -132,4 +132,28 @@ each_vert P (c ∷ cells) (a ∷ hs) (b ∷ bs) e d one two = (
   each_vert P cells hs bs (omega (arith, e)) (omega (arith, d))
       (All-tail P (node_vert (λ es. es) c a) (fixed_verts (λ es. es) cells hs) one)
       (All-tail P (node_vert reverse c b) (fixed_verts reverse cells bs) two),
+)
+
+-- each row is one of all
+pub own_rows : (all hs bs : List Planted) → ((r : Planted) → Contains hs r → Contains all r)
+    → (R : Planted → Planted → Type 0)
+    → AllZip R hs bs → AllZip (λ a b. Contains all a) hs bs
+own_rows all [] [] inside R z = tt
+own_rows all [] (b ∷ bs) inside R z = absurd z
+own_rows all (a ∷ hs) [] inside R z = absurd z
+own_rows all (a ∷ hs) (b ∷ bs) inside R z = (
+  inside a (0, omega arith, refl),
+  own_rows all hs bs (λ r c. inside r (suc c.0, omega (arith, c.1), c.2)) R z.1,
+)
+
+-- each row of the second list is one of all
+pub own_others : (all hs bs : List Planted) → ((r : Planted) → Contains bs r → Contains all r)
+    → (R : Planted → Planted → Type 0)
+    → AllZip R hs bs → AllZip (λ a b. Contains all b) hs bs
+own_others all [] [] inside R z = tt
+own_others all [] (b ∷ bs) inside R z = absurd z
+own_others all (a ∷ hs) [] inside R z = absurd z
+own_others all (a ∷ hs) (b ∷ bs) inside R z = (
+  inside b (0, omega arith, refl),
+  own_others all hs bs (λ r c. inside r (suc c.0, omega (arith, c.1), c.2)) R z.1,
 )
