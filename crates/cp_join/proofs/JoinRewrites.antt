@@ -90,11 +90,11 @@ module _ (i : Synchronized) (p : Pipe) (s t : Parting) (hats : List ℕ) (h : Ha
           (sym (partner_a i p s t hats h x.0 ∙ All-head (λ z. second p.pairs z.0 ≡ z.1) x xs all))
           ∙ ap (λ rs. row i p s t hats h x.0 ∷ rs) (by_pairs xs (All-tail (λ z. second p.pairs z.0 ≡ z.1) x xs all))
 
-  -- the new edge that the rewrite has for an edge of the first end is that of the step
+  -- the hats of the pipes of both ends
   hat_a : (e : ℕ) → hat_among (firsts p.pairs) hats e ≡ hat i p s t hats h e
   hat_a e = ap (λ es. slice_index hats (rank es e)) h.pairs.first
 
-  -- the new edge that it has for an edge of the second end is that of the partner
+  -- and for an edge of the second end
   hat_b : (y : ℕ) → Has y (seconds p.pairs) → hat_among (seconds p.pairs) hats y ≡ hat i p s t hats h (partner p p.b y)
   hat_b y k =
       ap (slice_index hats)
@@ -102,7 +102,7 @@ module _ (i : Synchronized) (p : Pipe) (s t : Parting) (hats : List ℕ) (h : Ha
       ∙ ap (rank (firsts p.pairs)) (sym (partner_b i p s t hats h y)))
       ∙ hat_a (partner p p.b y)
 
-  -- each edge in a part of the first end is the first of a pair
+  -- the edges of the parts of the first end are in pairs
   pub first_among : All (All (Contains (firsts p.pairs))) s.parts
   first_among k d lt =
       All-from_has (Contains (firsts p.pairs)) (slice_index_or s.parts k d)
@@ -110,7 +110,7 @@ module _ (i : Synchronized) (p : Pipe) (s t : Parting) (hats : List ℕ) (h : Ha
       (all_from (graph i) p.a s.parts h.rules.edges_named.rise h.parts_a e
       (Has-flat_map e s.parts k lt (subst (Has e) (get_or_default s.parts k d [] lt) m))))
 
-  -- each edge in a part of the second end is the second of a pair
+  -- so are those of the second
   pub second_among : All (All (Contains (seconds p.pairs))) t.parts
   second_among k d lt =
       All-from_has (Contains (seconds p.pairs)) (slice_index_or t.parts k d)
@@ -131,7 +131,7 @@ module _ (i : Synchronized) (p : Pipe) (s t : Parting) (hats : List ℕ) (h : Ha
       ∙ ap (λ ps. record { name = x; a = y; b = z; pairs = map (λ e. (e, g e)) q } ∷ ps)
       (pipes_agree f g xs ys zs qs (All-tail (λ r. All (λ e. f e ≡ g e) r) q qs all))
 
-  -- the rewrite of Join at the pipe p
+  -- the rewrite of Join
   abbrev rewrite : Rewrite
   rewrite = joining p.name (p.a, p.b) p.pairs s t hats
 
@@ -183,7 +183,7 @@ module _ (i : Synchronized) (p : Pipe) (s t : Parting) (hats : List ℕ) (h : Ha
           (All-contains (Contains (seconds p.pairs)) (slice_index_or t.parts k d) y (second_among k d lt)
           ((Has-Contains y (slice_index_or t.parts k d)).0 m)))))))
 
-  -- the partings and the new edges fit the pairs of the pipe
+  -- the pairs fit the partings
   pub fit_pairs : FitPairs p.pairs hats s t
   fit_pairs = record {
     hats_each = h.hats_each;
@@ -214,15 +214,15 @@ module _ (i : Synchronized) (p : Pipe) (s t : Parting) (hats : List ℕ) (h : Ha
 
   -- there are fewer new names than a number of 63 bits tells
   module _ (few_verts : length (vert_names i) < 2 ^ 60) (few_edges : length (edge_names i) < 2 ^ 60) where
-    -- a vertex has no more edges than the instance
+    -- a vertex has no more edges than there are
     edges_few : (v : ℕ) → length (edges_of i v) ≤ length (edge_names i)
     edges_few v = subset_length (edges_of i v) (edge_names i)
         (Distinct-rising (edges_of i v) (IsStrictlyIncreasing-filter (ends_at (graph i) v) (edge_names i) h.rules.edges_named.rise))
         (λ d k. (Has-Contains d (edge_names i)).1
         (edges_at-Contains (graph i) v d ((Has-Contains d (edges_of i v)).0 k)).0)
 
-    -- a vertex has fewer than 2^60 parts
-    parts_small : (u : ℕ) (parts : List (List ℕ)) → ArePartsAt (graph i) u parts → length parts < 2 ^ 60
+    -- so its parts are few
+    pub parts_small : (u : ℕ) (parts : List (List ℕ)) → ArePartsAt (graph i) u parts → length parts < 2 ^ 60
     parts_small u parts are =
         omega (arith, parts_few parts are.filled, length_permutation (edges_of i u) (all_of parts) are.whole, edges_few u, few_edges)
 
@@ -253,7 +253,7 @@ module _ (i : Synchronized) (p : Pipe) (s t : Parting) (hats : List ℕ) (h : Ha
             n)
             m
 
-    -- the instance after Join keeps the five rules
+    -- so the rules hold after the rewrite
     rules_after : IsSynchronized (joined i p s t hats h)
     rules_after =
         let small_a = parts_small p.a s.parts h.parts_a in
@@ -291,7 +291,7 @@ module _ (i : Synchronized) (p : Pipe) (s t : Parting) (hats : List ℕ) (h : Ha
           length-append s.names t.names,
         ))
 
-    -- the name of the pipe is that of a pipe of the instance
+    -- the pipe is live
     pipe_name_live : Contains (pipe_names i) p.name
     pipe_name_live = (Has-Contains p.name (pipe_names i)).0 (found_has i.pipes h.live)
       where
@@ -303,7 +303,7 @@ module _ (i : Synchronized) (p : Pipe) (s t : Parting) (hats : List ℕ) (h : Ha
             (λ b. inr (found_has qs (sym (cond-false (eqb q.name p.name) (Some q) (find (λ x. eqb x.name p.name) qs) b) ∙ e)))
             (cases_Bool (eqb q.name p.name))
 
-    -- P-vertices that are made of names have these names
+    -- the names of P-vertices
     names_of_free : (ns : List ℕ) → names_of_verts (map free_vert ns) ≡ ns
     names_of_free [] = refl
     names_of_free (n ∷ ns) = ap (λ zs. n ∷ zs) (names_of_free ns)
@@ -313,7 +313,7 @@ module _ (i : Synchronized) (p : Pipe) (s t : Parting) (hats : List ℕ) (h : Ha
     no_cells [] = refl
     no_cells (n ∷ ns) = no_cells ns
 
-    -- the pipes that are added have the names for the parts of both ends
+    -- the names of the new pipes
     names_of_pipes_added : map (λ q. q.name) rewrite.add_pipes ≡ s.names ++ t.names
     names_of_pipes_added =
         map-append (λ (q : Pipe). q.name) (part_pipes (hat_among (firsts p.pairs) hats) s.names s.outer s.inner s.parts)
@@ -324,7 +324,7 @@ module _ (i : Synchronized) (p : Pipe) (s t : Parting) (hats : List ℕ) (h : Ha
         (names_of_pipes (hat_among (seconds p.pairs) hats) t.names t.outer t.inner t.parts h.parted.second_end.name_each
         h.parted.second_end.outer_each h.parted.second_end.inner_each)
 
-    -- the edges that are added have the names of the new edges
+    -- and those of the new edges
     names_of_edges_added : map (λ e. e.name) rewrite.add_edges ≡ hats
     names_of_edges_added =
         ap (map (λ (e : EdgeRow). e.name)) hat_rows ∙ names_of_row (edges_a i p s t hats h) ∙ hats_all i p s t hats h
@@ -354,7 +354,7 @@ module _ (i : Synchronized) (p : Pipe) (s t : Parting) (hats : List ℕ) (h : Ha
       new_cells = subst (AreNew (cells i)) (sym (ap (first_ones (cells i)) (no_cells (new_verts s t)))) refl;
     }
 
-    -- the instance after the rewrite is one after Join
+    -- and gives what Join makes of it
     joining_effect : IsJoined i p (rewritten rewrite i)
     joining_effect = record {
       parts_a = s.parts;
@@ -380,6 +380,6 @@ module _ (i : Synchronized) (p : Pipe) (s t : Parting) (hats : List ℕ) (h : Ha
       pipes = ap (λ z. z.pipes) rewritten_joining;
     }
 
-    -- the rewrite fits, and what it makes of the instance is what Join makes of it
+    -- so it performs the step
     pub Performs-joining : Performs i (Join p.name) rewrite
     Performs-joining = (joining_fits, (p, h.live, joining_effect))

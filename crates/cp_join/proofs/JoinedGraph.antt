@@ -37,7 +37,7 @@ pub or_second : (a b : Bool) → a ≡ false → (a || b) ≡ b
 or_second true b f = cc
 or_second false b f = refl
 
--- where the second of two tests fails, one of them passes exactly where the first does
+-- and the other one is left
 pub or_first : (a b : Bool) → b ≡ false → (a || b) ≡ a
 or_first true b f = refl
 or_first false b f = f
@@ -56,23 +56,23 @@ module _ (i : Synchronized) (p : Pipe) (s t : Parting) (hats : List ℕ) (h : Ha
   abbrev pub edges_a : List ℕ
   edges_a = edges_of i p.a
 
-  -- the edges of the second end
+  -- and of the second
   abbrev pub edges_b : List ℕ
   edges_b = edges_of i p.b
 
-  -- the name of the new edge for an edge of the first end
+  -- the new edge for an edge of the first end
   abbrev pub hat : ℕ → ℕ
   hat x = edge_for i p hats x
 
-  -- the new edge for an edge of the first end, between the inner vertices of its part and of its partner's part
+  -- and its row
   abbrev pub row : ℕ → EdgeRow
   row x = bipartite_edge i p hats s.parts s.inner t.parts t.inner x
 
-  -- the edges that were there, each end at an end of the pipe moved to the outer vertex for its part
+  -- the edges that were there, and the new ones
   abbrev pub kept_rows : List EdgeRow
   kept_rows = moved_edges i (to i p s t hats h)
 
-  -- the new edges, in the order of the edges of the first end
+  -- the rows of the new edges
   abbrev pub new_rows : List EdgeRow
   new_rows = map row edges_a
 
@@ -86,93 +86,93 @@ module _ (i : Synchronized) (p : Pipe) (s t : Parting) (hats : List ℕ) (h : Ha
         ++ part_pipes (λ y. hat (partner p p.b y)) t.names t.outer t.inner t.parts);
   }
 
-  -- the edges of each vertex before Join rise
+  -- the edges of a vertex rise
   pub rise_at : (v : ℕ) → IsStrictlyIncreasing (edges_of i v)
   rise_at v = IsStrictlyIncreasing-filter (ends_at (graph i) v) (edge_names i) h.rules.edges_named.rise
 
-  -- no edge of a vertex before Join stands twice
+  -- so none stands twice
   pub once_at : (v : ℕ) → Distinct (edges_of i v)
   once_at v = Distinct-rising (edges_of i v) (rise_at v)
 
-  -- no first edge stands in two pairs
+  -- no first edge of the pairs stands twice
   pub once_firsts : Distinct (firsts p.pairs)
   once_firsts = subst Distinct (sym h.pairs.first) (once_at p.a)
 
-  -- no second edge stands in two pairs
+  -- nor does a second
   pub once_seconds : Distinct (seconds p.pairs)
   once_seconds = Distinct-IsPermutation edges_b (seconds p.pairs) h.pairs.second (once_at p.b)
 
-  -- the partner of an edge of the first end is told by the pairs
+  -- partners by the pairs
   pub partner_a : (x : ℕ) → partner p p.a x ≡ second p.pairs x
   partner_a x = cond-true (eqb p.a p.a) (second p.pairs x) (first p.pairs x) (eq-eqb p.a p.a refl)
 
-  -- the partner of an edge of the second end is told by the pairs
+  -- the partner of an edge of the second end
   pub partner_b : (y : ℕ) → partner p p.b y ≡ first p.pairs y
   partner_b y = cond-false (eqb p.a p.b) (second p.pairs y) (first p.pairs y) (ne_eqb p.a p.b h.ends.differ)
 
-  -- each edge of the first end is the first of a pair
+  -- an edge of the first end is the first of a pair
   is_first : (x : ℕ) → Has x edges_a → Has x (firsts p.pairs)
   is_first x k = subst (Has x) (sym h.pairs.first) k
 
-  -- each edge of the second end is the second of a pair
+  -- and one of the second end the second
   is_second : (y : ℕ) → Has y edges_b → Has y (seconds p.pairs)
   is_second y k = Has-IsPermutation y edges_b (seconds p.pairs) h.pairs.second k
 
-  -- the partner of an edge of the first end is an edge of the second end
+  -- the partner of an edge of the first end is one of the second
   pub partner_of_a : (x : ℕ) → Has x edges_a → Has (partner p p.a x) edges_b
   partner_of_a x k =
       subst (λ n. Has n edges_b) (sym (partner_a x))
       (Has-IsPermutation (second p.pairs x) (seconds p.pairs) edges_b (IsPermutation-sym edges_b (seconds p.pairs) h.pairs.second)
       (second_has p.pairs once_firsts once_seconds x (is_first x k)))
 
-  -- the partner of an edge of the second end is an edge of the first end
+  -- and the other way round
   pub partner_of_b : (y : ℕ) → Has y edges_b → Has (partner p p.b y) edges_a
   partner_of_b y k =
       subst (λ n. Has n edges_a) (sym (partner_b y))
       (subst (Has (first p.pairs y)) h.pairs.first
       (first_has p.pairs once_firsts once_seconds y (is_second y k)))
 
-  -- the partner of the partner of an edge of the first end is this edge
+  -- the partner of the partner is the edge
   pub partner_back : (x : ℕ) → Has x edges_a → partner p p.b (partner p p.a x) ≡ x
   partner_back x k =
       partner_b (partner p p.a x) ∙ ap (first p.pairs) (partner_a x)
       ∙ first_second p.pairs once_firsts once_seconds x (is_first x k)
 
-  -- the partner of the partner of an edge of the second end is this edge
+  -- also from the second end
   pub partner_forth : (y : ℕ) → Has y edges_b → partner p p.a (partner p p.b y) ≡ y
   partner_forth y k =
       partner_a (partner p p.b y) ∙ ap (second p.pairs) (partner_b y)
       ∙ second_first p.pairs once_firsts once_seconds y (is_second y k)
 
-  -- the edges that were there keep their names
+  -- the names of the edges
   names_kept_rows : (es : List EdgeRow) → map (λ e. e.name) (map (moved_row (to i p s t hats h)) es) ≡ map (λ e. e.name) es
   names_kept_rows [] = refl
   names_kept_rows (e ∷ es) = ap (λ zs. e.name ∷ zs) (names_kept_rows es)
 
-  -- the new edges have the names for their edges of the first end
+  -- the names of new rows
   names_of_row : (xs : List ℕ) → map (λ e. e.name) (map row xs) ≡ map hat xs
   names_of_row [] = refl
   names_of_row (x ∷ xs) = ap (λ zs. hat x ∷ zs) (names_of_row xs)
 
-  -- these names, in the order of the edges of the first end, are the new names
+  -- the new edges for all edges of the first end are all new edges
   pub hats_all : map hat edges_a ≡ hats
   hats_all = map_ranks edges_a hats (once_at p.a)
       (h.hats_each ∙ sym (length-map p.pairs (λ (x : ℕ × ℕ). x.0)) ∙ ap length h.pairs.first)
 
-  -- the edges after Join have the names of the edges that were there and then the new names
+  -- the names of all rows
   pub names_all : map (λ e. e.name) (kept_rows ++ new_rows) ≡ edge_names i ++ hats
   names_all =
       map-append (λ (e : EdgeRow). e.name) kept_rows new_rows
       ∙ ap₂ (λ xs ys. xs ++ ys) (names_kept_rows i.edges) (names_of_row edges_a ∙ hats_all)
 
-  -- no such name stands twice
+  -- no name stands twice
   pub edges_once : Distinct (edge_names i ++ hats)
   edges_once =
       Distinct-append (edge_names i) hats (Distinct-rising (edge_names i) h.rules.edges_named.rise)
       (fresh_once (edge_names i) hats h.hats_new)
       (λ d k. Lacks-from d hats (λ l. fresh_other (edge_names i) hats d d h.hats_new l ((Has-Contains d (edge_names i)).0 k) refl))
 
-  -- so a test of these names finds none twice
+  -- so the names pass the test for it
   pub names_differ : distinct (map (λ e. e.name) (kept_rows ++ new_rows)) ≡ true
   names_differ = ap distinct names_all ∙ distinct_from (edge_names i ++ hats) edges_once
 

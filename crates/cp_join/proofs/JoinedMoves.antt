@@ -26,7 +26,7 @@ use Rattle.cp_join.proofs.JoinNames.{HasPartings, IsLiveRow, rows_live, parts_to
 abbrev pub end_to : ℕ → ℕ → ℕ → ℕ
 end_to u v x = cond (eqb x u) v x
 
--- the edge, where an end at u moves to v
+-- the row of an edge, where its ends at u move to v
 abbrev pub row_to : ℕ → ℕ → EdgeRow → EdgeRow
 row_to u v e = record { name = e.name; a = end_to u v e.a; b = end_to u v e.b }
 
@@ -59,11 +59,11 @@ map_agree f g (e ∷ es) all =
     ∙ ap (λ xs. g e ∷ xs) (map_agree f g es (All-tail (λ z. f z ≡ g z) e es all))
 
 module _ (i : Synchronized) (p : Pipe) (s t : Parting) (hats : List ℕ) (h : HasPartings i p s t hats) where
-  -- the outer vertex for the part of an edge of the first end
+  -- the outer vertices for an edge at both ends
   abbrev pub outer_a : ℕ → ℕ
   outer_a e = vertex_for s.parts s.outer e
 
-  -- the outer vertex for the part of an edge of the second end
+  -- and at the second end
   abbrev pub outer_b : ℕ → ℕ
   outer_b e = vertex_for t.parts t.outer e
 
@@ -71,29 +71,29 @@ module _ (i : Synchronized) (p : Pipe) (s t : Parting) (hats : List ℕ) (h : Ha
   abbrev pub to : ℕ → ℕ → ℕ
   to e x = cond (eqb x p.a) (outer_a e) (cond (eqb x p.b) (outer_b e) x)
 
-  -- the moves of the edges of the first end, each to the outer vertex for its part
+  -- the moves at the first end
   abbrev pub moves_a : List EdgeMove
   moves_a = part_moves p.a s.outer s.parts
 
-  -- the moves of the edges of the second end, each to the outer vertex for its part
+  -- and at the second
   abbrev pub moves_b : List EdgeMove
   moves_b = part_moves p.b t.outer t.parts
 
-  -- no edge stands twice in the parts of the first end
+  -- no edge is in two parts of the first end
   once_a : Distinct (all_of s.parts)
   once_a = all_once (graph i) p.a s.parts h.rules.edges_named.rise h.parts_a
 
-  -- no edge stands twice in the parts of the second end
+  -- nor of the second
   once_b : Distinct (all_of t.parts)
   once_b = all_once (graph i) p.b t.parts h.rules.edges_named.rise h.parts_b
 
-  -- an edge of the first end has one of this end's outer vertices
+  -- the outer vertex for an edge of an end
   pub outer_a_has : (e : ℕ) → Contains (edges_of i p.a) e → Has (outer_a e) s.outer
   outer_a_has e c =
       vertex_has s.parts s.outer e h.parted.first_end.outer_each
       (all_has (graph i) p.a s.parts h.rules.edges_named.rise h.parts_a e c)
 
-  -- an edge of the second end has one of this end's outer vertices
+  -- and at the second end
   pub outer_b_has : (e : ℕ) → Contains (edges_of i p.b) e → Has (outer_b e) t.outer
   outer_b_has e c =
       vertex_has t.parts t.outer e h.parted.second_end.outer_each
@@ -123,7 +123,7 @@ module _ (i : Synchronized) (p : Pipe) (s t : Parting) (hats : List ℕ) (h : Ha
       (λ other. ap (λ y. eqb y p.b) (cond-false (eqb x p.a) (outer_a e.name) x (ne_eqb x p.a other)))
       (cases_eq x p.a)
 
-  -- moved at the first end and then at the second, an end of an edge is where the step moves it
+  -- both moves of an end, one after the other
   end_both : (e : EdgeRow) (x : ℕ) → (x ≡ p.a → p.b ≢ outer_a e.name)
       → end_to p.b (outer_b e.name) (end_to p.a (outer_a e.name) x) ≡ to e.name x
   end_both e x off =
@@ -161,7 +161,7 @@ module _ (i : Synchronized) (p : Pipe) (s t : Parting) (hats : List ℕ) (h : Ha
           → x ≡ p.b
       there x stay at = eqb-true x p.b (sym stay ∙ eq-eqb (end_to p.a (outer_a e.name) x) p.b at)
 
-  -- all moves one after another make of the edges what the step makes of them
+  -- the edges after all moves
   pub moved_all : after_moves (moves_a ++ moves_b) i.edges ≡ moved_edges i to
   moved_all =
       after_moves-map (moves_a ++ moves_b) i.edges
@@ -171,7 +171,7 @@ module _ (i : Synchronized) (p : Pipe) (s t : Parting) (hats : List ℕ) (h : Ha
   -- the moves of both ends fit, where the new vertices are there
   module _ (verts : List ℕ) (old : (x : ℕ) → Contains (vert_names i) x → Contains verts x)
       (new : (x : ℕ) → Has x (new_verts s t) → Contains verts x) where
-    -- a move from a to an outer vertex of a fits the edges as they were
+    -- each move at the first end fits the rows
     is_move_a : (e v : ℕ) → Has e (all_of s.parts) → Has v s.outer → IsMove verts i.edges (move e p.a v)
     is_move_a e v k out =
         let c = all_from (graph i) p.a s.parts h.rules.edges_named.rise h.parts_a e k in
@@ -204,7 +204,7 @@ module _ (i : Synchronized) (p : Pipe) (s t : Parting) (hats : List ℕ) (h : Ha
         (sym (cond-false (eqb x p.a) (outer_a e.name) x (ne_eqb x p.a off)) ∙ same))
         (cases_eq x p.a)
 
-    -- a move from b to an outer vertex of b fits the edges after the moves at a
+    -- each move at the second fits the rows after those
     is_move_b : (e v : ℕ) → Has e (all_of t.parts) → Has v t.outer
         → IsMove verts (map (moved_by moves_a) i.edges) (move e p.b v)
     is_move_b e v k out =
@@ -240,7 +240,7 @@ module _ (i : Synchronized) (p : Pipe) (s t : Parting) (hats : List ℕ) (h : Ha
           vertex = new v (outer_b_new i p s t hats h v out);
         }
 
-    -- the moves of both ends fit one after another
+    -- so all moves fit, one after the other
     pub moves_fit : AreMoves verts i.edges (moves_a ++ moves_b)
     moves_fit =
         AreMoves-append verts moves_a moves_b i.edges

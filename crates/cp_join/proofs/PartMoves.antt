@@ -16,7 +16,7 @@ use Rattle.cp_join.specs.Joining.{moves_to, part_moves}
 use Rattle.cp_join.proofs.NamedParts.{from_has, has_not}
 use Rattle.cp_join.proofs.PartLists.{all_of}
 
--- the move of the end u of an edge to v
+-- the move of an edge
 abbrev pub move : ℕ → ℕ → ℕ → EdgeMove
 move e u v = record { edge = e; from = u; to = v }
 
@@ -25,13 +25,13 @@ abbrev pub moved_by : List EdgeMove → EdgeRow → EdgeRow
 moved_by [] e = e
 moved_by (m ∷ ms) e = moved_by ms (moved_end m e)
 
--- one move of all edges and then some others are all moves, edge by edge
+-- one more move of all rows
 map_moved : (ms : List EdgeMove) (m : EdgeMove) (es : List EdgeRow)
     → map (moved_by ms) (map (moved_end m) es) ≡ map (moved_by (m ∷ ms)) es
 map_moved ms m [] = refl
 map_moved ms m (e ∷ es) = ap (λ zs. moved_by ms (moved_end m e) ∷ zs) (map_moved ms m es)
 
--- no moves leave all edges as they are
+-- no move leaves all rows
 map_same : (es : List EdgeRow) → es ≡ map (moved_by []) es
 map_same [] = refl
 map_same (e ∷ es) = ap (λ zs. e ∷ zs) (map_same es)
@@ -41,12 +41,12 @@ pub after_moves-map : (ms : List EdgeMove) (es : List EdgeRow) → after_moves m
 after_moves-map [] es = map_same es
 after_moves-map (m ∷ ms) es = after_moves-map ms (map (moved_end m) es) ∙ map_moved ms m es
 
--- moves one behind the other make of an edge what the later ones make of it after the first ones
+-- moves one after the other
 pub moved_by-append : (ms ns : List EdgeMove) (e : EdgeRow) → moved_by (ms ++ ns) e ≡ moved_by ns (moved_by ms e)
 moved_by-append [] ns e = refl
 moved_by-append (m ∷ ms) ns e = moved_by-append ms ns (moved_end m e)
 
--- a move keeps the name of an edge
+-- a move keeps names, and changes no edge of another name
 pub moved_end-name : (m : EdgeMove) (e : EdgeRow) → (moved_end m e).name ≡ e.name
 moved_end-name m e =
     cond_both (eqb e.name m.edge)
@@ -56,11 +56,11 @@ moved_end-name m e =
     (record { name = e.name; a = e.a; b = m.to }) (λ (f : EdgeRow). f.name ≡ e.name) (λ u. refl) (λ u. refl))
     (λ f. refl)
 
--- a move changes no edge of another name
+-- the move of another edge leaves a row
 pub moved_end-other : (m : EdgeMove) (e : EdgeRow) → e.name ≢ m.edge → moved_end m e ≡ e
 moved_end-other m e ne = cond-false (eqb e.name m.edge) _ e (ne_eqb e.name m.edge ne)
 
--- moves of the edges of a part change no edge outside it
+-- so do the moves of a part without it
 moved_by_none : (u v : ℕ) (part : List ℕ) (e : EdgeRow) → has part e.name ≡ false → moved_by (moves_to u v part) e ≡ e
 moved_by_none u v [] e off = refl
 moved_by_none u v (x ∷ xs) e off =
@@ -104,14 +104,14 @@ has-append n (x ∷ xs) ys = ap (λ b. eqb n x || b) (has-append n xs ys) ∙ gr
     group true b c = refl
     group false b c = refl
 
--- the vertex for an edge of the first part is the first one
+-- the vertex for an edge of the first part, and of a later one
 pub vertex_first : (part : List ℕ) (parts : List (List ℕ)) (v : ℕ) (verts : List ℕ) (n : ℕ) → has part n ≡ true
     → vertex_for (part ∷ parts) (v ∷ verts) n ≡ v
 vertex_first part parts v verts n t =
     let first : part_of (part ∷ parts) n ≡ 0 = ap (λ b. cond (not b) (1 + part_of parts n) 0) t in
     ap (slice_index (v ∷ verts)) first
 
--- the vertex for an edge that is not in the first part is found by the other parts and vertices
+-- the vertex for an edge that is not in the first part
 pub vertex_later : (part : List ℕ) (parts : List (List ℕ)) (v : ℕ) (verts : List ℕ) (n : ℕ) → has part n ≡ false
     → vertex_for (part ∷ parts) (v ∷ verts) n ≡ vertex_for parts verts n
 vertex_later part parts v verts n f =

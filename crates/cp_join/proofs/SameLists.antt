@@ -41,14 +41,14 @@ map_same_on f g (x ∷ xs) all =
     ap (λ y. y ∷ map f xs) (All-head (λ z. f z ≡ g z) x xs all)
     ∙ ap (λ ys. g x ∷ ys) (map_same_on f g xs (All-tail (λ z. f z ≡ g z) x xs all))
 
--- what holds of each item holds of the list
+-- what holds of each item
 pub All-from_has : (holds : ℕ → Type 0) (xs : List ℕ) → ((x : ℕ) → Has x xs → holds x) → All holds xs
 All-from_has holds [] each k d lt = absurd (omega (arith, lt))
 All-from_has holds (x ∷ xs) each zero d lt = each x (inl refl)
 All-from_has holds (x ∷ xs) each (suc k) d lt =
     All-from_has holds xs (λ y h. each y (inr h)) k d (omega (arith, lt))
 
--- what holds of the list holds of each item
+-- and back
 pub All-has : (holds : ℕ → Type 0) (xs : List ℕ) → All holds xs → (x : ℕ) → Has x xs → holds x
 All-has holds [] all x h = elim h [ ]
 All-has holds (y ∷ ys) all x h =
@@ -81,7 +81,7 @@ distinct_from (x ∷ xs) once =
     and_from (not (has xs x)) (distinct xs)
     (ap not (has_not xs x (λ h. has_lacks x xs h once.0))) (distinct_from xs once.1)
 
--- an item that is kept is one of the list and passes the test
+-- what a filter keeps
 pub Has-kept : (q : ℕ → Bool) (xs : List ℕ) (x : ℕ) → Has x (filter q xs) → Has x xs × (q x ≡ true)
 Has-kept q [] x h = elim h [ ]
 Has-kept q (y ∷ ys) x h =
@@ -93,7 +93,7 @@ Has-kept q (y ∷ ys) x h =
     (λ f. let r = Has-kept q ys x (subst (Has x) (cond-false (q y) (y ∷ filter q ys) (filter q ys) f) h) in (inr r.0, r.1))
     (cases_Bool (q y))
 
--- an item that passes the test is kept
+-- and the other way round
 pub kept-Has : (q : ℕ → Bool) (xs : List ℕ) (x : ℕ) → Has x xs → q x ≡ true → Has x (filter q xs)
 kept-Has q [] x h t = elim h [ ]
 kept-Has q (y ∷ ys) x h t =
@@ -113,7 +113,7 @@ head_less x (y ∷ ys) t z h =
     (λ k. omega (arith, less, head_less y ys parts.1 z k))
     h
 
--- the rest of a list that rises does so, too
+-- what rises does so without its first
 rises_tail : (x : ℕ) (xs : List ℕ) → rises (x ∷ xs) ≡ true → rises xs ≡ true
 rises_tail x [] t = refl
 rises_tail x (y ∷ ys) t = (and_parts (ltb x y) (rises (y ∷ ys)) t).1
