@@ -42,11 +42,11 @@ HasRoom-more p q c more room = record {
   pipes = All-grown (λ x. x.name) (entry_names p.pipes.entries.items) (entry_names q.pipes.entries.items) c.pipes.items more.pipes room.pipes;
 }
 
--- tables with all the names of others have room for each change of a log that those have room for
+-- and for all changes of a log
 pub All-HasRoom-more : (p q : Parts) (log : List Change) → HasMoreRoom p q → All (HasRoom p) log → All (HasRoom q) log
 All-HasRoom-more p q log more all k d lt = HasRoom-more p q (slice_index_or log k d) more (all k d lt)
 
--- if q has all names of p, and r all names of q, then r has all names of p
+-- more room, and more again, is more room
 pub HasMoreRoom-next : (p q r : Parts) → HasMoreRoom p q → HasMoreRoom q r → HasMoreRoom p r
 HasMoreRoom-next p q r a b = record {
   verts = λ n h. b.verts n (a.verts n h);
@@ -104,14 +104,14 @@ states-popped p q whole log c last same =
     ap (λ cs. states (reverse cs) (told p)) last
     ∙ states-pushed log c (told p) (told q) (sym same)
 
--- a log with a change tells more than one instance
+-- more than one instance, and no more than one
 pub more_than_one : (whole log : List Change) (c : Change) (i : Synchronized) → whole ≡ log ++ c ∷ [] → ltb 1 (length (states (reverse whole) i)) ≡ true
 more_than_one whole log c i last =
     ap (λ cs. ltb 1 (length (states (reverse cs) i))) last
     ∙ ap (λ is. ltb 1 (length is)) (states-pushed log c i (undone c i) refl)
     ∙ lt-ltb 1 (suc (length (states (reverse log) (undone c i)))) (let h = length-states (reverse log) (undone c i) in omega (arith, h))
 
--- an empty log tells no more than one instance
+-- without a change there is one instance
 pub no_more_than_one : (log : List Change) (i : Synchronized) → log ≡ [] → ltb 1 (length (states (reverse log) i)) ≡ false
 no_more_than_one log i none = ap (λ cs. ltb 1 (length (states (reverse cs) i))) none
 
