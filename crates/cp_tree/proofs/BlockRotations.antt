@@ -143,7 +143,8 @@ module _ (i : Synchronized) (is : IsSynchronized i) (e : ℕ) (es : List ℕ) (b
       ((Has-Contains f (psi_at i v)).0 h))).0 in
       same_tests (has es f) (b.inside f)
       (λ t. (filter-Has b.inside f g.edges (subst (Has f) b.edges (true-has es f t))).1)
-      (λ t. has-true es f (subst (Has f) (sym b.edges) (Has-filter b.inside f g.edges ((Has-Contains f g.edges).1 of_v) t))))
+      (λ t. has-true es f (subst (Has f) (sym b.edges) (Has-filter b.inside f g.edges
+      ((Has-Contains f g.edges).1 of_v) t))))
     where
       same_tests : (p q : Bool) → (p ≡ true → q ≡ true) → (q ≡ true → p ≡ true) → p ≡ q
       same_tests true q to from = sym (to refl)
@@ -213,7 +214,8 @@ module _ (i : Synchronized) (is : IsSynchronized i) (e : ℕ) (es : List ℕ) (b
     -- and have genus zero
     whole_flat : HasGenusZero (system whole s)
     whole_flat =
-        subst (λ (xs : List ℕ). HasGenusZero (system (record { verts = g.verts; edges = xs; ends = g.ends }) s)) (sym is_es)
+        subst (λ (xs : List ℕ). HasGenusZero (system (record { verts = g.verts; edges = xs; ends = g.ends }) s))
+        (sym is_es)
         d.rotation.flat
 
     -- the edges round a vertex have the places of those of its list
@@ -334,7 +336,8 @@ module _ (i : Synchronized) (is : IsSynchronized i) (e : ℕ) (es : List ℕ) (b
         let in_rows = Has-of_turn (rows k) (edges_round r k) (x / 2) (turns k (rank_at part.verts v c).0)
         (Has-map_on embed.edge_of x (list_of r k) listed) in
         subst (Has f) (sym (s_in v c))
-        (subst (λ y. Has y (map edge_name (rows k))) (ap edge_name half ∙ at.1) (Has-map_on edge_name (x / 2) (rows k) in_rows))
+        (subst (λ y. Has y (map edge_name (rows k))) (ap edge_name half
+        ∙ at.1) (Has-map_on edge_name (x / 2) (rows k) in_rows))
 
     -- a vertex that the block does not have has no edges in it
     no_edge : (v f : ℕ) → has part.verts v ≡ false → Contains (edges_at whole v) f → ⊥
@@ -355,7 +358,8 @@ module _ (i : Synchronized) (is : IsSynchronized i) (e : ℕ) (es : List ℕ) (b
         let a = round-IsArrangementOf plain plain_no_loop r d.of_graph k lt in
         let within : (x : ℕ) → Has x (rows k) → x < length es =
         λ x h.
-        let w = (edges_at-Has plain.ends k x).0 ((a.items x).0 (turn-Has (rows k) (edges_round r k) x (turns k lt) h)) in
+        let w = (edges_at-Has plain.ends k x).0 ((a.items x).0 (turn-Has (rows k) (edges_round r k) x
+        (turns k lt) h)) in
         omega (arith, w.0, plain_size) in
         subst Distinct (sym (s_in v c))
         (Distinct-map_on edge_name (rows k)
@@ -426,7 +430,8 @@ module _ (i : Synchronized) (is : IsSynchronized i) (e : ℕ) (es : List ℕ) (b
         (IsFlat-agree n (next r) (turn_of part s) perm step_same flat))
 
     -- a Q-vertex keeps its psi
-    s-kept : (v : ℕ) → Contains g.verts v → is_q i v ≡ true → IsTurn (directed (back v) (filter b.inside (psi_at i v))) (s v)
+    s-kept : (v : ℕ) → Contains g.verts v → is_q i v ≡ true → IsTurn (directed (back v) (filter b.inside
+        (psi_at i v))) (s v)
     s-kept v cv q =
         subst (λ xs. IsTurn (directed (back v) xs) (s v)) (kept-inside v cv q)
         (⊎_elim

@@ -56,7 +56,8 @@ first_least xs up y (suc k, lt, at) =
     let h = get_or_default xs (suc k) 0 y lt ∙ at in
     omega (arith, less, h)
 
--- u: a P-vertex that is no cut vertex, with the edge e, and es: the edges of the block of e; what is cut out of them has
+-- u: a P-vertex that is no cut vertex, with the edge e, and es: the edges of the block of e; what is cut out of them
+-- has
 -- the place of u
 module _ (i : Synchronized) (is : IsSynchronized i) (u : ℕ) (free : IsPVertex i u) (uncut : IsCut (graph i) u → ⊥)
     (large : 4 ≤ length (edges_of i u)) (e : ℕ) (at : Contains (edges_of i u) e) (es : List ℕ)
@@ -103,7 +104,8 @@ module _ (i : Synchronized) (is : IsSynchronized i) (u : ℕ) (free : IsPVertex 
         let all = subset_length (map (rank es) (edges_of i u)) (m.tree.root ∷ leaves m.tree.body) ranks_once (λ k h.
         let w = map_on-Has (rank es) k (edges_of i u) h in
         (tree_items i is u free uncut e at es b m.tree tree_is k).1
-        (subst (λ n. (n < length (listed_part i es).graph.ends) × (touches (listed_part i es).graph.ends (rank vs u) n ≡ true))
+        (subst (λ n. (n < length (listed_part i es).graph.ends) × (touches (listed_part i es).graph.ends
+        (rank vs u) n ≡ true))
         w.2 (own_touches i is u free uncut e at es b w.0 ((Has-Contains w.0 (edges_of i u)).0 w.1)))) in
         let few = length-map (edges_of i u) (rank es) in
         omega (arith, all, few, large)

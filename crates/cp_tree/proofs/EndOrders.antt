@@ -49,7 +49,8 @@ word_admitted : (tree : PQTree) (word : List ℕ) (bits : List Bool) → IsPair 
     → Reads any_bit tree.body word
 word_admitted tree word bits pair =
     let same : pair.word ≡ word = let e = pair.order_is in cc in
-    subst (Reads any_bit tree.body) same (read_wider (given bits) any_bit (λ v b h. refl) tree.body pair.word pair.reads)
+    subst (Reads any_bit tree.body) same (read_wider (given bits) any_bit
+    (λ v b h. refl) tree.body pair.word pair.reads)
 
 -- u: a P-vertex that is no cut vertex, with the edge e, and es: the edges of the block of e
 module _ (i : Synchronized) (is : IsSynchronized i) (u : ℕ) (free : IsPVertex i u) (uncut : IsCut (graph i) u → ⊥)
@@ -103,7 +104,8 @@ module _ (i : Synchronized) (is : IsSynchronized i) (u : ℕ) (free : IsPVertex 
   ends_at_place k lt = get_or-map {Y = ℕ × ℕ} (λ f. (rank vs (g.ends f).0, rank vs (g.ends f).1)) es k 0 (0, 0) lt
 
   -- the number of an edge of u touches the number of u
-  pub own_touches : (f : ℕ) → Contains (edges_of i u) f → (rank es f < length ends) × (touches ends t (rank es f) ≡ true)
+  pub own_touches : (f : ℕ) → Contains (edges_of i u) f → (rank es f < length ends) × (touches ends t
+      (rank es f) ≡ true)
   own_touches f c =
       let k = rank es f in
       let p = rank_at es f (own_edges f c) in
@@ -111,9 +113,11 @@ module _ (i : Synchronized) (is : IsSynchronized i) (u : ℕ) (free : IsPVertex 
         omega (arith, p.0, size i is e es b),
         ⊎_elim
             (λ h. or_left (eqb (get_or ends k (0, 0)).0 t) (eqb (get_or ends k (0, 0)).1 t)
-            (eq-eqb (get_or ends k (0, 0)).0 t (ap (λ (x : ℕ × ℕ). x.0) pair ∙ ap (rank vs) (eqb-true (g.ends f).0 u h))))
+            (eq-eqb (get_or ends k (0, 0)).0 t (ap (λ (x : ℕ × ℕ). x.0) pair
+            ∙ ap (rank vs) (eqb-true (g.ends f).0 u h))))
             (λ h. or_right (eqb (get_or ends k (0, 0)).0 t) (eqb (get_or ends k (0, 0)).1 t)
-            (eq-eqb (get_or ends k (0, 0)).1 t (ap (λ (x : ℕ × ℕ). x.1) pair ∙ ap (rank vs) (eqb-true (g.ends f).1 u h))))
+            (eq-eqb (get_or ends k (0, 0)).1 t (ap (λ (x : ℕ × ℕ). x.1) pair
+            ∙ ap (rank vs) (eqb-true (g.ends f).1 u h))))
             (or_cases (eqb (g.ends f).0 u) (eqb (g.ends f).1 u) (edges_at-Contains g u f c).1),
       )
 
@@ -128,9 +132,11 @@ module _ (i : Synchronized) (is : IsSynchronized i) (u : ℕ) (free : IsPVertex 
       Contains-edges_at g u f (edges_in i is e es b f c)
       (⊎_elim
       (λ p. or_left (eqb (g.ends f).0 u) (eqb (g.ends f).1 u) (eq-eqb (g.ends f).0 u
-      (rank_one vs (g.ends f).0 u l.0 here (sym (ap (λ (x : ℕ × ℕ). x.0) pair) ∙ eqb-true (get_or ends k (0, 0)).0 t p))))
+      (rank_one vs (g.ends f).0 u l.0 here (sym (ap (λ (x : ℕ × ℕ). x.0) pair)
+      ∙ eqb-true (get_or ends k (0, 0)).0 t p))))
       (λ p. or_right (eqb (g.ends f).0 u) (eqb (g.ends f).1 u) (eq-eqb (g.ends f).1 u
-      (rank_one vs (g.ends f).1 u l.1 here (sym (ap (λ (x : ℕ × ℕ). x.1) pair) ∙ eqb-true (get_or ends k (0, 0)).1 t p))))
+      (rank_one vs (g.ends f).1 u l.1 here (sym (ap (λ (x : ℕ × ℕ). x.1) pair)
+      ∙ eqb-true (get_or ends k (0, 0)).1 t p))))
       (or_cases (eqb (get_or ends k (0, 0)).0 t) (eqb (get_or ends k (0, 0)).1 t) h))
 
   -- numbers of edges rise as their names do
@@ -143,7 +149,8 @@ module _ (i : Synchronized) (is : IsSynchronized i) (u : ℕ) (free : IsPVertex 
       (λ (l : rank es h ≤ rank es f). ⊎_elim
       (λ (same : rank es h ≡ rank es f). absurd (omega (arith, lt, rank_one es h f ch cf same)))
       (λ ne.
-      let less = AllPairs-from_increasing es (edges_rise i is e es b) (rank es h) (rank es f) 0 (omega (arith, l, ne)) p.0 in
+      let less = AllPairs-from_increasing es (edges_rise i is e es b) (rank es h) (rank es f) 0 (omega
+      (arith, l, ne)) p.0 in
       absurd (omega (arith, less, p.1, q.1, lt)))
       (cases_eq (rank es h) (rank es f)))
       (cases_lt (rank es f) (rank es h))
@@ -230,7 +237,8 @@ module _ (i : Synchronized) (is : IsSynchronized i) (u : ℕ) (free : IsPVertex 
   order_own : (order : List ℕ) → IsBlockOrder i u order → (f : ℕ) → Has f order → Contains (edges_of i u) f
   order_own order o f h =
       let live : Contains g.verts u = verts_in i is e es b u here in
-      let arr = All-contains (λ v. ArrangesEdges (only o.inside g) v (o.lists v)) g.verts u o.rotation.rotation.arranged live in
+      let arr = All-contains (λ v. ArrangesEdges (only o.inside g) v
+      (o.lists v)) g.verts u o.rotation.rotation.arranged live in
       let c = Contains-permutation (o.lists u) (edges_at_named (only o.inside g) u) f
       (IsPermutation-sym (edges_at_named (only o.inside g) u) (o.lists u) arr)
       ((Has-Contains f (o.lists u)).0 (Has-of_turn (o.lists u) order f o.turn h)) in
@@ -262,8 +270,11 @@ module _ (i : Synchronized) (is : IsSynchronized i) (u : ℕ) (free : IsPVertex 
     tree_once =
         let m = some_embedded in
         let once = (embedded_items (tree.root ∷ m.0) m.1 m.2).0 in
-        let back = IsPermutation-sym (leaves tree.body) m.0 m.3 in
-        (Lacks-IsPermutation tree.root m.0 (leaves tree.body) back once.0, Distinct-IsPermutation m.0 (leaves tree.body) back once.1)
+        let back = IsPermutation-sym (leaves tree.body) m.0 m.3 in (
+          Lacks-IsPermutation tree.root m.0 (leaves tree.body) back once.0,
+          Distinct-IsPermutation m.0
+              (leaves tree.body) back once.1,
+        )
 
     -- and are the numbers of the edges of u
     pub tree_items : (k : ℕ) → Has k (tree.root ∷ leaves tree.body) ↔ ((k < length ends) × (touches ends t k ≡ true))
@@ -317,7 +328,8 @@ module _ (i : Synchronized) (is : IsSynchronized i) (u : ℕ) (free : IsPVertex 
         ⊎_elim
         (λ (same : tree.root ≡ rank es f). omega (arith, ap (slice_index es) same, p.1))
         (λ ne.
-        let less = AllPairs-from_increasing es (edges_rise i is e es b) tree.root (rank es f) 0 (omega (arith, le, ne)) p.0 in
+        let less = AllPairs-from_increasing es (edges_rise i is e es b) tree.root (rank es f) 0 (omega
+        (arith, le, ne)) p.0 in
         omega (arith, less, p.1))
         (cases_eq tree.root (rank es f)))
 
@@ -402,7 +414,8 @@ module _ (i : Synchronized) (is : IsSynchronized i) (u : ℕ) (free : IsPVertex 
         IsPermutation-from (leaves tree.body) word tree_once.1 line_once.1
         (λ k h. behind tree.root k word
         (turn-Has numbers (tree.root ∷ word) k turned.1 ((items k).1 ((tree_items k).0 (inr h))))
-        (λ same. has_lacks tree.root (leaves tree.body) (subst (λ n. Has n (leaves tree.body)) (sym same) h) tree_once.0))
+        (λ same. has_lacks tree.root (leaves tree.body) (subst (λ n. Has n (leaves tree.body))
+        (sym same) h) tree_once.0))
         (λ k h. behind tree.root k (leaves tree.body)
         ((tree_items k).1 ((items k).0 (Has-of_turn numbers (tree.root ∷ word) k turned.1 (inr h))))
         (λ same. has_lacks tree.root word (subst (λ n. Has n word) (sym same) h) line_once.0)) in

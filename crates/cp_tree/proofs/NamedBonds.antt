@@ -129,11 +129,16 @@ module _ (g : NamedGraph) (verts_once : Distinct g.verts) (edges_once : Distinct
 
   -- a number below is an edge of the numbered graph
   number_live : (k : ℕ) → k < length g.edges → Contains G.edges k
-  number_live k lt = (Has-Contains k G.edges).0 ((range-Has k 0 (length (numbered g).ends)).1 (omega arith, omega (arith, lt, size)))
+  number_live k lt = (Has-Contains k G.edges).0 ((range-Has k 0 (length (numbered g).ends)).1 (
+    omega arith,
+    omega
+        (arith, lt, size),
+  ))
 
   -- and only such numbers are
   live_number : (k : ℕ) → Contains G.edges k → k < length g.edges
-  live_number k c = let w = (range-Has k 0 (length (numbered g).ends)).0 ((Has-Contains k G.edges).1 c) in omega (arith, w.1, size)
+  live_number k c = let w = (range-Has k 0 (length (numbered g).ends)).0 ((Has-Contains k G.edges).1 c) in omega
+      (arith, w.1, size)
 
   -- the ends of the edge of a number
   ends_nth : (k : ℕ) → k < length g.edges → G.ends k ≡ numbered_ends g (slice_index g.edges k)

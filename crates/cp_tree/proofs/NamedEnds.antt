@@ -58,7 +58,8 @@ free_vertex i is v c p = by_kind row.kind kind
     within = omega (arith, c.1, length-map i.verts (λ (x : Vert). x.name))
 
     named : row.name ≡ v
-    named = sym (get_or-map (λ (x : Vert). x.name) i.verts c.0 none 0 within) ∙ get_or_default (vert_names i) c.0 0 v c.1
+    named = sym (get_or-map (λ (x : Vert). x.name) i.verts c.0 none 0 within)
+        ∙ get_or_default (vert_names i) c.0 0 v c.1
         ∙ c.2
 
     kind : kind_of i v ≡ Some row.kind
@@ -121,7 +122,8 @@ module _ (i : Synchronized) (is : IsSynchronized i) (u : ℕ) (free : IsPVertex 
       let G = as_named (listed_part i es).graph in
       let k = rank es e in
       let w = own_touches i is u free uncut e at es b e at in
-      let c : Contains (edges_at G (rank vs u)) k = Contains-edges_at G (rank vs u) k (number_in (length ends) k w.0) w.1 in
+      let c : Contains (edges_at G (rank vs u)) k = Contains-edges_at G (rank vs u) k (number_in
+      (length ends) k w.0) w.1 in
       ⊎_elim
       (λ direct. subst (λ x. x < length vs) direct (far_within k (rank vs u) w.0))
       (λ other.
@@ -187,7 +189,8 @@ module _ (i : Synchronized) (is : IsSynchronized i) (u : ℕ) (free : IsPVertex 
         → ((owner : ℕ) → IsSoleP m.tree owner → ⊥) → (tree_orders.HasEveryOrder m.tree → ⊥) → IsWellFormed m.tree
         → IsShapeOf i u s
     named-IsShapeOf edges s is_edges is_shape no_sole not_every formed =
-        subst (IsShapeOf i u) (sym (is_shape ∙ ap (λ (xs : List ℕ). renamed_shape (slice_index xs) (shape_of_tree m.tree)) is_edges))
+        subst (IsShapeOf i u) (sym (is_shape ∙ ap (λ (xs : List ℕ). renamed_shape (slice_index xs)
+        (shape_of_tree m.tree)) is_edges))
         (record {
           branching = branches-renamed (slice_index es) (branch_of m.tree.body)
               ∙ trees.branch_of-branches m.tree.body formed.branching;

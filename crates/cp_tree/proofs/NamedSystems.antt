@@ -1,4 +1,5 @@
--- The rotation system of a graph with names is flat exactly where the step from each dart to the next in the list of its
+-- The rotation system of a graph with names is flat exactly where the step from each dart to the next in the list of
+-- its
 -- vertex is: vertices without edges, and where the lists begin, make no difference.
 use Rattle.std.proofs.Common.{◌≡◌, ◌≢◌, ℕ, ◌*◌, ◌/◌, ◌%◌, ◌<◌, ◌↔◌, cond, eqb, List, [], ◌∷◌, length, map, slice_index, sym, refl, ap, ◌∙◌, subst, ⊎_elim, arith}
 use Rattle.std.specs.List.{All, Contains, flat_map}

@@ -78,7 +78,8 @@ module _ (f : ℕ → ℕ) where
       (λ ks all y e. absurd (leaf_no_Q y (map (renamed f) ks) (sym e ∙ renamed_Q ks)))
 
   -- so what becomes a row of leaves was one
-  leaves_before : (ks : List Branch) (ys : List ℕ) → map (renamed f) ks ≡ map Leaf ys → (xs : List ℕ) × (ks ≡ map Leaf xs)
+  leaves_before : (ks : List Branch) (ys : List ℕ) → map (renamed f) ks ≡ map Leaf ys
+      → (xs : List ℕ) × (ks ≡ map Leaf xs)
   leaves_before [] ys e = ([], refl)
   leaves_before (k ∷ ks) [] e = absurd cc
   leaves_before (k ∷ ks) (y ∷ ys) e =
@@ -103,7 +104,8 @@ module _ (f : ℕ → ℕ) where
     Reads-renamed _ _ (Reads.leaf x) = subst (λ b. Reads b (f x ∷ [])) (sym (renamed_Leaf x)) (Reads.leaf (f x))
     Reads-renamed _ _ (Reads.any_order ks order xs p all) =
         subst (λ b. Reads b (map f xs)) (sym (renamed_P ks))
-        (Reads.any_order (map (renamed f) ks) (map (renamed f) order) (map f xs) (IsPermutation-map (renamed f) ks order p)
+        (Reads.any_order (map (renamed f) ks) (map (renamed f) order) (map f xs) (IsPermutation-map
+        (renamed f) ks order p)
         (ReadsAll-renamed order xs all))
     Reads-renamed _ _ (Reads.forward ks xs all) =
         subst (λ b. Reads b (map f xs)) (sym (renamed_Q ks))

@@ -90,7 +90,8 @@ module _ (i : Synchronized) where
         (Has-append_cases f es (e ∷ []) h);
     ends_found = λ f h. ⊎_elim
         (λ old. let w = s.ends_found f old in (kept (ends_of i f).0 w.0, kept (ends_of i f).1 w.1))
-        (λ one. subst (λ x. Has (ends_of i x).0 (with_ends i vs e) × Has (ends_of i x).1 (with_ends i vs e)) (only f one)
+        (λ one. subst (λ x. Has (ends_of i x).0 (with_ends i vs e) × Has (ends_of i x).1 (with_ends i vs e))
+        (only f one)
         (with_key-keeps us b a (with_key-Has vs a), with_key-Has us b))
         (Has-append_cases f es (e ∷ []) h);
     edges_found = λ j lt f h.
@@ -150,7 +151,8 @@ module _ (i : Synchronized) where
         (λ (less : j < k). s.edges_found j less e h)
         (λ (rest : k ≤ j).
         let same : j ≡ k = omega (arith, below, rest) in
-        let w = subst (λ xs. Contains xs e) (sym is_at) (subst (λ u. Contains (edges_of i u) e) (ap (slice_index vs) same ∙ here) h) in
+        let w = subst (λ xs. Contains xs e) (sym is_at) (subst (λ u. Contains (edges_of i u) e) (ap
+        (slice_index vs) same ∙ here) h) in
         subst (λ x. Has x es) (get_or_default at w.0 0 e w.1 ∙ w.2) (all w.0 w.1))
         (cases_lt j k);
   }
@@ -212,7 +214,12 @@ module _ (i : Synchronized) where
     IsSearched-IsClosed = record {
       rise = rise;
       live = λ j d lt. s.edges_live (get_or edges j d)
-          (same (get_or edges j d) ((Has-Contains (get_or edges j d) edges).1 (j, lt, get_or_default edges j (get_or edges j d) d lt)));
+          (same (get_or edges j d) ((Has-Contains (get_or edges j d) edges).1 (
+            j,
+            lt,
+            get_or_default edges j
+                (get_or edges j d) d lt,
+          )));
       meeting = λ e f v ce cf te tf. found_edges v f (end_found v e ce te) (Contains-edges_at (graph i) v f cf tf);
     }
 

@@ -1,5 +1,5 @@
-//! Propagate (Bläsius, Fink, Rutter 2021): the order tree of a vertex that is no cut vertex, planted in the place of both
-//! ends of a pipe.
+//! Towards the step Propagate (Bläsius, Fink, Rutter 2021): the orders of a vertex that is no cut vertex, in the
+//! rotations of its block, as a pole or as the shape of an order tree.
 #![tactic(auto)]
 
 mod end_tree;

@@ -24,7 +24,8 @@ fn ends_by_place<B: Board>(
 ) -> Result<Vec<(usize, usize)>, Memory>
     requires live { All (Contains (edge_names (B.instance board.now))) edges.now }
     requires ends { HaveEnds (B.instance board.now) verts.now edges.now }
-    ensures { IfOk result (λ ends. ends.items ≡ map (numbered_ends (part_of (B.instance board.now) verts.now edges.now)) edges.now) }
+    ensures { IfOk result (λ ends. ends.items
+        ≡ map (numbered_ends (part_of (B.instance board.now) verts.now edges.now)) edges.now) }
 {
     let mut ends = Vec::new(alloc);
     for e in edges {
@@ -43,7 +44,8 @@ fn edges_numbered(
 ) -> Result<Vec<usize>, Memory>
     requires rising { IsStrictlyIncreasing edges.now }
     requires one_each { length numbers.now ≡ length edges.now }
-    ensures { IfOk result (λ kept. kept.items ≡ filter (λ e. eqb (slice_index numbers.now (rank edges.now e)) number) edges.now) }
+    ensures { IfOk result (λ kept. kept.items
+        ≡ filter (λ e. eqb (slice_index numbers.now (rank edges.now e)) number) edges.now) }
 {
     let mut kept = Vec::new(alloc);
     for k in 0..edges.len() {

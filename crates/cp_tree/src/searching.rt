@@ -80,7 +80,8 @@ pub(crate) fn component_of<B: Board>(
     requires { Contains (vert_names (B.instance board.now)) u }
     ensures closed { IfOk result (λ found. IsClosed (B.instance board.now) found.edges.items) }
     ensures ends { IfOk result (λ found. HaveEnds (B.instance board.now) found.verts.items found.edges.items) }
-    ensures own { IfOk result (λ found. (e : ℕ) → Contains (edges_of (B.instance board.now) u) e → Contains found.edges.items e) }
+    ensures own { IfOk result (λ found. (e : ℕ) → Contains (edges_of (B.instance board.now) u) e
+        → Contains found.edges.items e) }
 {
     board.follows_rules();
     let mut verts: IndexSet<usize> = IndexSet::new(alloc);

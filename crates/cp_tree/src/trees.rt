@@ -29,7 +29,8 @@ fn named_tree<T: OrderTree>(
     edges: &[usize],
     embedded: &Embedded<T>,
 ) -> Result<EndTree, Memory>
-    requires poles { (owner : ℕ) → IsBond (as_named embedded.now.block.graph) embedded.now.vertex owner → owner < length verts.now }
+    requires poles { (owner : ℕ) → IsBond (as_named embedded.now.block.graph) embedded.now.vertex owner
+        → owner < length verts.now }
     ensures { IfOk result (IsNamedTree verts.now edges.now embedded.now) }
 {
     match embedded.pole() {
@@ -55,9 +56,9 @@ fn fault_of(fault: EmbedFault, edges: &[usize]) -> TreeFault
     }
 }
 
-// The block that has the first edge of a vertex, cut out. It asks the board for the edges of each vertex of the component
-// once and for the ends of each of its edges a constant number of times, and is linear beside that and in the lists of
-// the Q-vertices of the block, up to a logarithm.
+// The block that has the first edge of a vertex, cut out. It asks the board for the edges of each vertex of the
+// component once and for the ends of each of its edges a constant number of times, and is linear beside that and in the
+// lists of the Q-vertices of the block, up to a logarithm.
 fn cut_at<B: Board>(alloc: Global, board: &B, u: usize) -> Result<EdgeBlock, Memory>
     requires live { Contains (vert_names (B.instance board.now)) u }
     requires some { 0 < length (edges_of (B.instance board.now) u) }

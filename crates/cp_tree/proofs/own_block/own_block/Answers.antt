@@ -16,14 +16,16 @@ from_ends-requires g c =
 pub blocks-requires : goal.blocks-requires
 blocks-requires g c =
     let i = g.B.Board.instance c.args.board.now in
-    let ends_is = ap (λ (x : PlainGraph). x.ends) c.in_ok-graph.ensures ∙ c.as_slice.ensures.value ∙ c.in_ok-ends.ensures in
+    let ends_is = ap (λ (x : PlainGraph). x.ends) c.in_ok-graph.ensures ∙ c.as_slice.ensures.value
+    ∙ c.in_ok-ends.ensures in
     subst HaveNoLoop (sym ends_is)
     (numbered-HaveNoLoop i c.requires.rules c.args.verts.now c.args.edges.now c.requires.closed c.requires.ends)
 
 pub item_at-number-requires : goal.item_at-number-requires
 item_at-number-requires g c =
     let i = g.B.Board.instance c.args.board.now in
-    let ends_is = ap (λ (x : PlainGraph). x.ends) c.in_ok-graph.ensures ∙ c.as_slice.ensures.value ∙ c.in_ok-ends.ensures in
+    let ends_is = ap (λ (x : PlainGraph). x.ends) c.in_ok-graph.ensures ∙ c.as_slice.ensures.value
+    ∙ c.in_ok-ends.ensures in
     let at = rank_at c.args.edges.now c.args.e c.requires.among in
     let many : length c.as_slice-2.result.now ≡ length c.args.edges.now =
     ap length c.as_slice-2.ensures.value ∙ c.in_ok-numbers.ensures.one_each ∙ ap length ends_is
@@ -33,14 +35,16 @@ item_at-number-requires g c =
 pub edges_numbered-requires-clause-one_each : goal.edges_numbered-requires-clause-one_each
 edges_numbered-requires-clause-one_each g c =
     let i = g.B.Board.instance c.args.board.now in
-    let ends_is = ap (λ (x : PlainGraph). x.ends) c.in_ok-graph.ensures ∙ c.as_slice.ensures.value ∙ c.in_ok-ends.ensures in
+    let ends_is = ap (λ (x : PlainGraph). x.ends) c.in_ok-graph.ensures ∙ c.as_slice.ensures.value
+    ∙ c.in_ok-ends.ensures in
     ap length c.as_slice-3.ensures.value ∙ c.in_ok-numbers.ensures.one_each ∙ ap length ends_is
     ∙ numbered-length i c.requires.rules c.args.verts.now c.args.edges.now c.requires.closed c.requires.ends
 
 pub returns : goal.returns
 returns g c =
     let i = g.B.Board.instance c.args.board.now in
-    let ends_is = ap (λ (x : PlainGraph). x.ends) c.in_ok-graph.ensures ∙ c.as_slice.ensures.value ∙ c.in_ok-ends.ensures in
+    let ends_is = ap (λ (x : PlainGraph). x.ends) c.in_ok-graph.ensures ∙ c.as_slice.ensures.value
+    ∙ c.in_ok-ends.ensures in
     told-AreBlockEdges i c.requires.rules c.args.verts.now c.args.edges.now c.requires.closed c.requires.ends
     c.in_ok-numbers.numbers.items
     (subst (λ (x : List (ℕ × ℕ)). AreNumbered (AreInOneBlock x) (length x) c.in_ok-numbers.numbers.items) ends_is

@@ -20,7 +20,8 @@ returns-clause-closed g c =
     let i = g.B.Board.instance c.args.board.now in
     let done : length c.search.verts.keys ≤ c.search.k = omega (arith, c.search-test.false, c.len.ensures.len) in
     let edges = c.in_ok-rising_edges.rising_edges.items in
-    IsSearched-IsClosed i c.search.k c.search.verts.keys c.search.edges.items c.in_ok-rising_verts.rising_verts.items edges
+    IsSearched-IsClosed i c.search.k c.search.verts.keys c.search.edges.items
+    c.in_ok-rising_verts.rising_verts.items edges
     c.search.invariant.0 done c.in_ok-rising_edges.ensures.rise
     (λ x h. subst (Has x) c.as_slice-2.ensures.value ((c.in_ok-rising_edges.ensures.same x).0 h))
     (λ x h. (c.in_ok-rising_edges.ensures.same x).1 (subst (Has x) (sym c.as_slice-2.ensures.value) h))
@@ -30,7 +31,8 @@ returns-clause-ends g c =
     let i = g.B.Board.instance c.args.board.now in
     let done : length c.search.verts.keys ≤ c.search.k = omega (arith, c.search-test.false, c.len.ensures.len) in
     let edges = c.in_ok-rising_edges.rising_edges.items in
-    IsSearched-HaveEnds i c.search.k c.search.verts.keys c.search.edges.items c.in_ok-rising_verts.rising_verts.items edges
+    IsSearched-HaveEnds i c.search.k c.search.verts.keys c.search.edges.items
+    c.in_ok-rising_verts.rising_verts.items edges
     c.search.invariant.0 done c.in_ok-rising_edges.ensures.rise
     (λ x h. subst (Has x) c.as_slice-2.ensures.value ((c.in_ok-rising_edges.ensures.same x).0 h))
     (λ x h. (c.in_ok-rising_edges.ensures.same x).1 (subst (Has x) (sym c.as_slice-2.ensures.value) h))

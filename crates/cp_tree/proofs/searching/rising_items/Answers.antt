@@ -22,7 +22,8 @@ returns-clause-same c x =
     let sorted = c.sort_unstable.new.self.items in
     let is = dedup_is eqb sorted c.dedup.new.self.items c.dedup.ensures.filtered in
     let perm : IsPermutation c.args.list.now sorted =
-    subst (λ (xs : List ℕ). IsPermutation xs sorted) c.in_ok-sorted.ensures.items c.sort_unstable.ensures.permutation in (
+    subst (λ (xs : List ℕ). IsPermutation xs sorted) c.in_ok-sorted.ensures.items
+    c.sort_unstable.ensures.permutation in (
       λ h. Has-IsPermutation x sorted c.args.list.now (IsPermutation-sym c.args.list.now sorted perm)
           ((Has-Contains x sorted).1 (Contains-from_dedup eqb sorted x
           ((Has-Contains x (dedup eqb sorted)).0 (subst (Has x) is h)))),

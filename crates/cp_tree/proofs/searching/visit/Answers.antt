@@ -12,7 +12,8 @@ pub edges_at-requires : goal.edges_at-requires
 edges_at-requires g c =
     let vs = c.args.verts.now.keys in
     c.requires.searched.verts_live c.item_at-v.result
-    (subst (λ x. Has x vs) (sym (c.item_at-v.ensures ∙ ap (λ (xs : List ℕ). slice_index xs c.args.k) c.as_slice.ensures.keys))
+    (subst (λ x. Has x vs) (sym (c.item_at-v.ensures ∙ ap (λ (xs : List ℕ). slice_index xs c.args.k)
+    c.as_slice.ensures.keys))
     (Has_at vs c.args.k c.requires.within))
 
 pub add_edges-requires : goal.add_edges-requires

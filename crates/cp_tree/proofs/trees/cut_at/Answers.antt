@@ -21,7 +21,8 @@ item_at-first-requires g c =
 
 pub own_block-requires-clause-closed : goal.own_block-requires-clause-closed
 own_block-requires-clause-closed g c =
-    subst (IsClosed (g.B.Board.instance c.args.board.now)) (sym c.as_slice-edges.ensures.value) c.in_ok-found.ensures.closed
+    subst (IsClosed (g.B.Board.instance c.args.board.now)) (sym c.as_slice-edges.ensures.value)
+    c.in_ok-found.ensures.closed
 
 pub own_block-requires-clause-ends : goal.own_block-requires-clause-ends
 own_block-requires-clause-ends g c =

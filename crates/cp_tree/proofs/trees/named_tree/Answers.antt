@@ -21,7 +21,8 @@ returns-in-Some g c = record {
 pub returns-in_ok-named-in-None : goal.returns-in_ok-named-in-None
 returns-in_ok-named-in-None g c = record {
   shape = c.in_ok-named-in-None.ensures
-      ∙ ap (renamed_shape (slice_index c.args.edges.now)) (c.in_ok-shape-in-None.ensures ∙ ap shape_of_tree c.tree-tree.ensures.value);
+      ∙ ap (renamed_shape (slice_index c.args.edges.now)) (c.in_ok-shape-in-None.ensures
+      ∙ ap shape_of_tree c.tree-tree.ensures.value);
   formed = subst IsWellFormed c.tree-tree.ensures.value c.vars-vars.ensures.well_formed;
   no_star = c.in-None.ensures.owner;
   not_every = c.in-None.ensures.every_order;

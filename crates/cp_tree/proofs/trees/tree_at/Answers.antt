@@ -52,7 +52,8 @@ named_tree-requires g c =
     let i = g.B.Board.instance c.args.board.now in
     let cut = c.in_ok-cut.ensures in
     record {
-      poles = cut-poles i c.follows_rules.ensures c.args.u c.requires.free c.requires.uncut c.requires.large cut.edge cut.at
+      poles = cut-poles i c.follows_rules.ensures c.args.u c.requires.free c.requires.uncut
+          c.requires.large cut.edge cut.at
           c.in_ok-cut.cut.edges cut.edges c.in_ok-cut.cut.block cut.block c.items-verts.result.now
           (c.items-verts.ensures ∙ cut.verts) c.rank_among-place.result c.rank_among-place.ensures c.in-Ok.embedded
           c.in-Ok.ensures.block c.in-Ok.ensures.vertex c.in-Ok.ensures.tree;
@@ -76,7 +77,8 @@ pub returns-in-Ok-clause-some : goal.returns-in-Ok-clause-some
 returns-in-Ok-clause-some g c =
     let i = g.B.Board.instance c.args.board.now in
     let cut = c.in_ok-cut.ensures in
-    cut-HasSomeOrder i c.follows_rules.ensures c.args.u c.requires.free c.requires.uncut c.requires.large cut.edge cut.at
+    cut-HasSomeOrder i c.follows_rules.ensures c.args.u c.requires.free c.requires.uncut
+    c.requires.large cut.edge cut.at
     c.in_ok-cut.cut.edges cut.edges c.in_ok-cut.cut.block cut.block c.items-verts.result.now
     (c.items-verts.ensures ∙ cut.verts) c.rank_among-place.result c.rank_among-place.ensures c.in-Ok.embedded
     c.in-Ok.ensures.block c.in-Ok.ensures.vertex c.in-Ok.ensures.tree
@@ -95,7 +97,8 @@ returns-clause-refused g c = λ e told.
     let i = g.B.Board.instance c.args.board.now in
     let cut = c.in_ok-cut.ensures in
     let why = c.fault_of.ensures e told in
-    cut-IsUnembeddable i c.follows_rules.ensures c.args.u c.requires.free c.requires.uncut c.requires.large cut.edge cut.at
+    cut-IsUnembeddable i c.follows_rules.ensures c.args.u c.requires.free c.requires.uncut
+    c.requires.large cut.edge cut.at
     c.in_ok-cut.cut.edges cut.edges c.in_ok-cut.cut.block cut.block c.items-verts.result.now
     (c.items-verts.ensures ∙ cut.verts) c.rank_among-place.result c.rank_among-place.ensures
     (c.in-Err.ensures.refused why.0) e (why.1 ∙ ap (λ (xs : List ℕ). slice_index xs 0) c.items-edges.ensures)
