@@ -14,6 +14,7 @@ module _ (ends : List (ℕ × ℕ)) where
   first-touches v k e = or_left (eqb (slice_index_or ends k (0, 0)).0 v) (eqb (slice_index_or ends k (0, 0)).1 v)
       (eq-eqb (slice_index_or ends k (0, 0)).0 v e)
 
+  -- and so where its second end is v
   second-touches : (v k : ℕ) → (slice_index_or ends k (0, 0)).1 ≡ v → touches ends v k ≡ true
   second-touches v k e = or_right (eqb (slice_index_or ends k (0, 0)).0 v) (eqb (slice_index_or ends k (0, 0)).1 v)
       (eq-eqb (slice_index_or ends k (0, 0)).1 v e)
@@ -25,6 +26,7 @@ module _ (ends : List (ℕ × ℕ)) where
       (λ odd. second-touches v (d / 2) (sym (start_odd ends d odd) ∙ e))
       (cases_eq (d % 2) 0)
 
+  -- a dart that ends at v is of an edge with the end v
   finish-touches : (v d : ℕ) → finish ends d ≡ v → touches ends v (d / 2) ≡ true
   finish-touches v d e = ⊎_elim
       (λ even. second-touches v (d / 2) (sym (finish_even ends d even) ∙ e))
@@ -49,6 +51,7 @@ module _ (ends : List (ℕ × ℕ)) where
     apart : (j : ℕ) → j < length darts → j ≢ i → slice_index darts j / 2 ≢ slice_index darts i / 2
     apart j ltj ne same = ne (cycle.edges_differ j i ltj lt same)
 
+    -- the edge of a dart of the cycle is one of the edges
     edge_in : (j : ℕ) → j < length darts → slice_index darts j / 2 < length ends
     edge_in j ltj = let h = cycle.within j ltj in omega (arith, h)
 

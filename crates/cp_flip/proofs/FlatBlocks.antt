@@ -28,6 +28,7 @@ use Rattle.cp_embed.proofs.NumberedBlocks.{number_of, one_number}
 twin_first : (k : ℕ) → twin (2 * k) ≡ 2 * k + 1
 twin_first k = rw (eq-eqb (2 * k % 2) 0 (omega arith)) refl
 
+-- the twin of the second dart of an edge is the first one
 twin_second : (k : ℕ) → twin (2 * k + 1) ≡ 2 * k
 twin_second k =
     let odd : (2 * k + 1) % 2 ≢ 0 = λ e. omega (arith, e) in
@@ -57,6 +58,7 @@ module _ (g : NamedGraph) (differ : (e : ℕ) → Contains g.edges e → (g.ends
   abbrev named_edge : ℕ → ℕ
   named_edge d = slice_index g.edges (d / 2)
 
+  -- the end at which a dart stands
   abbrev named_end : ℕ → ℕ
   named_end d = cond (eqb (d % 2) 0) (g.ends (named_edge d)).0 (g.ends (named_edge d)).1
 

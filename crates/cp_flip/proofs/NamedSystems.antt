@@ -67,6 +67,7 @@ module _ (g : NamedGraph) (verts_rise : IsStrictlyIncreasing g.verts) (edges_ris
   end_even : (d : ℕ) → d % 2 ≡ 0 → end_of g d ≡ (g.ends (edge d)).0
   end_even d e = cond-true {A = ℕ} (eqb (d % 2) 0) (g.ends (edge d)).0 (g.ends (edge d)).1 (eq-eqb (d % 2) 0 e)
 
+  -- and an odd one at the second
   end_odd : (d : ℕ) → d % 2 ≢ 0 → end_of g d ≡ (g.ends (edge d)).1
   end_odd d ne = cond-false {A = ℕ} (eqb (d % 2) 0) (g.ends (edge d)).0 (g.ends (edge d)).1 (ne_eqb (d % 2) 0 ne)
 
