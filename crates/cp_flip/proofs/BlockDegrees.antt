@@ -9,24 +9,24 @@ use Rattle.cp_embed.specs.Embeddings.{HasTwoEdges}
 use Rattle.cp_embed.specs.ListedBlocks.{touches}
 
 module _ (ends : List (ℕ × ℕ)) where
-  -- an edge whose first end is v touches v
+  -- the first end of an edge, and the second
   first-touches : (v k : ℕ) → (slice_index_or ends k (0, 0)).0 ≡ v → touches ends v k ≡ true
   first-touches v k e = or_left (eqb (slice_index_or ends k (0, 0)).0 v) (eqb (slice_index_or ends k (0, 0)).1 v)
       (eq-eqb (slice_index_or ends k (0, 0)).0 v e)
 
-  -- an edge whose second end is v touches v
+  -- and so where its second end is v
   second-touches : (v k : ℕ) → (slice_index_or ends k (0, 0)).1 ≡ v → touches ends v k ≡ true
   second-touches v k e = or_right (eqb (slice_index_or ends k (0, 0)).0 v) (eqb (slice_index_or ends k (0, 0)).1 v)
       (eq-eqb (slice_index_or ends k (0, 0)).1 v e)
 
-  -- the edge of a dart that starts at v touches v
+  -- a dart is of an edge of its start, and of its finish
   start-touches : (v d : ℕ) → start ends d ≡ v → touches ends v (d / 2) ≡ true
   start-touches v d e = ⊎_elim
       (λ even. first-touches v (d / 2) (sym (start_even ends d even) ∙ e))
       (λ odd. second-touches v (d / 2) (sym (start_odd ends d odd) ∙ e))
       (cases_eq (d % 2) 0)
 
-  -- the edge of a dart that finishes at v touches v
+  -- a dart that ends at v is of an edge with the end v
   finish-touches : (v d : ℕ) → finish ends d ≡ v → touches ends v (d / 2) ≡ true
   finish-touches v d e = ⊎_elim
       (λ even. second-touches v (d / 2) (sym (finish_even ends d even) ∙ e))
@@ -51,7 +51,7 @@ module _ (ends : List (ℕ × ℕ)) where
     apart : (j : ℕ) → j < length darts → j ≢ i → slice_index darts j / 2 ≢ slice_index darts i / 2
     apart j ltj ne same = ne (cycle.edges_differ j i ltj lt same)
 
-    -- the edge of each dart on the cycle is one of the given edges
+    -- the edge of a dart of the cycle is one of the edges
     edge_in : (j : ℕ) → j < length darts → slice_index darts j / 2 < length ends
     edge_in j ltj = let h = cycle.within j ltj in omega (arith, h)
 

@@ -40,6 +40,7 @@ use Rattle.cp_embed.specs.Realisations.{edges_round}
 use Rattle.cp_embed.proofs.BoardBlocks.{edges_in, edges_rise, ends_in, has-true, listed_part-IsListedBlock, live_ends, psi-ArrangesEdges, rising_distinct, true-has, verts_in, verts_rise}
 use Rattle.cp_flip.specs.DirectedBlocks.{CanBeDirected, IsDirectedBy}
 use Rattle.cp_flip.specs.DirectedRotations.{IsDirectedRotation}
+use Rattle.cp_flip.proofs.EqualTests.{same_tests}
 use Rattle.cp_flip.proofs.DirectedTrees.{no_items}
 use Rattle.cp_flip.proofs.FlatBlocks.{dart_half, dart_placed}
 use Rattle.cp_flip.proofs.RoundEdges.{edges_at-Has, listed-start, round-IsArrangementOf, start-listed, darts_are as round_darts}
@@ -60,15 +61,15 @@ rank_one : (names : List ℕ) (m n : ℕ) → Contains names m → Contains name
 rank_one names m n cm cn same = sym (rank_at names m cm).1 ∙ ap (slice_index names) same ∙ (rank_at names n cn).1
 
 module _ (i : Synchronized) (is : IsSynchronized i) (e : ℕ) (es : List ℕ) (b : AreBlockEdges i e es) where
-  -- the graph of the instance
+  -- the graph, and the block with all vertices or those of its edges alone
   abbrev g : NamedGraph
   g = graph i
 
-  -- the block with the ends of its edges as its only vertices
+  -- the graph of the block, and the whole graph with its edges alone
   abbrev part : NamedGraph
   part = part_with g es
 
-  -- the block with all vertices of the instance
+  -- the edges of the block over all vertices
   abbrev whole : NamedGraph
   whole = record { verts = g.verts; edges = es; ends = g.ends }
 
@@ -76,7 +77,7 @@ module _ (i : Synchronized) (is : IsSynchronized i) (e : ℕ) (es : List ℕ) (b
   whole_live : (f : ℕ) → Contains es f → Contains g.verts (g.ends f).0 × Contains g.verts (g.ends f).1
   whole_live f c = let l = live_ends i is f (edges_in i is e es b f c) in (l.0, l.1)
 
-  -- no edge of the block is a loop
+  -- the ends of an edge of the block differ
   differ : (f : ℕ) → Contains es f → (g.ends f).0 ≢ (g.ends f).1
   differ f c = (live_ends i is f (edges_in i is e es b f c)).2
 
@@ -84,7 +85,7 @@ module _ (i : Synchronized) (is : IsSynchronized i) (e : ℕ) (es : List ℕ) (b
   es_rise : IsStrictlyIncreasing es
   es_rise = edges_rise i is e es b
 
-  -- the names of the vertices of the block rise
+  -- the vertices of the block rise
   vs_rise : IsStrictlyIncreasing part.verts
   vs_rise = verts_rise i is e es b
 
@@ -106,15 +107,15 @@ module _ (i : Synchronized) (is : IsSynchronized i) (e : ℕ) (es : List ℕ) (b
         λ z. w.1 (p.0 z),
       )
 
-  -- the vertex of a number in the block
+  -- the vertex of a number, and what is kept of its psi
   abbrev name : ℕ → ℕ
   name k = slice_index part.verts k
 
-  -- the edge of a number in the block
+  -- the name of the edge at a place
   abbrev edge_name : ℕ → ℕ
   edge_name k = slice_index es k
 
-  -- what the psi of v has of the edges of the block, in the order of psi
+  -- what the psi of a vertex has of the block
   abbrev kept_psi : ℕ → List ℕ
   kept_psi v = filter (has es) (psi_at i v)
 
@@ -135,20 +136,15 @@ module _ (i : Synchronized) (is : IsSynchronized i) (e : ℕ) (es : List ℕ) (b
       same_tests (has es f) (b.inside f)
       (λ t. (filter-Has b.inside f g.edges (subst (Has f) b.edges (true-has es f t))).1)
       (λ t. has-true es f (subst (Has f) (sym b.edges) (Has-filter b.inside f g.edges ((Has-Contains f g.edges).1 of_v) t))))
-    where
-      same_tests : (p q : Bool) → (p ≡ true → q ≡ true) → (q ≡ true → p ≡ true) → p ≡ q
-      same_tests true q to from = sym (to refl)
-      same_tests false true to from = from refl
-      same_tests false false to from = refl
 
-  -- the list given for a Q-vertex of the block is what is kept of its psi, with each edge by its place in the block
+  -- the list given for a Q-vertex, and for a P-vertex
   given_q : (k : ℕ) → k < length part.verts → is_q i (name k) ≡ true
       → list_given (listed_part i es).lists k ≡ Some (map (rank es) (kept_psi (name k)))
   given_q k lt q =
       get_or-map (list_among i es) part.verts k 0 None lt
       ∙ cond-true (is_q i (name k)) (Some (map (rank es) (kept_psi (name k)))) None q
 
-  -- a P-vertex of the block is given no list
+  -- a P-vertex has no list
   given_p : (k : ℕ) → k < length part.verts → is_q i (name k) ≡ false
       → list_given (listed_part i es).lists k ≡ None
   given_p k lt p =
@@ -237,6 +233,7 @@ module _ (i : Synchronized) (is : IsSynchronized i) (e : ℕ) (es : List ℕ) (b
         },
       )
     where
+      -- two maps one behind the other are the map of the halves
       map_twice : (h : ℕ → ℕ) (xs : List ℕ) → ((x : ℕ) → h x / 2 ≡ rank es x)
           → map embed.edge_of (map h xs) ≡ map (rank es) xs
       map_twice h [] half = refl
@@ -266,12 +263,12 @@ module _ (i : Synchronized) (is : IsSynchronized i) (e : ℕ) (es : List ℕ) (b
     abbrev s : ℕ → List ℕ
     s = named_lists rows
 
-    -- the list of a vertex of the block is that of its number, read in names
+    -- that of a vertex of the block, and of another one
     s_in : (v : ℕ) → Contains part.verts v → s v ≡ map edge_name (rows (rank part.verts v))
     s_in v c = cond-true (has part.verts v) (map edge_name (rows (rank part.verts v))) []
         (has-true part.verts v ((Has-Contains v part.verts).1 c))
 
-    -- a vertex outside the block has the empty list
+    -- another vertex has no edge
     s_out : (v : ℕ) → has part.verts v ≡ false → s v ≡ []
     s_out v f = cond-false (has part.verts v) (map edge_name (rows (rank part.verts v))) [] f
 
@@ -391,6 +388,7 @@ module _ (i : Synchronized) (is : IsSynchronized i) (e : ℕ) (es : List ℕ) (b
         ∙ ap (λ u. follow (list_of r u) x) here
         ∙ sym (turn-follow ds (map (dart part v) (s v)) x once turn (end_listed v x c lt refl))
       where
+        -- darts are told by their edges
         map_darts : (h : ℕ → ℕ) (xs : List ℕ) → ((y : ℕ) → Has y xs → h (edge_name (y / 2)) ≡ y)
             → map h (map edge_name (map embed.edge_of xs)) ≡ xs
         map_darts h [] all = refl
@@ -444,6 +442,7 @@ module _ (i : Synchronized) (is : IsSynchronized i) (e : ℕ) (es : List ℕ) (b
         (subst (IsTurn (directed (back v) [])) (sym (s_out v out)) (none_turned (back v))))
         (cases_Bool (has part.verts v)))
       where
+        -- the empty list in a direction is empty
         none_turned : (w : Bool) → IsTurn (directed w []) []
         none_turned true = turn-refl []
         none_turned false = turn-refl []

@@ -128,7 +128,7 @@ module _ (i : Synchronized) (is : IsSynchronized i) (s : ℕ → List ℕ)
   live : (f : ℕ) → Contains g.edges f → Contains g.verts (g.ends f).0 × Contains g.verts (g.ends f).1
   live f c = let l = live_ends i is f c in (l.0, l.1)
 
-  -- no edge of the instance is a loop
+  -- the ends of an edge differ
   differ : (f : ℕ) → Contains g.edges f → (g.ends f).0 ≢ (g.ends f).1
   differ f c = (live_ends i is f c).2
 

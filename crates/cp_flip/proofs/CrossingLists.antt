@@ -51,7 +51,7 @@ kind_q (Some (Q cell psi)) t = (cell, psi, refl)
 pub crossing-is_q : (i : Synchronized) (q : ℕ) → HaveCrossing i q → is_q i q ≡ true
 crossing-is_q i q h = ap is_q_kind h.kind
 
--- a vertex at which two blocks cross is a vertex of the instance
+-- vertices at which blocks cross are live
 pub crossing-live : (i : Synchronized) (q : ℕ) → HaveCrossing i q → Contains (vert_names i) q
 crossing-live i q h = kind_live i.verts q (Q h.cell h.psi) (vert_in i.verts q) refl h.kind
 
@@ -88,7 +88,7 @@ module _ (i : Synchronized) (is : IsSynchronized i) (numbers : List ℕ)
       (slice_index (psi_at i q) k) (psi-live t j ltj) (psi-live t k ltk)).0
       (sym (number_at j ltj) ∙ same ∙ number_at k ltk)
 
-  -- edges of one block have equal numbers at their places along the psi of q
+  -- and edges of one block have equal numbers
   one_numbers : is_q i q ≡ true → (j k : ℕ) → j < length (psi_at i q) → k < length (psi_at i q)
       → InOneBlock (graph i) (slice_index (psi_at i q) j) (slice_index (psi_at i q) k)
       → slice_index along j ≡ slice_index along k

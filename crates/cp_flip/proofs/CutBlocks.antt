@@ -16,7 +16,7 @@ module _ (i : Synchronized) (is : IsSynchronized i) (es : List ℕ) (block : Are
   b = block.1
 
   -- there is one
-  some : 0 < length es
+  pub some : 0 < length es
   some =
       let there = kept_of b.inside (edge_names i) block.0 b.is_block.live
       ((b.is_block.tells block.0 b.is_block.live).1 (inl refl)) in
@@ -44,7 +44,7 @@ module _ (i : Synchronized) (is : IsSynchronized i) (es : List ℕ) (block : Are
   pub cut-vertex : (cut : ListedGraph) → cut ≡ listed_part i es → 0 < cut.graph.vertices
   cut-vertex cut same = subst (λ (x : ListedGraph). 0 < x.graph.vertices) (sym same) part-vertex
 
-  -- in a block that is cut out and is not a single edge, vertex 0 has two edges
+  -- and its vertex 0 has two edges, where it is not one edge
   pub cut-HasTwoEdges : (cut : ListedGraph) → cut ≡ listed_part i es → length es ≢ 1 → HasTwoEdges cut.graph.ends 0
   cut-HasTwoEdges cut same other =
       subst (λ (x : ListedGraph). HasTwoEdges x.graph.ends 0) (sym same) (part-HasTwoEdges other)

@@ -4,7 +4,7 @@ use Rattle.std.proofs.Common.{◌≡◌, ◌≢◌, ℕ, ◌<◌, ◌≤◌, ◌
 use Rattle.std.specs.Prelude.{Option, Some, None}
 use Rattle.std.specs.List.{range_with_len}
 use Rattle.std.proofs.lemmas.Bool.{cases_Bool, cases_eq}
-use Rattle.std.proofs.lemmas.List.{append-nil}
+use Rattle.std.proofs.lemmas.List.{append-nil, take_all}
 use Rattle.std.proofs.lemmas.List.Sorted.{IsPermutation-sym}
 use Rattle.cp_lists.specs.CyclicLists.{Distinct, Has, Lacks, head_or}
 use Rattle.cp_lists.specs.Turns.{IsTurn}
@@ -45,6 +45,7 @@ never_in_row row tree never order bits var p h =
     never order (p.word, p.order_is, read_wider (given bits) any_bit (λ v b m. refl) tree.body p.word p.reads)
     (either (bit_of bits var) h)
   where
+    -- a row in a direction stands in one of the two
     either : (b : Bool) → HasRow (in_direction b row) order → HasRow row order ⊎ HasRow (reverse row) order
     either false k = inl k
     either true k = inr k
@@ -55,6 +56,12 @@ pub pairless-none : (row : List ℕ) (var : ℕ) (old new : PQTree) → IsForced
     → HasRow (in_direction (bit_of bits var) row) order → ⊥
 pairless-none row var old new f none order bits p h =
     let k = f.keeps order bits p h in none (order, bits ++ k.0, k.1)
+
+-- a list that is kept in a direction is kept so by its turns
+pub KeepsDirection-turn : (list : Option (List ℕ)) (b : Bool) (us vs : List ℕ) → KeepsDirection list b us → IsTurn us vs
+    → KeepsDirection list b vs
+KeepsDirection-turn None b us vs k turn = tt
+KeepsDirection-turn (Some list) b us vs k turn = turn-trans (directed b list) us vs k turn
 
 -- a list without items
 pub no_items : (xs : List ℕ) → ((x : ℕ) → Has x xs → ⊥) → xs ≡ []
@@ -195,17 +202,12 @@ module _ (block : ListedGraph) (is_block : IsListedBlock block) (t : ℕ) (lt_t 
       plane = z.1.plane;
       lists_kept = λ v lt. ⊎_elim
           (λ e. subst (λ u. KeepsDirection (list_given block.lists u) (bit u) (edges_round z.0 u)) (sym e)
-          (kept_turn (list_given block.lists t) (bit t) order (edges_round z.0 t) keeps z.1.order_is))
+          (KeepsDirection-turn (list_given block.lists t) (bit t) order (edges_round z.0 t) keeps z.1.order_is))
           (λ other. subst (λ b. KeepsDirection (list_given block.lists v) b (edges_round z.0 v)) (same v lt)
           (z.1.lists_kept v lt other))
           (cases_eq v t);
     },
   )
-    where
-      kept_turn : (list : Option (List ℕ)) (b : Bool) (us vs : List ℕ) → KeepsDirection list b us → IsTurn us vs
-          → KeepsDirection list b vs
-      kept_turn None b us vs k turn = tt
-      kept_turn (Some list) b us vs k turn = turn-trans (directed b list) us vs k turn
 
   -- without a list at t the tree is that of all directions
   pub free-IsDirectedTree : list_given block.lists t ≡ None → IsDirectedTree block t old old
@@ -217,16 +219,10 @@ module _ (block : ListedGraph) (is_block : IsListedBlock block) (t : ℕ) (lt_t 
           (subst (λ l. KeepsDirection l (bit t) p.0) (sym free) tt) (pair-embedded p.0 p.1 p.2),
       λ d. let p = directed-pair bit d.0 d.1 in (old.root ∷ p.0, p.2.0, p.2.1, p.2.2),
     );
-    pairs = λ order bits p. subst (IsPair old order) (sym (take_whole bits old.vars p.bits_count)) p;
+    pairs = λ order bits p. subst (IsPair old order) (sym (take_all old.vars bits (omega (arith, p.bits_count)))) p;
     list_kept = λ order bits p. subst (λ l. KeepsDirection l (bit_of bits t) order) (sym free) tt;
     some_pair = is.some_pair;
   }
-    where
-      take_whole : (bits : List Bool) (m : ℕ) → length bits ≡ m → take m bits ≡ bits
-      take_whole [] zero e = refl
-      take_whole [] (suc m) e = refl
-      take_whole (b ∷ bits) zero e = absurd (omega (arith, e))
-      take_whole (b ∷ bits) (suc m) e = ap (λ bs. b ∷ bs) (take_whole bits m (omega (arith, e)))
 
   -- with a list at t
   module _ (list row : List ℕ) (given_is : list_given block.lists t ≡ Some list) (turn : IsTurn list (old.root ∷ row))
@@ -349,6 +345,7 @@ module _ (block : ListedGraph) (is_block : IsListedBlock block) (t : ℕ) (lt_t 
         some_pair = some;
       }
         where
+          -- a pair of the new tree has the list of t in the direction of its bit
           kept : (order : List ℕ) (bits : List Bool) → IsPair new order bits
               → KeepsDirection (list_given block.lists t) (bit_of bits t) order
           kept order bits p =
@@ -356,6 +353,7 @@ module _ (block : ListedGraph) (is_block : IsListedBlock block) (t : ℕ) (lt_t 
               subst (λ l. KeepsDirection l (bit_of bits t) order) (sym given_is)
               (row-kept order (take old.vars bits) (bit_of bits t) w.0 w.1)
 
+          -- bits of a pair are directions of the block
           to : (bit : ℕ → Bool) → HasPairWith n new bit → CanBeDirected block bit
           to bit p =
               embedded-directed p.0 bit (bit_of (take old.vars p.1))
@@ -363,6 +361,7 @@ module _ (block : ListedGraph) (is_block : IsListedBlock block) (t : ℕ) (lt_t 
               (subst (λ b. KeepsDirection (list_given block.lists t) b p.0) (p.3 t lt_t) (kept p.0 p.1 p.2))
               (pair-embedded p.0 (take old.vars p.1) (f.only p.0 p.1 p.2).0)
 
+          -- and back
           from : (bit : ℕ → Bool) → CanBeDirected block bit → HasPairWith n new bit
           from bit d =
               let p = directed-row bit d in

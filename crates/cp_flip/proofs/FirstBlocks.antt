@@ -59,11 +59,11 @@ module _ (i : Synchronized) (is : IsSynchronized i) (numbers : List ℕ)
   abbrev edges : List ℕ
   edges = edge_names i
 
-  -- the edge at a place
+  -- the edge at a place, and the edges of its block
   abbrev edge : ℕ → ℕ
   edge k = slice_index edges k
 
-  -- the edges of its block, rising
+  -- the edges of its block
   abbrev row : ℕ → List ℕ
   row k = row_with edges numbers (edge k)
 
@@ -94,7 +94,7 @@ module _ (i : Synchronized) (is : IsSynchronized i) (numbers : List ℕ)
   first-in : (k : ℕ) → k < length edges → Contains (row k) (slice_index (row k) 0)
   first-in k lt = Contains-get_or (row k) 0 0 (row-some k lt)
 
-  -- seen from its first edge, too, the row is the edges of the block, rising
+  -- the row is that of the block of its first edge
   pub first-AreBlockEdges : (k : ℕ) → k < length edges → AreBlockEdges i (slice_index (row k) 0) (row k)
   first-AreBlockEdges k lt =
       other-AreBlockEdges i is (edge k) (slice_index (row k) 0) (row k) (row-AreBlockEdges k lt) (first-in k lt)

@@ -24,11 +24,11 @@ use Rattle.cp_board.specs.Rotations.{ArrangesEdges, dart}
 use Rattle.cp_embed.proofs.BoardBlocks.{live_ends, pairs-HaveNoLoop, rising_distinct}
 use Rattle.cp_embed.proofs.NumberedBlocks.{number_of, one_number}
 
--- the twin of the first dart of an edge is the second
+-- the twin of the first dart of an edge, and of the second
 twin_first : (k : ℕ) → twin (2 * k) ≡ 2 * k + 1
 twin_first k = rw (eq-eqb (2 * k % 2) 0 (omega arith)) refl
 
--- the twin of the second dart of an edge is the first
+-- the twin of the second dart of an edge is the first one
 twin_second : (k : ℕ) → twin (2 * k + 1) ≡ 2 * k
 twin_second k =
     let odd : (2 * k + 1) % 2 ≢ 0 = λ e. omega (arith, e) in
@@ -54,11 +54,11 @@ module _ (g : NamedGraph) (differ : (e : ℕ) → Contains g.edges e → (g.ends
       (λ a. let d = second_dart w e a in omega (arith, d))
       (cases_eq (g.ends e).0 w)
 
-  -- the name of the edge of a dart
+  -- the edge of a dart, and the end at which it stands
   abbrev named_edge : ℕ → ℕ
   named_edge d = slice_index g.edges (d / 2)
 
-  -- the name of the vertex at which a dart stands: an even dart at the first end of its edge, an odd one at the second
+  -- the end at which a dart stands
   abbrev named_end : ℕ → ℕ
   named_end d = cond (eqb (d % 2) 0) (g.ends (named_edge d)).0 (g.ends (named_edge d)).1
 

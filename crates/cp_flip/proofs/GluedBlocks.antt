@@ -53,22 +53,25 @@ module _ (i : Synchronized) (is : IsSynchronized i) (numbers : List ℕ)
   -- lists that have of each block those of a rotation of it, up to a turn, have each psi in some direction, and at no
   -- other vertex two blocks crosswise, are a rotation of the instance
   pub glued-IsRotationOf : (s : ℕ → List ℕ) → All (λ v. ArrangesEdges g v (s v)) g.verts
-      → (parts : ℕ → ℕ → List ℕ) → ((c : ℕ) → c < 2 * length g.edges → IsRotationOf (block c) (parts c))
-      → ((c v : ℕ) → Contains g.verts v → IsTurn (parts c v) (filter (λ f. eqb (number f) c) (s v)))
+      → ((c : ℕ) → c < 2 * length g.edges → (p : ℕ → List ℕ) × IsRotationOf (block c) p
+      × ((v : ℕ) → Contains g.verts v → IsTurn (p v) (filter (λ f. eqb (number f) c) (s v))))
       → (back : ℕ → Bool) → ((v : ℕ) → Contains g.verts v → is_q i v ≡ true → IsTurn (directed (back v) (psi_at i v)) (s v))
       → ((v : ℕ) → Contains g.verts v → is_q i v ≡ false → NoCross number (s v))
       → IsRotationOf g s
-  glued-IsRotationOf s arranged parts rotations turns back psi_kept apart = record {
+  glued-IsRotationOf s arranged parts back psi_kept apart = record {
     arranged = arranged;
     flat = (blocks-HasGenusZero i is s arranged numbers are).1 (each_block, NoneCross-lists (λ d. slice_index numbers (d / 2)) (dart_list (dart g) s) g.verts uncrossed);
   }
     where
+      -- the ends of an edge are vertices
       live : (f : ℕ) → Contains g.edges f → Contains g.verts (g.ends f).0 × Contains g.verts (g.ends f).1
       live f c = let l = live_ends i is f c in (l.0, l.1)
 
+      -- and they differ
       differ : (f : ℕ) → Contains g.edges f → (g.ends f).0 ≢ (g.ends f).1
       differ f c = (live_ends i is f c).2
 
+      -- what the lists have of each block has genus zero
       each_block : (c : ℕ) → c < 2 * length g.edges
           → HasGenusZero (system (block c) (λ v. filter (λ f. eqb (number f) c) (s v)))
       each_block c lt =
@@ -78,17 +81,18 @@ module _ (i : Synchronized) (is : IsSynchronized i) (numbers : List ℕ)
           let in_g : (f : ℕ) → Contains (filter test g.edges) f → Contains g.edges f =
           λ f h. (kept_pair test g.edges f h).0 in
           let here = system-IsFlat (block c) is.verts_named.rise rise (λ f h. live f (in_g f h))
-          (λ f h. differ f (in_g f h)) (parts c) (rotations c lt).arranged in
+          (λ f h. differ f (in_g f h)) (parts c lt).0 (parts c lt).1.arranged in
           let there = system-IsFlat (block c) is.verts_named.rise rise (λ f h. live f (in_g f h))
           (λ f h. differ f (in_g f h)) (λ v. filter test (s v)) (kept-arranged i is s arranged numbers are c) in
-          there.1 (IsFlat-agree (length (filter test g.edges)) (turn_of (block c) (parts c))
+          there.1 (IsFlat-agree (length (filter test g.edges)) (turn_of (block c) (parts c lt).0)
           (turn_of (block c) (λ v. filter test (s v)))
           (turn-Permutes (block c) is.verts_named.rise rise (λ f h. live f (in_g f h)) (λ f h. differ f (in_g f h))
-          (parts c) (rotations c lt).arranged)
+          (parts c lt).0 (parts c lt).1.arranged)
           (turned-step (block c) is.verts_named.rise rise (λ f h. live f (in_g f h)) (λ f h. differ f (in_g f h))
-          (parts c) (rotations c lt).arranged (λ v. filter test (s v)) (λ v h. turns c v h))
-          (here.0 (rotations c lt).flat))
+          (parts c lt).0 (parts c lt).1.arranged (λ v. filter test (s v)) (λ v h. (parts c lt).2 v h))
+          (here.0 (parts c lt).1.flat))
 
+      -- no two blocks stand crosswise in the darts of a vertex
       uncrossed : (v : ℕ) → Has v g.verts → NoCross (λ d. slice_index numbers (d / 2)) (dart_list (dart g) s v)
       uncrossed v h =
           let c = (Has-Contains v g.verts).0 h in

@@ -1,11 +1,13 @@
 -- Lists of different classes one behind the other: no two classes stand crosswise, and what is kept of a class is its list.
-use Rattle.std.proofs.Common.{◌≡◌, ◌≢◌, ℕ, ◌⊎◌, Bool, false, eqb, List, [], ◌∷◌, ◌++◌, length, drop, take, filter, map, sym, refl, ap, ◌∙◌, subst, inl, inr, ⊎_elim, arith, append-nil}
+use Rattle.std.proofs.Common.{◌≡◌, ◌≢◌, ℕ, zero, suc, ◌<◌, ◌⊎◌, Bool, false, eqb, List, [], ◌∷◌, ◌++◌, length, drop, take, filter, slice_index, sym, refl, ap, ◌∙◌, subst, inl, inr, ⊎_elim, arith, append-nil}
+use Rattle.std.specs.Prelude.{slice_index_or}
+use Rattle.std.specs.List.{AllByRecursion}
 use Rattle.std.proofs.lemmas.Bool.{eq-eqb, ne_eqb}
 use Rattle.std.proofs.lemmas.List.Elements.{filter-append}
 use Rattle.cp_lists.specs.Crossings.{InOrder, NoCross}
 use Rattle.cp_lists.specs.CyclicLists.{Distinct, Has, Lacks, head_or}
 use Rattle.cp_lists.specs.Rows.{flat}
-use Rattle.cp_lists.proofs.DistinctLists.{Has-append_cases, has_lacks}
+use Rattle.cp_lists.proofs.DistinctLists.{Distinct-append, Has-append_cases, Has_at, Lacks-from, has_lacks}
 use Rattle.cp_lists.proofs.FilteredLists.{filter_all, filter_no}
 
 -- what stands in order stands so behind one item more
@@ -39,6 +41,7 @@ order_cases : (w x y z : ℕ) (xs ys : List ℕ) → InOrder (w ∷ x ∷ y ∷ 
 order_cases w x y z xs ys h =
     let r = InOrder-cut (w ∷ x ∷ y ∷ z ∷ []) xs ys h in by_parts r.0 r.1 r.2 r.3 r.4
   where
+    -- the cases by how many of the four stand in the first list
     by_parts : (us vs : List ℕ) → w ∷ x ∷ y ∷ z ∷ [] ≡ us ++ vs → InOrder us xs → InOrder vs ys
         → (InOrder (w ∷ x ∷ y ∷ z ∷ []) xs ⊎ InOrder (w ∷ x ∷ y ∷ z ∷ []) ys)
         ⊎ ((Has w xs × Has y ys) ⊎ (Has x xs × Has z ys))
@@ -60,7 +63,7 @@ order_cases w x y z xs ys h =
         let size = ap length e in absurd (omega (arith, size))
 
 -- where no item passes a test nothing is kept
-filter_none : (p : ℕ → Bool) (xs : List ℕ) → ((x : ℕ) → Has x xs → p x ≡ false) → filter p xs ≡ []
+pub filter_none : (p : ℕ → Bool) (xs : List ℕ) → ((x : ℕ) → Has x xs → p x ≡ false) → filter p xs ≡ []
 filter_none p [] fails = refl
 filter_none p (x ∷ xs) fails =
     filter_no p x xs (fails x (inl refl)) ∙ filter_none p xs (λ y h. fails y (inr h))
@@ -84,45 +87,68 @@ module _ (class : ℕ → ℕ) where
       two)
       (order_cases w x y z xs ys h)
 
-  -- a list for each class
-  module _ (parts : ℕ → List ℕ) (own : (c x : ℕ) → Has x (parts c) → class x ≡ c) where
-    -- an item of the lists of some classes is of one of them
-    item_class : (cs : List ℕ) (x : ℕ) → Has x (flat (map parts cs)) → Has (class x) cs
-    item_class [] x h = absurd h
-    item_class (c ∷ cs) x h = ⊎_elim
-        (λ a. inl (sym (own c x a)))
-        (λ b. inr (item_class cs x b))
-        (Has-append_cases x (parts c) (flat (map parts cs)) h)
+  -- a list of items of each class
+  abbrev pub AreOfClasses : List ℕ → List (List ℕ) → Type 0
+  AreOfClasses [] [] = Unit {0}
+  AreOfClasses [] (xs ∷ rows) = ⊥
+  AreOfClasses (c ∷ cs) [] = ⊥
+  AreOfClasses (c ∷ cs) (xs ∷ rows) = ((x : ℕ) → Has x xs → class x ≡ c) × AreOfClasses cs rows
 
-    -- no two classes stand crosswise in the lists of different classes, one behind the other
-    pub joined-NoCross : (cs : List ℕ) → Distinct cs → NoCross class (flat (map parts cs))
-    joined-NoCross [] once = λ w x y z h first second. absurd h
-    joined-NoCross (c ∷ cs) once =
-        NoCross-append (parts c) (flat (map parts cs))
-        (λ x y hx hy same. has_lacks c cs
-        (subst (λ k. Has k cs) (sym same ∙ own c x hx) (item_class cs y hy)) once.0)
-        (NoCross-one c (parts c) (own c)) (joined-NoCross cs once.1)
+  -- an item of the lists of some classes is of one of them
+  item_class : (cs : List ℕ) (rows : List (List ℕ)) (x : ℕ) → AreOfClasses cs rows → Has x (flat rows) → Has (class x) cs
+  item_class [] [] x own h = absurd h
+  item_class [] (xs ∷ rows) x own h = absurd own
+  item_class (c ∷ cs) [] x own h = absurd own
+  item_class (c ∷ cs) (xs ∷ rows) x own h = ⊎_elim
+      (λ a. inl (sym (own.0 x a)))
+      (λ b. inr (item_class cs rows x own.1 b))
+      (Has-append_cases x xs (flat rows) h)
 
-    -- nothing is kept of a class that is none of them
-    none_kept : (c : ℕ) (cs : List ℕ) → Lacks c cs → filter (λ x. eqb (class x) c) (flat (map parts cs)) ≡ []
-    none_kept c cs lacks = filter_none (λ x. eqb (class x) c) (flat (map parts cs))
-        (λ x h. ne_eqb (class x) c (λ e. has_lacks c cs (subst (λ k. Has k cs) e (item_class cs x h)) lacks))
+  -- no two classes stand crosswise in the lists of different classes, one behind the other
+  pub joined-NoCross : (cs : List ℕ) (rows : List (List ℕ)) → AreOfClasses cs rows → Distinct cs → NoCross class (flat rows)
+  joined-NoCross [] [] own once = λ w x y z h first second. absurd h
+  joined-NoCross [] (xs ∷ rows) own once = absurd own
+  joined-NoCross (c ∷ cs) [] own once = absurd own
+  joined-NoCross (c ∷ cs) (xs ∷ rows) own once =
+      NoCross-append xs (flat rows)
+      (λ x y hx hy same. has_lacks c cs
+      (subst (λ k. Has k cs) (sym same ∙ own.0 x hx) (item_class cs rows y own.1 hy)) once.0)
+      (NoCross-one c xs own.0) (joined-NoCross cs rows own.1 once.1)
 
-    -- of each of them its list is kept
-    pub joined-kept : (c : ℕ) (cs : List ℕ) → Distinct cs → Has c cs
-        → filter (λ x. eqb (class x) c) (flat (map parts cs)) ≡ parts c
-    joined-kept c [] once h = absurd h
-    joined-kept c (d ∷ cs) once h =
-        let p = λ (x : ℕ). eqb (class x) c in
-        filter-append p (parts d) (flat (map parts cs)) ∙ ⊎_elim
-        (λ (e : d ≡ c).
-        ap (λ xs. xs ++ filter p (flat (map parts cs)))
-        (filter_all p (parts d) (λ x m. eq-eqb (class x) c (own d x m ∙ e)))
-        ∙ ap (λ xs. parts d ++ xs) (none_kept c cs (subst (λ k. Lacks k cs) e once.0))
-        ∙ append-nil (parts d) ∙ ap parts e)
-        (λ k.
-        let other : d ≢ c = λ e. has_lacks c cs k (subst (λ j. Lacks j cs) e once.0) in
-        ap (λ xs. xs ++ filter p (flat (map parts cs)))
-        (filter_none p (parts d) (λ x m. ne_eqb (class x) c (λ e. other (sym (own d x m) ∙ e))))
-        ∙ joined-kept c cs once.1 k)
-        h
+  -- no item stands twice in them where none does in one of them
+  pub joined-Distinct : (cs : List ℕ) (rows : List (List ℕ)) → AreOfClasses cs rows → Distinct cs
+      → AllByRecursion Distinct rows
+      → Distinct (flat rows)
+  joined-Distinct [] [] own once each = tt
+  joined-Distinct [] (xs ∷ rows) own once each = absurd own
+  joined-Distinct (c ∷ cs) [] own once each = absurd own
+  joined-Distinct (c ∷ cs) (xs ∷ rows) own once each =
+      Distinct-append xs (flat rows) each.0 (joined-Distinct cs rows own.1 once.1 each.1)
+      (λ x h. Lacks-from x (flat rows) (λ k. has_lacks c cs
+      (subst (λ j. Has j cs) (own.0 x h) (item_class cs rows x own.1 k)) once.0))
+
+  -- nothing is kept of a class that is none of them
+  none_kept : (c : ℕ) (cs : List ℕ) (rows : List (List ℕ)) → AreOfClasses cs rows → Lacks c cs
+      → filter (λ x. eqb (class x) c) (flat rows) ≡ []
+  none_kept c cs rows own lacks = filter_none (λ x. eqb (class x) c) (flat rows)
+      (λ x h. ne_eqb (class x) c (λ e. has_lacks c cs (subst (λ k. Has k cs) e (item_class cs rows x own h)) lacks))
+
+  -- of each of them its list is kept
+  pub joined-kept : (cs : List ℕ) (rows : List (List ℕ)) (k : ℕ) → AreOfClasses cs rows → Distinct cs → k < length cs
+      → filter (λ x. eqb (class x) (slice_index cs k)) (flat rows) ≡ slice_index_or rows k []
+  joined-kept [] rows k own once lt = absurd (omega (arith, lt))
+  joined-kept (c ∷ cs) [] k own once lt = absurd own
+  joined-kept (c ∷ cs) (xs ∷ rows) zero own once lt =
+      let p = λ (x : ℕ). eqb (class x) c in
+      filter-append p xs (flat rows)
+      ∙ ap (λ ys. ys ++ filter p (flat rows)) (filter_all p xs (λ x m. eq-eqb (class x) c (own.0 x m)))
+      ∙ ap (λ ys. xs ++ ys) (none_kept c cs rows own.1 once.0)
+      ∙ append-nil xs
+  joined-kept (c ∷ cs) (xs ∷ rows) (suc k) own once lt =
+      let d = slice_index cs k in
+      let p = λ (x : ℕ). eqb (class x) d in
+      let other : c ≢ d = λ e. has_lacks d cs (Has_at cs k (omega (arith, lt))) (subst (λ j. Lacks j cs) e once.0) in
+      filter-append p xs (flat rows)
+      ∙ ap (λ ys. ys ++ filter p (flat rows))
+      (filter_none p xs (λ x m. ne_eqb (class x) d (λ e. other (sym (own.0 x m) ∙ e))))
+      ∙ joined-kept cs rows k own.1 once.1 (omega (arith, lt))

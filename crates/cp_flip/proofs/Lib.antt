@@ -1,4 +1,5 @@
 -- what the functions rest on
+mod EqualTests
 mod TakingTurns
 mod CrossingLists
 mod MetEquations
@@ -12,9 +13,19 @@ mod BlockRotations
 mod RotationsOfBlocks
 mod SingleEdges
 mod FirstBlocks
+mod NumberedRows
+mod EmbeddedBlocks
 -- genus by blocks for instances, on which solving them rests
 mod FlatBlocks
 mod BlocksTogether
 mod UncrossedLists
 mod JoinedClasses
 mod GluedBlocks
+mod SolvedBlocks
+mod CellEquations
+mod GluedSolutions
+mod BlockParts
+mod AppendedLists
+mod FinalLists
+mod BlockSteps
+mod FreeReasons

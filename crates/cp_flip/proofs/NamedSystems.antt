@@ -63,11 +63,11 @@ module _ (g : NamedGraph) (verts_rise : IsStrictlyIncreasing g.verts) (edges_ris
       let within : d / 2 < n = omega (arith, lt) in
       rank_is g.edges (d / 2) (edge d) (rising_distinct g.edges edges_rise) within refl
 
-  -- an even dart stands at the first end of its edge
+  -- the end at which an even dart stands is the first, and that of an odd one the second
   end_even : (d : ℕ) → d % 2 ≡ 0 → end_of g d ≡ (g.ends (edge d)).0
   end_even d e = cond-true {A = ℕ} (eqb (d % 2) 0) (g.ends (edge d)).0 (g.ends (edge d)).1 (eq-eqb (d % 2) 0 e)
 
-  -- an odd dart stands at the second end of its edge
+  -- and an odd one at the second
   end_odd : (d : ℕ) → d % 2 ≢ 0 → end_of g d ≡ (g.ends (edge d)).1
   end_odd d ne = cond-false {A = ℕ} (eqb (d % 2) 0) (g.ends (edge d)).0 (g.ends (edge d)).1 (ne_eqb (d % 2) 0 ne)
 

@@ -25,6 +25,7 @@ use Rattle.cp_embed.specs.Realisations.{edges_round}
 use Rattle.cp_embed.proofs.BoardBlocks.{psi-ArrangesEdges, rising_distinct, verts_rise}
 use Rattle.cp_flip.specs.DirectedBlocks.{CanBeDirected}
 use Rattle.cp_flip.specs.DirectedRotations.{IsDirectedRotation}
+use Rattle.cp_flip.proofs.EqualTests.{same_tests}
 use Rattle.cp_flip.proofs.BlockRotations.{directed-IsDirectedRotation, kept-inside, named_lists, rotation-IsDirectedBy}
 
 -- a bit as a number
@@ -35,18 +36,18 @@ bit_number b = cond b 1 0
 abbrev number_bit : ℕ → Bool
 number_bit n = eqb n 1
 
--- a bit that is made a number and read again is the same
+-- a bit as a number and back is the bit
 bit_back : (b : Bool) → number_bit (bit_number b) ≡ b
 bit_back true = refl
 bit_back false = refl
 
-module _ (i : Synchronized) (is : IsSynchronized i) where
-  -- a row without a name
-  abbrev none : Vert
-  none = record { name = 0; kind = P }
+-- a row without a name
+abbrev pub none : Vert
+none = record { name = 0; kind = P }
 
+module _ (i : Synchronized) (is : IsSynchronized i) where
   -- the row at a place has the kind of its name
-  row_kind : (k : ℕ) → k < length i.verts
+  pub row_kind : (k : ℕ) → k < length i.verts
       → kind_of i (slice_index_or i.verts k none).name ≡ Some (slice_index_or i.verts k none).kind
   row_kind k lt = ap (λ o. option_map (λ (x : Vert). x.kind) o)
       (found_at (λ (x : Vert). x.name) i.verts k none (rises_from (vert_names i) is.verts_named.rise) lt)
@@ -150,11 +151,6 @@ module _ (i : Synchronized) (is : IsSynchronized i) where
         (IsPermutation-sym (edges_at (graph i) v) (psi_at i v) (psi-ArrangesEdges i is v c q))
         ((Has-Contains f (psi_at i v)).0 h))).0))
         d.1)
-      where
-        same_tests : (p q : Bool) → (p ≡ true → q ≡ true) → (q ≡ true → p ≡ true) → p ≡ q
-        same_tests true q to from = sym (to refl)
-        same_tests false true to from = from refl
-        same_tests false false to from = refl
 
     -- a rotation with directions is none of none
     pub directed-HasRotation : (back : ℕ → Bool) (s : ℕ → List ℕ) → IsDirectedRotation i b.inside back s

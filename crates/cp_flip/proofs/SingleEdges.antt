@@ -33,6 +33,7 @@ follow_single : (xs : List ℕ) (x : ℕ) → length xs ≤ 1 → Has x xs → f
 follow_single [] x le h = absurd h
 follow_single (y ∷ []) x le h = ⊎_elim (λ e. either (eqb y x) y ∙ e) (λ k. absurd k) h
   where
+    -- both choices of one number are it
     either : (b : Bool) (y : ℕ) → cond b y y ≡ y
     either true y = refl
     either false y = refl
@@ -52,17 +53,17 @@ filter-short p (x ∷ xs) =
 alone-IsFlat : IsFlat 1 (λ d. d)
 alone-IsFlat = omega arith
 
--- the map that leaves both darts of one edge where they are is a permutation
+-- the step that stays permutes the two darts
 alone-Permutes : Permutes 2 (λ d. d)
 alone-Permutes = record { below = λ x lt. lt; apart = λ x y ltx lty same. same }
 
 module _ (i : Synchronized) (is : IsSynchronized i) (e : ℕ) (es : List ℕ) (b : AreBlockEdges i e es)
     (one : length es ≡ 1) where
-  -- the graph of the instance
+  -- the graph, and the block
   abbrev g : NamedGraph
   g = graph i
 
-  -- the block with all vertices of the instance
+  -- the edges of the block over all vertices
   abbrev whole : NamedGraph
   whole = record { verts = g.verts; edges = es; ends = g.ends }
 
@@ -78,7 +79,7 @@ module _ (i : Synchronized) (is : IsSynchronized i) (e : ℕ) (es : List ℕ) (b
   live : (f : ℕ) → Contains es f → Contains g.verts (g.ends f).0 × Contains g.verts (g.ends f).1
   live f c = let l = live_ends i is f (edges_in i is e es b f c) in (l.0, l.1)
 
-  -- no edge of the block is a loop
+  -- the ends of an edge of the block differ
   differ : (f : ℕ) → Contains es f → (g.ends f).0 ≢ (g.ends f).1
   differ f c = (live_ends i is f (edges_in i is e es b f c)).2
 
@@ -131,6 +132,7 @@ module _ (i : Synchronized) (is : IsSynchronized i) (e : ℕ) (es : List ℕ) (b
       (rising_distinct (lists v) (IsStrictlyIncreasing-filter (ends_at whole v) es es_rise)) same
       (omega (arith, filter-short (ends_at whole v) es, one))
     where
+      -- at most one edge is turned to itself in either direction
       small : (w : Bool) (xs ys : List ℕ) → Distinct xs → Distinct ys → ((f : ℕ) → Has f ys ↔ Has f xs)
           → length ys ≤ 1 → IsTurn (directed w xs) ys
       small true xs ys dx dy same le = turn-sym ys (reverse xs) (turn_of_at_most_two ys (reverse xs) dy

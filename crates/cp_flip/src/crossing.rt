@@ -60,7 +60,7 @@ fn blocks_cross_at<B: Board>(
 }
 
 // The least vertex of these at which two blocks cross.
-fn first_crossing_of<B: Board>(
+pub(crate) fn first_crossing_of<B: Board>(
     alloc: Global,
     board: &B,
     verts: &[usize],

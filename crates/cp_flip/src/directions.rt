@@ -104,6 +104,23 @@ impl<T: OrderTree> Model for DirectedBlock<T> {
     ghost invariant = { λ d. IsDirectedTree d.embedded.block d.embedded.vertex d.embedded.tree (T.tree d.tree) };
 }
 
+impl<T: OrderTree> DirectedBlock<T> {
+    // The tree in which the vertex, too, keeps its list.
+    pub(crate) fn tree(&self) -> &T
+        ensures value { T.tree result.now ≡ self.now.tree }
+        ensures exact { IsDirectedTree self.now.embedding.block self.now.embedding.vertex self.now.embedding.tree self.now.tree }
+    {
+        &self.tree
+    }
+
+    // The embeddings by the orders of the vertex.
+    pub(crate) fn embedded(&self) -> &Embedded<T>
+        ensures { result.now ≡ self.now.embedding }
+    {
+        &self.embedded
+    }
+}
+
 /// The order tree of a vertex with at least two edges, in which this vertex keeps its list too: the bits of the vertices
 /// in its pairs are exactly the directions in which a rotation system of the block in the plane keeps the given lists.
 /// `NotPlanar` comes exactly where there is none. For each vertex a constant number of passes over the tree.

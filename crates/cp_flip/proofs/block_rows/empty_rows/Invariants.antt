@@ -1,0 +1,6 @@
+-- So many empty rows.
+use Rattle.std.proofs.Common.{◌≡◌, [], replicate}
+use Rattle.cp_flip.proofs.block_rows.empty_rows.Given as goal
+
+abbrev pub invariant-loop : goal.invariant-loop
+invariant-loop l = l.rows.items ≡ replicate l.counter []
