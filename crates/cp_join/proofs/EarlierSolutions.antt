@@ -1,7 +1,7 @@
 -- A solution after Join makes one before it: the inner vertices of the first end made one vertex give the orders of
 -- both
 -- ends.
-use Rattle.std.proofs.Common.{◌≡◌, ◌⊎◌, ℕ, suc, ◌*◌, ◌<◌, false, not, ◌||◌, eqb, List, [], ◌∷◌, ◌++◌, length, get_or, map, reverse, slice_index, slice_index_or, sym, ap, ◌∙◌, subst, subst₂, ⊎_elim, arith, IsPermutation}
+use Rattle.std.proofs.Common.{◌≡◌, ℕ, suc, ◌*◌, ◌<◌, false, not, ◌||◌, eqb, List, [], ◌∷◌, ◌++◌, length, get_or, map, reverse, slice_index, slice_index_or, sym, ap, ◌∙◌, subst, subst₂, ⊎_elim, arith, IsPermutation}
 use Rattle.std.specs.Prelude.{Some, find}
 use Rattle.std.specs.List.{All, Contains}
 use Rattle.std.specs.Option.{option_map, option_map_or}

@@ -24,18 +24,24 @@ use Rattle.cp_board.specs.declared.steps.Step.TheVariants.{Join}
 use Rattle.cp_join.specs.InnerSystems.{HasInnerLists, first_back, first_marks, inner_system, second_back, with_orders}
 use Rattle.cp_join.specs.Partings.{AreParted, new_verts}
 use Rattle.cp_join.specs.declared.parted_ends.Parting.{Parting}
+use Rattle.cp_conn.specs.NamedGraphs.{NamedGraph, edges_at, ends_at}
+use Rattle.cp_conn.proofs.DistinctSubsets.{subset_length}
+use Rattle.cp_conn.proofs.NamedGraphs.{edges_at-Contains}
+use Rattle.std.proofs.lemmas.List.Kept.{IsStrictlyIncreasing-filter}
+use Rattle.std.proofs.lemmas.List.Sorted.{length_permutation}
+use Rattle.cp_join.proofs.PartLists.{all_of}
 use Rattle.cp_join.proofs.EarlierSolutions.{Solves-earlier}
 use Rattle.cp_join.proofs.FreshNames.{fresh_rise}
 use Rattle.cp_join.proofs.InnerFits.{inner-HasGenusZero, inner-IsRotation, inner_listed, made_system}
 use Rattle.cp_join.proofs.InnerSides.{first-IsSideOf, first_back-order, order-IsMergedSide, order-low, second_back-order}
 use Rattle.cp_join.proofs.JoinNames.{HasPartings, inner_a_new, inner_b_new}
-use Rattle.cp_join.proofs.JoinRewrites.{parts_small}
+use Rattle.cp_join.proofs.JoinRewrites.{parts_small, parts_few}
 use Rattle.cp_join.proofs.JoinedGraph.{joined}
 use Rattle.cp_join.proofs.JoinedHalves.{inner_graph}
 use Rattle.cp_join.proofs.JoinedOuter.{kept-Has}
 use Rattle.cp_join.proofs.JoinedPipes.{told_partings}
 use Rattle.cp_join.proofs.JoinedRules.{new_has, old_has}
-use Rattle.cp_join.proofs.RisingLists.{rising_order}
+use Rattle.cp_join.proofs.RisingLists.{rising_order, Distinct-rising}
 use Rattle.cp_join.proofs.SameLists.{All-from_has}
 use Rattle.cp_join.proofs.SolvableJoins.{allowed-large, some_part}
 use Rattle.cp_join.proofs.UniqueJoins.{joined_as}
@@ -51,6 +57,21 @@ list_of_row f (w ∷ vs) v m = ⊎_elim
     (λ q. rw (eq-eqb w v q) (ap f q))
     (λ q. rw (ne_eqb w v q) (list_of_row f vs v (⊎_elim (λ l. absurd (q l)) (λ l. l) m)))
     (cases_eq w v)
+
+-- a vertex has no more parts than the graph has edges
+pub parts_bound : (g : NamedGraph) (u : ℕ) (parts : List (List ℕ)) → IsStrictlyIncreasing g.edges → ArePartsAt g u parts
+    → length g.edges < 2 ^ 60 → length parts < 2 ^ 60
+parts_bound g u parts rise are few =
+    let most = subset_length (edges_at g u) g.edges
+    (Distinct-rising (edges_at g u) (IsStrictlyIncreasing-filter (ends_at g u) g.edges rise))
+    (λ d k. (Has-Contains d g.edges).1 (edges_at-Contains g u d ((Has-Contains d (edges_at g u)).0 k)).0) in
+    omega (
+      arith,
+      parts_few parts are.filled,
+      length_permutation (edges_at g u) (all_of parts) are.whole,
+      most,
+      few,
+    )
 
 -- the rows of numbers that rise are below the number behind them
 pub rows_below : (f : ℕ → List ℕ) (vs : List ℕ) (k : ℕ) → IsStrictlyIncreasing vs → k < length vs
@@ -147,8 +168,7 @@ module _ (i : Synchronized) (p : Pipe) (s t : Parting) (hats : List ℕ) (h : Ha
     }
 
 -- a board's answers: the ends and the pairs of a pipe that may be joined, its parts and new names, and a solution of
--- what
--- the step makes of the instance
+-- what the step makes of the instance
 module _ (i : Synchronized) (pipe : ℕ) (is : IsSynchronized i) (allowed : Allowed i (Join pipe)) (j : Synchronized)
     (step : After i (Join pipe) j) (few_verts : length (vert_names i) < 2 ^ 60)
     (few_edges : length (edge_names i) < 2 ^ 60) (ends : ℕ × ℕ) (pairs : List (ℕ × ℕ))

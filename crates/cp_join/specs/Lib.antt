@@ -2,3 +2,4 @@
 pub mod Partings
 pub mod Joining
 pub mod InnerSystems
+pub mod JoinSteps
