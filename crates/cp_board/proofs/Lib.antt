@@ -1,3 +1,4 @@
+-- Facts about the definitions, for callers.
 pub mod NamedLists
 pub mod NewNames
 pub mod NumberOfNewNames
@@ -9,13 +10,14 @@ pub mod ShapeEquations
 pub mod PlantedRows
 pub mod ListTests
 pub mod KeptRules
+pub mod SolutionTests
+pub mod WorkedRun
+-- Examples.
 mod WheelShape
 mod BrokenRules
 mod CrossingBlocks
 mod CutTests
 mod PolesOfBonds
 mod RuleTests
-mod SolutionTests
 mod Wheel
 mod WorkedRewrites
-mod WorkedRun

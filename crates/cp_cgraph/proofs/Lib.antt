@@ -2,6 +2,7 @@
 pub mod Crossing
 pub mod Ancestors
 pub mod FaultLaw
+pub mod Tables
 -- what the proofs of this crate rest on
 mod Counted
 mod Nesting
@@ -13,6 +14,5 @@ mod NameSteps
 mod NodeSteps
 mod RootParts
 mod ReadParts
-mod Tables
 mod Gathered
 mod Whole

@@ -1,11 +1,14 @@
 -- Facts about the definitions, for callers.
 pub mod BoardBlocks
 pub mod NumberedBlocks
+pub mod DartLists
+pub mod EdgeDarts
+pub mod MetEquations
+pub mod TreePairs
 -- What the functions rest on.
 mod Lists
 mod EdgeRows
 mod RowNodes
-mod EdgeDarts
 mod LaterEnds
 mod StageSteps
 mod TakenTrees
@@ -15,7 +18,6 @@ mod FirstTrees
 mod FirstEdges
 mod FirstOrders
 mod BuiltTrees
-mod MetEquations
 mod UnwoundSteps
 mod UnwoundStages
 mod UnwoundLists
@@ -29,7 +31,6 @@ mod FreeOwners
 pub mod TurnedPairs
 mod EdgeRuns
 mod Cuts
-mod DartLists
 mod MovedVertices
 mod ThreeVertices
 mod MiddleVertices
@@ -50,7 +51,6 @@ mod LastStages
 mod RealisedOrders
 mod BipolarSweeps
 mod Unwinding
-mod TreePairs
 mod ReplacedPairs
 mod TreeSteps
 mod StarPairs

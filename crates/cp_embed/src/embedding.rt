@@ -47,8 +47,8 @@ impl<T: OrderTree> Model for Embedded<T> {
     ghost invariant = { λ m. IsEmbeddingTree m.block m.vertex (T.tree m.tree) × IsUnwindable m.block m.vertex m.first m.frames (T.tree m.tree) };
 }
 
-// That some bits meet the equations of a tree.
-fn has_pair<T: OrderTree>(alloc: Global, tree: &T) -> Result<(), EmbedFault>
+/// That some bits meet the equations of a tree; `NotPlanar` where none do. Linear in the bits and the equations.
+pub fn has_pair<T: OrderTree>(alloc: Global, tree: &T) -> Result<(), EmbedFault>
     ensures some { IfOk result (λ u. HasSomePair (T.tree tree.now)) }
     ensures none { IfErr result (λ fault. fault ≡ NotPlanar → HasSomePair (T.tree tree.now) → ⊥) }
 {

@@ -15,9 +15,9 @@ mod vertex_order;
 
 pub use block::{PsiList, QBlock};
 pub use board_blocks::{EdgeBlock, block_of, cut_out, rank_among};
-pub use embedding::{Embedded, embed};
+pub use embedding::{Embedded, embed, has_pair};
 pub use fault::EmbedFault;
-pub use taking_back::unwind;
+pub use taking_back::{rest_behind, unwind};
 
 #[cfg(test)]
 mod tests;

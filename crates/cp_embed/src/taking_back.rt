@@ -96,8 +96,8 @@ fn taken_back(
     Ok(TakenBack { word, list })
 }
 
-// What stands behind an item in a cyclic list.
-fn rest_behind(alloc: Global, list: &[usize], item: usize) -> Result<Vec<usize>, Memory>
+/// What stands behind an item in a cyclic list, once round. Linear.
+pub fn rest_behind(alloc: Global, list: &[usize], item: usize) -> Result<Vec<usize>, Memory>
     requires { Has item list.now }
     ensures { IfOk result (λ rest. IsTurn list.now (item ∷ rest.items)) }
 {

@@ -9,7 +9,7 @@ use Rattle.cp_embed.specs.Embeddings.{HasTwoEdges}
 use Rattle.cp_embed.specs.ListedBlocks.{touches}
 
 module _ (ends : List (ℕ × ℕ)) where
-  -- the first end of an edge, and the second
+  -- an edge whose first end is v touches v
   first-touches : (v k : ℕ) → (slice_index_or ends k (0, 0)).0 ≡ v → touches ends v k ≡ true
   first-touches v k e = or_left (eqb (slice_index_or ends k (0, 0)).0 v) (eqb (slice_index_or ends k (0, 0)).1 v)
       (eq-eqb (slice_index_or ends k (0, 0)).0 v e)
@@ -19,7 +19,7 @@ module _ (ends : List (ℕ × ℕ)) where
   second-touches v k e = or_right (eqb (slice_index_or ends k (0, 0)).0 v) (eqb (slice_index_or ends k (0, 0)).1 v)
       (eq-eqb (slice_index_or ends k (0, 0)).1 v e)
 
-  -- a dart is of an edge of its start, and of its finish
+  -- the edge of a dart that starts at v touches v
   start-touches : (v d : ℕ) → start ends d ≡ v → touches ends v (d / 2) ≡ true
   start-touches v d e = ⊎_elim
       (λ even. first-touches v (d / 2) (sym (start_even ends d even) ∙ e))

@@ -61,7 +61,7 @@ rank_one : (names : List ℕ) (m n : ℕ) → Contains names m → Contains name
 rank_one names m n cm cn same = sym (rank_at names m cm).1 ∙ ap (slice_index names) same ∙ (rank_at names n cn).1
 
 module _ (i : Synchronized) (is : IsSynchronized i) (e : ℕ) (es : List ℕ) (b : AreBlockEdges i e es) where
-  -- the graph, and the block with all vertices or those of its edges alone
+  -- the graph of the instance
   abbrev g : NamedGraph
   g = graph i
 
@@ -107,7 +107,7 @@ module _ (i : Synchronized) (is : IsSynchronized i) (e : ℕ) (es : List ℕ) (b
         λ z. w.1 (p.0 z),
       )
 
-  -- the vertex of a number, and what is kept of its psi
+  -- the vertex of a number in the block
   abbrev name : ℕ → ℕ
   name k = slice_index part.verts k
 
@@ -137,7 +137,7 @@ module _ (i : Synchronized) (is : IsSynchronized i) (e : ℕ) (es : List ℕ) (b
       (λ t. (filter-Has b.inside f g.edges (subst (Has f) b.edges (true-has es f t))).1)
       (λ t. has-true es f (subst (Has f) (sym b.edges) (Has-filter b.inside f g.edges ((Has-Contains f g.edges).1 of_v) t))))
 
-  -- the list given for a Q-vertex, and for a P-vertex
+  -- the list given for a Q-vertex of the block is what is kept of its psi, with each edge by its place in the block
   given_q : (k : ℕ) → k < length part.verts → is_q i (name k) ≡ true
       → list_given (listed_part i es).lists k ≡ Some (map (rank es) (kept_psi (name k)))
   given_q k lt q =
@@ -263,7 +263,7 @@ module _ (i : Synchronized) (is : IsSynchronized i) (e : ℕ) (es : List ℕ) (b
     abbrev s : ℕ → List ℕ
     s = named_lists rows
 
-    -- that of a vertex of the block, and of another one
+    -- the list of a vertex of the block is that of its number, read in names
     s_in : (v : ℕ) → Contains part.verts v → s v ≡ map edge_name (rows (rank part.verts v))
     s_in v c = cond-true (has part.verts v) (map edge_name (rows (rank part.verts v))) []
         (has-true part.verts v ((Has-Contains v part.verts).1 c))

@@ -59,7 +59,7 @@ module _ (i : Synchronized) (is : IsSynchronized i) (numbers : List ℕ)
   abbrev edges : List ℕ
   edges = edge_names i
 
-  -- the edge at a place, and the edges of its block
+  -- the edge at a place
   abbrev edge : ℕ → ℕ
   edge k = slice_index edges k
 

@@ -24,7 +24,7 @@ use Rattle.cp_board.specs.Rotations.{ArrangesEdges, dart}
 use Rattle.cp_embed.proofs.BoardBlocks.{live_ends, pairs-HaveNoLoop, rising_distinct}
 use Rattle.cp_embed.proofs.NumberedBlocks.{number_of, one_number}
 
--- the twin of the first dart of an edge, and of the second
+-- the twin of the first dart of an edge is the second
 twin_first : (k : ℕ) → twin (2 * k) ≡ 2 * k + 1
 twin_first k = rw (eq-eqb (2 * k % 2) 0 (omega arith)) refl
 
@@ -54,7 +54,7 @@ module _ (g : NamedGraph) (differ : (e : ℕ) → Contains g.edges e → (g.ends
       (λ a. let d = second_dart w e a in omega (arith, d))
       (cases_eq (g.ends e).0 w)
 
-  -- the edge of a dart, and the end at which it stands
+  -- the name of the edge of a dart
   abbrev named_edge : ℕ → ℕ
   named_edge d = slice_index g.edges (d / 2)
 

@@ -59,7 +59,7 @@ alone-Permutes = record { below = λ x lt. lt; apart = λ x y ltx lty same. same
 
 module _ (i : Synchronized) (is : IsSynchronized i) (e : ℕ) (es : List ℕ) (b : AreBlockEdges i e es)
     (one : length es ≡ 1) where
-  -- the graph, and the block
+  -- the graph of the instance
   abbrev g : NamedGraph
   g = graph i
 

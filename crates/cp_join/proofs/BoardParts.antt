@@ -19,6 +19,7 @@ module _ (i : Synchronized) (is : IsSynchronized i) (u : ℕ) (vertex : Contains
     (ends : List (ℕ × ℕ)) (place : ℕ) (numbers : List (List ℕ)) (are : AreBlocksAt ends place numbers)
     (same_ends : ends ≡ map (numbered_ends (graph i)) (edge_names i))
     (same_place : place ≡ rank (vert_names i) u) where
+  -- the blocks that the search found are those at the vertex
   told : AreBlocksAt (map (numbered_ends (graph i)) (edge_names i)) (rank (vert_names i) u) numbers
   told = subst₂ (λ es v. AreBlocksAt es v numbers) same_ends same_place are
 

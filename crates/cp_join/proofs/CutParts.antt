@@ -23,6 +23,7 @@ module _ (i : Synchronized) (is : IsSynchronized i) (u : ℕ) (parts : List (Lis
   abbrev first : ℕ → ℕ
   first k = slice_index_or (slice_index_or parts k []) 0 0
 
+  -- the least edge of a part is one of its edges
   first_has : (k : ℕ) → k < length parts → Has (first k) (slice_index_or parts k [])
   first_has k lt = Has_at (slice_index_or parts k []) 0 (are.filled k [] lt)
 

@@ -37,6 +37,7 @@ fresh_rise live names new =
     (IsStrictlyIncreasing-filter (λ k. not (has live k)) (range_with_len 0 (length live + length names))
     (range_rises (length live + length names))))
 
+-- no new name stands twice
 pub fresh_once : (live names : List ℕ) → AreNew live names → Distinct names
 fresh_once live names new = Distinct-rising names (fresh_rise live names new)
 

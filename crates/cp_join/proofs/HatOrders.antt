@@ -18,7 +18,7 @@ use Rattle.cp_join.proofs.MovedCrossings.{NoCross-map, NoCross-reverse, map-NoCr
 use Rattle.cp_join.proofs.PartCopies.{TellsParts, part_copies}
 
 -- new names of new names
-map_twice : (f g : ℕ → ℕ) (xs : List ℕ) → map g (map f xs) ≡ map (λ x. g (f x)) xs
+pub map_twice : (f g : ℕ → ℕ) (xs : List ℕ) → map g (map f xs) ≡ map (λ x. g (f x)) xs
 map_twice f g [] = refl
 map_twice f g (x ∷ xs) = ap (λ zs. g (f x) ∷ zs) (map_twice f g xs)
 

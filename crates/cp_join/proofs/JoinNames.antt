@@ -45,10 +45,12 @@ pub record AreApart (xs ys zs ws : List ℕ) : Type 0 where
   pub second_fourth : (m n : ℕ) → Has m ys → Has n ws → m ≢ n
   pub third_fourth : (m n : ℕ) → Has m zs → Has n ws → m ≢ n
 
+-- items of two parts of distinct numbers differ
 other_item : (xs ys : List ℕ) (m n : ℕ) → Distinct (xs ++ ys) → Has m xs → Has n ys → m ≢ n
 other_item xs ys m n once h k e =
     has_lacks n ys k (Distinct-apart n xs ys once (subst (λ z. Has z xs) e h))
 
+-- four parts of distinct numbers are apart
 pub AreApart-from : (xs ys zs ws : List ℕ) → Distinct (xs ++ ys ++ zs ++ ws) → AreApart xs ys zs ws
 AreApart-from xs ys zs ws once =
     let three = Distinct-append_left (xs ++ ys ++ zs) ws once in
@@ -94,9 +96,11 @@ rows_live i is k d lt =
 pub touch_is : (i : Synchronized) (e : EdgeRow) (v : ℕ) → IsLiveRow i e → touch v e ≡ ends_at (graph i) v e.name
 touch_is i e v row = ap (λ (x : ℕ × ℕ). eqb x.0 v || eqb x.1 v) (sym row.told)
 
+-- an edge whose row ends at a vertex is one of it
 pub row_at : (i : Synchronized) (e : EdgeRow) (v : ℕ) → IsLiveRow i e → touch v e ≡ true → Contains (edges_of i v) e.name
 row_at i e v row t = Contains-edges_at (graph i) v e.name row.named (sym (touch_is i e v row) ∙ t)
 
+-- and the row of an edge of a vertex ends there
 pub row_from : (i : Synchronized) (e : EdgeRow) (v : ℕ) → IsLiveRow i e → Contains (edges_of i v) e.name → touch v e ≡ true
 row_from i e v row c = touch_is i e v row ∙ (edges_at-Contains (graph i) v e.name c).1
 
@@ -113,26 +117,32 @@ parts_touch i u parts e is are row =
     (cases_Bool (touch u e))
 
 module _ (i : Synchronized) (p : Pipe) (s t : Parting) (hats : List ℕ) (h : HasPartings i p s t hats) where
+  -- no new vertex stands twice
   pub new_once : Distinct (new_verts s t)
   new_once = fresh_once (vert_names i) (new_verts s t) h.parted.new_verts
 
+  -- new vertices of two kinds differ
   pub apart : AreApart s.outer s.inner t.outer t.inner
   apart = AreApart-from s.outer s.inner t.outer t.inner new_once
 
+  -- an outer vertex of the first end is new
   pub outer_a_new : (n : ℕ) → Has n s.outer → Has n (new_verts s t)
   outer_a_new n k =
       Has-append_left n (s.outer ++ s.inner ++ t.outer) t.inner
       (Has-append_left n (s.outer ++ s.inner) t.outer (Has-append_left n s.outer s.inner k))
 
+  -- so is an inner one
   pub inner_a_new : (n : ℕ) → Has n s.inner → Has n (new_verts s t)
   inner_a_new n k =
       Has-append_left n (s.outer ++ s.inner ++ t.outer) t.inner
       (Has-append_left n (s.outer ++ s.inner) t.outer (Has-append_right n s.outer s.inner k))
 
+  -- so is an outer vertex of the second end
   pub outer_b_new : (n : ℕ) → Has n t.outer → Has n (new_verts s t)
   outer_b_new n k =
       Has-append_left n (s.outer ++ s.inner ++ t.outer) t.inner (Has-append_right n (s.outer ++ s.inner) t.outer k)
 
+  -- and an inner one
   pub inner_b_new : (n : ℕ) → Has n t.inner → Has n (new_verts s t)
   inner_b_new n k = Has-append_right n (s.outer ++ s.inner ++ t.outer) t.inner k
 

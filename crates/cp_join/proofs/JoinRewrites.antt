@@ -94,6 +94,7 @@ module _ (i : Synchronized) (p : Pipe) (s t : Parting) (hats : List ℕ) (h : Ha
   hat_a : (e : ℕ) → hat_among (firsts p.pairs) hats e ≡ hat i p s t hats h e
   hat_a e = ap (λ es. slice_index hats (rank es e)) h.pairs.first
 
+  -- and for an edge of the second end
   hat_b : (y : ℕ) → Has y (seconds p.pairs) → hat_among (seconds p.pairs) hats y ≡ hat i p s t hats h (partner p p.b y)
   hat_b y k =
       ap (slice_index hats)
@@ -101,6 +102,7 @@ module _ (i : Synchronized) (p : Pipe) (s t : Parting) (hats : List ℕ) (h : Ha
       ∙ ap (rank (firsts p.pairs)) (sym (partner_b i p s t hats h y)))
       ∙ hat_a (partner p p.b y)
 
+  -- the edges of the parts of the first end are in pairs
   pub first_among : All (All (Contains (firsts p.pairs))) s.parts
   first_among k d lt =
       All-from_has (Contains (firsts p.pairs)) (slice_index_or s.parts k d)
@@ -108,6 +110,7 @@ module _ (i : Synchronized) (p : Pipe) (s t : Parting) (hats : List ℕ) (h : Ha
       (all_from (graph i) p.a s.parts h.rules.edges_named.rise h.parts_a e
       (Has-flat_map e s.parts k lt (subst (Has e) (get_or_default s.parts k d [] lt) m))))
 
+  -- so are those of the second
   pub second_among : All (All (Contains (seconds p.pairs))) t.parts
   second_among k d lt =
       All-from_has (Contains (seconds p.pairs)) (slice_index_or t.parts k d)
@@ -128,6 +131,7 @@ module _ (i : Synchronized) (p : Pipe) (s t : Parting) (hats : List ℕ) (h : Ha
       ∙ ap (λ ps. record { name = x; a = y; b = z; pairs = map (λ e. (e, g e)) q } ∷ ps)
       (pipes_agree f g xs ys zs qs (All-tail (λ r. All (λ e. f e ≡ g e) r) q qs all))
 
+  -- the rewrite of Join
   abbrev rewrite : Rewrite
   rewrite = joining p.name (p.a, p.b) p.pairs s t hats
 
@@ -179,6 +183,7 @@ module _ (i : Synchronized) (p : Pipe) (s t : Parting) (hats : List ℕ) (h : Ha
           (All-contains (Contains (seconds p.pairs)) (slice_index_or t.parts k d) y (second_among k d lt)
           ((Has-Contains y (slice_index_or t.parts k d)).0 m)))))))
 
+  -- the pairs fit the partings
   pub fit_pairs : FitPairs p.pairs hats s t
   fit_pairs = record {
     hats_each = h.hats_each;
@@ -209,16 +214,19 @@ module _ (i : Synchronized) (p : Pipe) (s t : Parting) (hats : List ℕ) (h : Ha
 
   -- there are fewer new names than a number of 63 bits tells
   module _ (few_verts : length (vert_names i) < 2 ^ 60) (few_edges : length (edge_names i) < 2 ^ 60) where
+    -- a vertex has no more edges than there are
     edges_few : (v : ℕ) → length (edges_of i v) ≤ length (edge_names i)
     edges_few v = subset_length (edges_of i v) (edge_names i)
         (Distinct-rising (edges_of i v) (IsStrictlyIncreasing-filter (ends_at (graph i) v) (edge_names i) h.rules.edges_named.rise))
         (λ d k. (Has-Contains d (edge_names i)).1
         (edges_at-Contains (graph i) v d ((Has-Contains d (edges_of i v)).0 k)).0)
 
-    parts_small : (u : ℕ) (parts : List (List ℕ)) → ArePartsAt (graph i) u parts → length parts < 2 ^ 60
+    -- so its parts are few
+    pub parts_small : (u : ℕ) (parts : List (List ℕ)) → ArePartsAt (graph i) u parts → length parts < 2 ^ 60
     parts_small u parts are =
         omega (arith, parts_few parts are.filled, length_permutation (edges_of i u) (all_of parts) are.whole, edges_few u, few_edges)
 
+    -- there are no more pipes than vertices
     pipes_few : length (pipe_names i) ≤ length (vert_names i)
     pipes_few =
         omega (
@@ -245,6 +253,7 @@ module _ (i : Synchronized) (p : Pipe) (s t : Parting) (hats : List ℕ) (h : Ha
             n)
             m
 
+    -- so the rules hold after the rewrite
     rules_after : IsSynchronized (joined i p s t hats h)
     rules_after =
         let small_a = parts_small p.a s.parts h.parts_a in
@@ -282,6 +291,7 @@ module _ (i : Synchronized) (p : Pipe) (s t : Parting) (hats : List ℕ) (h : Ha
           length-append s.names t.names,
         ))
 
+    -- the pipe is live
     pipe_name_live : Contains (pipe_names i) p.name
     pipe_name_live = (Has-Contains p.name (pipe_names i)).0 (found_has i.pipes h.live)
       where
@@ -293,14 +303,17 @@ module _ (i : Synchronized) (p : Pipe) (s t : Parting) (hats : List ℕ) (h : Ha
             (λ b. inr (found_has qs (sym (cond-false (eqb q.name p.name) (Some q) (find (λ x. eqb x.name p.name) qs) b) ∙ e)))
             (cases_Bool (eqb q.name p.name))
 
+    -- the names of P-vertices
     names_of_free : (ns : List ℕ) → names_of_verts (map free_vert ns) ≡ ns
     names_of_free [] = refl
     names_of_free (n ∷ ns) = ap (λ zs. n ∷ zs) (names_of_free ns)
 
+    -- P-vertices have no cells
     no_cells : (ns : List ℕ) → flat_map (λ v. cell_of v.kind) (map free_vert ns ++ []) ≡ []
     no_cells [] = refl
     no_cells (n ∷ ns) = no_cells ns
 
+    -- the names of the new pipes
     names_of_pipes_added : map (λ q. q.name) rewrite.add_pipes ≡ s.names ++ t.names
     names_of_pipes_added =
         map-append (λ (q : Pipe). q.name) (part_pipes (hat_among (firsts p.pairs) hats) s.names s.outer s.inner s.parts)
@@ -311,6 +324,7 @@ module _ (i : Synchronized) (p : Pipe) (s t : Parting) (hats : List ℕ) (h : Ha
         (names_of_pipes (hat_among (seconds p.pairs) hats) t.names t.outer t.inner t.parts h.parted.second_end.name_each
         h.parted.second_end.outer_each h.parted.second_end.inner_each)
 
+    -- and those of the new edges
     names_of_edges_added : map (λ e. e.name) rewrite.add_edges ≡ hats
     names_of_edges_added =
         ap (map (λ (e : EdgeRow). e.name)) hat_rows ∙ names_of_row (edges_a i p s t hats h) ∙ hats_all i p s t hats h
@@ -319,6 +333,7 @@ module _ (i : Synchronized) (p : Pipe) (s t : Parting) (hats : List ℕ) (h : Ha
         names_of_row [] = refl
         names_of_row (x ∷ xs) = ap (λ zs. hat i p s t hats h x ∷ zs) (names_of_row xs)
 
+    -- the rewrite fits the instance
     joining_fits : IsRewriteOf i rewrite
     joining_fits = record {
       pipes_live = All-cons (Contains (pipe_names i)) p.name [] pipe_name_live (All-nil (Contains (pipe_names i)));
@@ -339,6 +354,7 @@ module _ (i : Synchronized) (p : Pipe) (s t : Parting) (hats : List ℕ) (h : Ha
       new_cells = subst (AreNew (cells i)) (sym (ap (first_ones (cells i)) (no_cells (new_verts s t)))) refl;
     }
 
+    -- and gives what Join makes of it
     joining_effect : IsJoined i p (rewritten rewrite i)
     joining_effect = record {
       parts_a = s.parts;
@@ -364,5 +380,6 @@ module _ (i : Synchronized) (p : Pipe) (s t : Parting) (hats : List ℕ) (h : Ha
       pipes = ap (λ z. z.pipes) rewritten_joining;
     }
 
+    -- so it performs the step
     pub Performs-joining : Performs i (Join p.name) rewrite
     Performs-joining = (joining_fits, (p, h.live, joining_effect))

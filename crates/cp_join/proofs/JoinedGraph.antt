@@ -37,6 +37,7 @@ pub or_second : (a b : Bool) → a ≡ false → (a || b) ≡ b
 or_second true b f = cc
 or_second false b f = refl
 
+-- and the other one is left
 pub or_first : (a b : Bool) → b ≡ false → (a || b) ≡ a
 or_first true b f = refl
 or_first false b f = f
@@ -51,15 +52,19 @@ kept_part xs part up rise among =
     (λ x h. kept-Has (has part) xs x (among x h) (has_from part x h))
 
 module _ (i : Synchronized) (p : Pipe) (s t : Parting) (hats : List ℕ) (h : HasPartings i p s t hats) where
+  -- the edges of the first end
   abbrev pub edges_a : List ℕ
   edges_a = edges_of i p.a
 
+  -- and of the second
   abbrev pub edges_b : List ℕ
   edges_b = edges_of i p.b
 
+  -- the new edge for an edge of the first end
   abbrev pub hat : ℕ → ℕ
   hat x = edge_for i p hats x
 
+  -- and its row
   abbrev pub row : ℕ → EdgeRow
   row x = bipartite_edge i p hats s.parts s.inner t.parts t.inner x
 
@@ -67,6 +72,7 @@ module _ (i : Synchronized) (p : Pipe) (s t : Parting) (hats : List ℕ) (h : Ha
   abbrev pub kept_rows : List EdgeRow
   kept_rows = moved_edges i (to i p s t hats h)
 
+  -- the rows of the new edges
   abbrev pub new_rows : List EdgeRow
   new_rows = map row edges_a
 
@@ -80,15 +86,19 @@ module _ (i : Synchronized) (p : Pipe) (s t : Parting) (hats : List ℕ) (h : Ha
         ++ part_pipes (λ y. hat (partner p p.b y)) t.names t.outer t.inner t.parts);
   }
 
+  -- the edges of a vertex rise
   pub rise_at : (v : ℕ) → IsStrictlyIncreasing (edges_of i v)
   rise_at v = IsStrictlyIncreasing-filter (ends_at (graph i) v) (edge_names i) h.rules.edges_named.rise
 
+  -- so none stands twice
   pub once_at : (v : ℕ) → Distinct (edges_of i v)
   once_at v = Distinct-rising (edges_of i v) (rise_at v)
 
+  -- no first edge of the pairs stands twice
   pub once_firsts : Distinct (firsts p.pairs)
   once_firsts = subst Distinct (sym h.pairs.first) (once_at p.a)
 
+  -- nor does a second
   pub once_seconds : Distinct (seconds p.pairs)
   once_seconds = Distinct-IsPermutation edges_b (seconds p.pairs) h.pairs.second (once_at p.b)
 
@@ -96,32 +106,39 @@ module _ (i : Synchronized) (p : Pipe) (s t : Parting) (hats : List ℕ) (h : Ha
   pub partner_a : (x : ℕ) → partner p p.a x ≡ second p.pairs x
   partner_a x = cond-true (eqb p.a p.a) (second p.pairs x) (first p.pairs x) (eq-eqb p.a p.a refl)
 
+  -- the partner of an edge of the second end
   pub partner_b : (y : ℕ) → partner p p.b y ≡ first p.pairs y
   partner_b y = cond-false (eqb p.a p.b) (second p.pairs y) (first p.pairs y) (ne_eqb p.a p.b h.ends.differ)
 
+  -- an edge of the first end is the first of a pair
   is_first : (x : ℕ) → Has x edges_a → Has x (firsts p.pairs)
   is_first x k = subst (Has x) (sym h.pairs.first) k
 
+  -- and one of the second end the second
   is_second : (y : ℕ) → Has y edges_b → Has y (seconds p.pairs)
   is_second y k = Has-IsPermutation y edges_b (seconds p.pairs) h.pairs.second k
 
+  -- the partner of an edge of the first end is one of the second
   pub partner_of_a : (x : ℕ) → Has x edges_a → Has (partner p p.a x) edges_b
   partner_of_a x k =
       subst (λ n. Has n edges_b) (sym (partner_a x))
       (Has-IsPermutation (second p.pairs x) (seconds p.pairs) edges_b (IsPermutation-sym edges_b (seconds p.pairs) h.pairs.second)
       (second_has p.pairs once_firsts once_seconds x (is_first x k)))
 
+  -- and the other way round
   pub partner_of_b : (y : ℕ) → Has y edges_b → Has (partner p p.b y) edges_a
   partner_of_b y k =
       subst (λ n. Has n edges_a) (sym (partner_b y))
       (subst (Has (first p.pairs y)) h.pairs.first
       (first_has p.pairs once_firsts once_seconds y (is_second y k)))
 
+  -- the partner of the partner is the edge
   pub partner_back : (x : ℕ) → Has x edges_a → partner p p.b (partner p p.a x) ≡ x
   partner_back x k =
       partner_b (partner p p.a x) ∙ ap (first p.pairs) (partner_a x)
       ∙ first_second p.pairs once_firsts once_seconds x (is_first x k)
 
+  -- also from the second end
   pub partner_forth : (y : ℕ) → Has y edges_b → partner p p.a (partner p p.b y) ≡ y
   partner_forth y k =
       partner_a (partner p p.b y) ∙ ap (second p.pairs) (partner_b y)
@@ -132,25 +149,30 @@ module _ (i : Synchronized) (p : Pipe) (s t : Parting) (hats : List ℕ) (h : Ha
   names_kept_rows [] = refl
   names_kept_rows (e ∷ es) = ap (λ zs. e.name ∷ zs) (names_kept_rows es)
 
+  -- the names of new rows
   names_of_row : (xs : List ℕ) → map (λ e. e.name) (map row xs) ≡ map hat xs
   names_of_row [] = refl
   names_of_row (x ∷ xs) = ap (λ zs. hat x ∷ zs) (names_of_row xs)
 
+  -- the new edges for all edges of the first end are all new edges
   pub hats_all : map hat edges_a ≡ hats
   hats_all = map_ranks edges_a hats (once_at p.a)
       (h.hats_each ∙ sym (length-map p.pairs (λ (x : ℕ × ℕ). x.0)) ∙ ap length h.pairs.first)
 
+  -- the names of all rows
   pub names_all : map (λ e. e.name) (kept_rows ++ new_rows) ≡ edge_names i ++ hats
   names_all =
       map-append (λ (e : EdgeRow). e.name) kept_rows new_rows
       ∙ ap₂ (λ xs ys. xs ++ ys) (names_kept_rows i.edges) (names_of_row edges_a ∙ hats_all)
 
+  -- no name stands twice
   pub edges_once : Distinct (edge_names i ++ hats)
   edges_once =
       Distinct-append (edge_names i) hats (Distinct-rising (edge_names i) h.rules.edges_named.rise)
       (fresh_once (edge_names i) hats h.hats_new)
       (λ d k. Lacks-from d hats (λ l. fresh_other (edge_names i) hats d d h.hats_new l ((Has-Contains d (edge_names i)).0 k) refl))
 
+  -- so the names pass the test for it
   pub names_differ : distinct (map (λ e. e.name) (kept_rows ++ new_rows)) ≡ true
   names_differ = ap distinct names_all ∙ distinct_from (edge_names i ++ hats) edges_once
 

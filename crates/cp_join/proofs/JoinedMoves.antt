@@ -26,6 +26,7 @@ use Rattle.cp_join.proofs.JoinNames.{HasPartings, IsLiveRow, rows_live, parts_to
 abbrev pub end_to : ℕ → ℕ → ℕ → ℕ
 end_to u v x = cond (eqb x u) v x
 
+-- the row of an edge, where its ends at u move to v
 abbrev pub row_to : ℕ → ℕ → EdgeRow → EdgeRow
 row_to u v e = record { name = e.name; a = end_to u v e.a; b = end_to u v e.b }
 
@@ -62,6 +63,7 @@ module _ (i : Synchronized) (p : Pipe) (s t : Parting) (hats : List ℕ) (h : Ha
   abbrev pub outer_a : ℕ → ℕ
   outer_a e = vertex_for s.parts s.outer e
 
+  -- and at the second end
   abbrev pub outer_b : ℕ → ℕ
   outer_b e = vertex_for t.parts t.outer e
 
@@ -69,15 +71,19 @@ module _ (i : Synchronized) (p : Pipe) (s t : Parting) (hats : List ℕ) (h : Ha
   abbrev pub to : ℕ → ℕ → ℕ
   to e x = cond (eqb x p.a) (outer_a e) (cond (eqb x p.b) (outer_b e) x)
 
+  -- the moves at the first end
   abbrev pub moves_a : List EdgeMove
   moves_a = part_moves p.a s.outer s.parts
 
+  -- and at the second
   abbrev pub moves_b : List EdgeMove
   moves_b = part_moves p.b t.outer t.parts
 
+  -- no edge is in two parts of the first end
   once_a : Distinct (all_of s.parts)
   once_a = all_once (graph i) p.a s.parts h.rules.edges_named.rise h.parts_a
 
+  -- nor of the second
   once_b : Distinct (all_of t.parts)
   once_b = all_once (graph i) p.b t.parts h.rules.edges_named.rise h.parts_b
 
@@ -87,6 +93,7 @@ module _ (i : Synchronized) (p : Pipe) (s t : Parting) (hats : List ℕ) (h : Ha
       vertex_has s.parts s.outer e h.parted.first_end.outer_each
       (all_has (graph i) p.a s.parts h.rules.edges_named.rise h.parts_a e c)
 
+  -- and at the second end
   pub outer_b_has : (e : ℕ) → Contains (edges_of i p.b) e → Has (outer_b e) t.outer
   outer_b_has e c =
       vertex_has t.parts t.outer e h.parted.second_end.outer_each
@@ -116,6 +123,7 @@ module _ (i : Synchronized) (p : Pipe) (s t : Parting) (hats : List ℕ) (h : Ha
       (λ other. ap (λ y. eqb y p.b) (cond-false (eqb x p.a) (outer_a e.name) x (ne_eqb x p.a other)))
       (cases_eq x p.a)
 
+  -- both moves of an end, one after the other
   end_both : (e : EdgeRow) (x : ℕ) → (x ≡ p.a → p.b ≢ outer_a e.name)
       → end_to p.b (outer_b e.name) (end_to p.a (outer_a e.name) x) ≡ to e.name x
   end_both e x off =
@@ -153,6 +161,7 @@ module _ (i : Synchronized) (p : Pipe) (s t : Parting) (hats : List ℕ) (h : Ha
           → x ≡ p.b
       there x stay at = eqb-true x p.b (sym stay ∙ eq-eqb (end_to p.a (outer_a e.name) x) p.b at)
 
+  -- the edges after all moves
   pub moved_all : after_moves (moves_a ++ moves_b) i.edges ≡ moved_edges i to
   moved_all =
       after_moves-map (moves_a ++ moves_b) i.edges
@@ -162,6 +171,7 @@ module _ (i : Synchronized) (p : Pipe) (s t : Parting) (hats : List ℕ) (h : Ha
   -- the moves of both ends fit, where the new vertices are there
   module _ (verts : List ℕ) (old : (x : ℕ) → Contains (vert_names i) x → Contains verts x)
       (new : (x : ℕ) → Has x (new_verts s t) → Contains verts x) where
+    -- each move at the first end fits the rows
     is_move_a : (e v : ℕ) → Has e (all_of s.parts) → Has v s.outer → IsMove verts i.edges (move e p.a v)
     is_move_a e v k out =
         let c = all_from (graph i) p.a s.parts h.rules.edges_named.rise h.parts_a e k in
@@ -194,6 +204,7 @@ module _ (i : Synchronized) (p : Pipe) (s t : Parting) (hats : List ℕ) (h : Ha
         (sym (cond-false (eqb x p.a) (outer_a e.name) x (ne_eqb x p.a off)) ∙ same))
         (cases_eq x p.a)
 
+    -- each move at the second fits the rows after those
     is_move_b : (e v : ℕ) → Has e (all_of t.parts) → Has v t.outer
         → IsMove verts (map (moved_by moves_a) i.edges) (move e p.b v)
     is_move_b e v k out =
@@ -229,6 +240,7 @@ module _ (i : Synchronized) (p : Pipe) (s t : Parting) (hats : List ℕ) (h : Ha
           vertex = new v (outer_b_new i p s t hats h v out);
         }
 
+    -- so all moves fit, one after the other
     pub moves_fit : AreMoves verts i.edges (moves_a ++ moves_b)
     moves_fit =
         AreMoves-append verts moves_a moves_b i.edges

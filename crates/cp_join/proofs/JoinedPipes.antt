@@ -24,7 +24,7 @@ use Rattle.cp_join.proofs.NewPartings.{AreNew-asked}
 use Rattle.cp_join.proofs.JoinRewrites.{Performs-joining, fit_pairs}
 
 -- what is found passes, and what holds of all holds of it
-found : (t : Pipe → Bool) (holds : Pipe → Type 0) (qs : List Pipe) (p : Pipe) → All holds qs → find t qs ≡ Some p
+pub found : (t : Pipe → Bool) (holds : Pipe → Type 0) (qs : List Pipe) (p : Pipe) → All holds qs → find t qs ≡ Some p
     → holds p × (t p ≡ true)
 found t holds [] p all e = absurd (none_some p e)
 found t holds (q ∷ qs) p all e =
@@ -52,9 +52,11 @@ module _ (i : Synchronized) (pipe : ℕ) (p : Pipe) (is : IsSynchronized i) (liv
   own_name = eqb-true p.name pipe
       (found (λ q. eqb q.name pipe) (HasRightEnds i.verts) i.pipes p is.ends_free live).1
 
+  -- its ends are right
   right_ends : HasRightEnds i.verts p
   right_ends = (found (λ q. eqb q.name pipe) (HasRightEnds i.verts) i.pipes p is.ends_free live).0
 
+  -- and so are its pairs
   right_pairs : HasRightPairs (graph i) p
   right_pairs = (found (λ q. eqb q.name pipe) (HasRightPairs (graph i)) i.pipes p is.pairs_right live).0
 
@@ -62,6 +64,7 @@ module _ (i : Synchronized) (pipe : ℕ) (p : Pipe) (is : IsSynchronized i) (liv
   pub live_a : Contains (vert_names i) p.a
   live_a = kind_live i.verts p.a P right_ends.free_a
 
+  -- also the second one
   pub live_b : Contains (vert_names i) p.b
   live_b = kind_live i.verts p.b P right_ends.free_b
 
@@ -69,12 +72,14 @@ module _ (i : Synchronized) (pipe : ℕ) (p : Pipe) (is : IsSynchronized i) (liv
   pub told_ends : pipe_ends_of i pipe ≡ (p.a, p.b)
   told_ends = ap (λ o. option_map_or (λ x. (x.a, x.b)) o (0, 0)) live
 
+  -- and of its pairs
   pub told_pairs : pairs_of i pipe ≡ p.pairs
   told_pairs = ap (λ o. option_map_or (λ x. x.pairs) o []) live
 
   module _ (pa pb : List (List ℕ)) (s t : Parting) (hats : List ℕ) (are_a : ArePartsAt (graph i) p.a pa)
       (are_b : ArePartsAt (graph i) p.b pb) (parted : AreParted i pa pb s t) (size : length hats ≡ length p.pairs)
       (new : AreNew (edge_names i) hats) where
+    -- a parting of some parts is one of its own
     own : (ps : List (List ℕ)) (r : Parting) → IsParting ps r → IsParting r.parts r
     own ps r is_one = record {
       same = refl;
@@ -83,7 +88,8 @@ module _ (i : Synchronized) (pipe : ℕ) (p : Pipe) (is : IsSynchronized i) (liv
       name_each = is_one.name_each ∙ ap length (sym is_one.same);
     }
 
-    has_partings : HasPartings i p s t hats
+    -- so these are partings of the ends of the pipe
+    pub has_partings : HasPartings i p s t hats
     has_partings = record {
       rules = is;
       live = ap (λ n. pipe_named i n) own_name ∙ live;
@@ -119,25 +125,37 @@ module _ (i : Synchronized) (pipe : ℕ) (p : Pipe) (is : IsSynchronized i) (liv
       (pa pb : List (List ℕ)) (s t : Parting) (hats : List ℕ) (are_a : ArePartsAt (graph i) ends.0 pa)
       (are_b : ArePartsAt (graph i) ends.1 pb) (parted : AreParted i pa pb s t)
       (asked : hats ≡ new_names (edge_names i) (length pairs)) where
+    -- the ends that are told are those of the pipe
     are_ends : ends ≡ (p.a, p.b)
     are_ends = same_ends ∙ told_ends
 
+    -- and so are the pairs
     are_pairs : pairs ≡ p.pairs
     are_pairs = same_pairs ∙ told_pairs
 
+    -- there are as many new edges as pairs
     hats_size : length hats ≡ length p.pairs
     hats_size = ap length asked ∙ length-new_names (edge_names i) (length pairs) ∙ ap length are_pairs
 
+    -- the parts are those of the first end
     first_parts : ArePartsAt (graph i) p.a pa
     first_parts = subst (λ (x : ℕ × ℕ). ArePartsAt (graph i) x.0 pa) are_ends are_a
 
+    -- and of the second
     second_parts : ArePartsAt (graph i) p.b pb
     second_parts = subst (λ (x : ℕ × ℕ). ArePartsAt (graph i) x.1 pb) are_ends are_b
 
+    -- the partings are those of the pipe
+    pub told_partings : HasPartings i p s t hats
+    told_partings = has_partings pa pb s t hats first_parts second_parts parted hats_size
+        (AreNew-asked (edge_names i) hats (length pairs) asked)
+
+    -- so the pairs fit the partings
     pub told_fit : FitPairs pairs hats s t
     told_fit = subst (λ xs. FitPairs xs hats s t) (sym are_pairs)
         (pairs_fit pa pb s t hats first_parts second_parts parted hats_size (AreNew-asked (edge_names i) hats (length pairs) asked))
 
+    -- and the rewrite performs the step
     pub told_performs : length (vert_names i) < 2 ^ 60 → length (edge_names i) < 2 ^ 60
         → Performs i (Join pipe) (joining pipe ends pairs s t hats)
     told_performs few_verts few_edges =

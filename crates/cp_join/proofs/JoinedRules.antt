@@ -39,27 +39,29 @@ use Rattle.cp_join.proofs.JoinedMoves.{to, outer_a, outer_b}
 use Rattle.cp_join.proofs.JoinedGraph.{joined, row, hat, edges_a, kept_rows, new_rows, names_all, names_differ}
 use Rattle.cp_join.proofs.JoinedVertices.{by_end, first_touch, second_touch, inner_a, inner_b, inner_a_has, inner_b_has, edges_of_old, edges_of_outer_a, edges_of_outer_b, edges_of_inner_a, edges_of_inner_b}
 
-module _ (i : Synchronized) (p : Pipe) (s t : Parting) (hats : List ℕ) (h : HasPartings i p s t hats)
-    (few_verts : length (vert_names i) + length (new_verts s t) ≤ 2 ^ 63)
-    (few_edges : length (edge_names i) + length hats ≤ 2 ^ 63)
-    (few_pipes : length (pipe_names i) + length (s.names ++ t.names) ≤ 2 ^ 63) where
+module _ (i : Synchronized) (p : Pipe) (s t : Parting) (hats : List ℕ) (h : HasPartings i p s t hats) where
+  -- the instance after Join
   abbrev after : Synchronized
   after = joined i p s t hats h
 
+  -- the new vertices
   abbrev fresh : List ℕ
   fresh = new_verts s t
 
-  abbrev others : List Vert
+  -- the vertices that stay
+  abbrev pub others : List Vert
   others = other_verts i (p.a ∷ p.b ∷ [])
 
-  abbrev verts : List Vert
+  -- all vertices, before they are put in order
+  abbrev pub verts : List Vert
   verts = others ++ map free_vert fresh
 
-  abbrev keeps : ℕ → Bool
+  -- the test for names that stay
+  abbrev pub keeps : ℕ → Bool
   keeps n = not (has (p.a ∷ p.b ∷ []) n)
 
   -- a name that stays is none of the two ends
-  keeps_other : (n : ℕ) → keeps n ≡ true → (n ≢ p.a) × (n ≢ p.b)
+  pub keeps_other : (n : ℕ) → keeps n ≡ true → (n ≢ p.a) × (n ≢ p.b)
   keeps_other n k =
       let first = or_parts (eqb n p.a) (eqb n p.b || false) (not-true (has (p.a ∷ p.b ∷ []) n) k) in
       let second = or_parts (eqb n p.b) false first.1 in (
@@ -67,21 +69,25 @@ module _ (i : Synchronized) (p : Pipe) (s t : Parting) (hats : List ℕ) (h : Ha
         λ e. both_ways (eqb n p.b) second.0 (eq-eqb n p.b e),
       )
 
-  other_keeps : (n : ℕ) → n ≢ p.a → n ≢ p.b → keeps n ≡ true
+  -- and any other name passes it
+  pub other_keeps : (n : ℕ) → n ≢ p.a → n ≢ p.b → keeps n ≡ true
   other_keeps n na nb =
       ap (λ b. not (b || (eqb n p.b || false))) (ne_eqb n p.a na) ∙ ap (λ b. not (b || false)) (ne_eqb n p.b nb)
 
+  -- the names of P-vertices
   names_of_free : (ns : List ℕ) → map (λ v. v.name) (map free_vert ns) ≡ ns
   names_of_free [] = refl
   names_of_free (n ∷ ns) = ap (λ zs. n ∷ zs) (names_of_free ns)
 
-  names_of_verts : map (λ v. v.name) verts ≡ filter keeps (vert_names i) ++ fresh
+  -- the names of all vertices
+  pub names_of_verts : map (λ v. v.name) verts ≡ filter keeps (vert_names i) ++ fresh
   names_of_verts =
       map-append (λ (v : Vert). v.name) others (map free_vert fresh)
       ∙ ap₂ (λ xs ys. xs ++ ys)
       (names_kept (λ (v : Vert). v.name) (λ v. keeps v.name) keeps i.verts (λ k d lt. refl)) (names_of_free fresh)
 
-  verts_once : Distinct (filter keeps (vert_names i) ++ fresh)
+  -- none stands twice
+  pub verts_once : Distinct (filter keeps (vert_names i) ++ fresh)
   verts_once =
       Distinct-append (filter keeps (vert_names i)) fresh
       (Distinct-filtered (vert_names i) (Distinct-rising (vert_names i) h.rules.verts_named.rise))
@@ -96,7 +102,8 @@ module _ (i : Synchronized) (p : Pipe) (s t : Parting) (hats : List ℕ) (h : Ha
           (λ _. (Lacks-from x (filter keeps xs) (λ m. has_lacks x xs (Has-kept keeps xs x m).0 once.0), Distinct-filtered xs once.1))
           (λ _. Distinct-filtered xs once.1)
 
-  verts_rise : rises (vert_names after) ≡ true
+  -- so in order they rise
+  pub verts_rise : rises (vert_names after) ≡ true
   verts_rise = rises-by_name (λ v. v.name) verts
       (distinct_from (map (λ v. v.name) verts) (subst Distinct (sym names_of_verts) verts_once))
 
@@ -108,53 +115,41 @@ module _ (i : Synchronized) (p : Pipe) (s t : Parting) (hats : List ℕ) (h : Ha
       (IsPermutation-map (λ (v : Vert). v.name) verts after.verts (by_name_keeps (λ v. v.name) verts))
       (subst (Has n) (sym names_of_verts) k))
 
+  -- a new vertex is there
   pub new_has : (n : ℕ) → Has n fresh → Contains (vert_names after) n
   new_has n k = vert_has n (Has-append_right n (filter keeps (vert_names i)) fresh k)
 
+  -- and so is an old one that is no end of the pipe
   pub old_has : (n : ℕ) → Contains (vert_names i) n → n ≢ p.a → n ≢ p.b → Contains (vert_names after) n
   old_has n c na nb =
       vert_has n (Has-append_left n (filter keeps (vert_names i)) fresh
       (kept-Has keeps (vert_names i) n ((Has-Contains n (vert_names i)).1 c) (other_keeps n na nb)))
 
-  small_sum : (m n : ℕ) → m ≤ n → (ns : List ℕ) → All (λ x. x < m) ns → All (λ x. x < n) ns
-  small_sum m n le ns all = All-weaker (λ x. x < m) (λ x. x < n) (λ x lt. omega (arith, lt, le)) ns all
-
-  verts_fit : All (λ n. n < 2 ^ 63) (vert_names after)
-  verts_fit =
-      All-map-IsPermutation (λ (v : Vert). v.name) (λ n. n < 2 ^ 63) verts after.verts (by_name_keeps (λ v. v.name) verts)
-      (subst (All (λ n. n < 2 ^ 63)) (sym names_of_verts)
-      (All-append (λ n. n < 2 ^ 63) (filter keeps (vert_names i)) fresh
-      (All-filter keeps (λ n. n < 2 ^ 63) (vert_names i) h.rules.verts_named.fit)
-      (small_sum (length (vert_names i) + length fresh) (2 ^ 63) few_verts fresh
-      (fresh_small (vert_names i) fresh h.parted.new_verts))))
-
-  abbrev rows : List EdgeRow
+  -- all edges, before they are put in order
+  abbrev pub rows : List EdgeRow
   rows = kept_rows i p s t hats h ++ new_rows i p s t hats h
 
-  edges_fit : All (λ n. n < 2 ^ 63) (edge_names after)
-  edges_fit =
-      All-map-IsPermutation (λ (e : EdgeRow). e.name) (λ n. n < 2 ^ 63) rows after.edges (by_name_keeps (λ e. e.name) rows)
-      (subst (All (λ n. n < 2 ^ 63)) (sym (names_all i p s t hats h))
-      (All-append (λ n. n < 2 ^ 63) (edge_names i) hats h.rules.edges_named.fit
-      (small_sum (length (edge_names i) + length hats) (2 ^ 63) few_edges hats
-      (fresh_small (edge_names i) hats h.hats_new))))
-
   -- the pipes
-  abbrev stay : List Pipe
+  abbrev pub stay : List Pipe
   stay = other_pipes i (p.name ∷ [])
 
-  abbrev pipes_a : List Pipe
+  -- the pipes of the parts of the first end
+  abbrev pub pipes_a : List Pipe
   pipes_a = part_pipes (hat i p s t hats h) s.names s.outer s.inner s.parts
 
-  abbrev pipes_b : List Pipe
+  -- and of the second
+  abbrev pub pipes_b : List Pipe
   pipes_b = part_pipes (λ y. hat i p s t hats h (partner p p.b y)) t.names t.outer t.inner t.parts
 
-  abbrev pipes : List Pipe
+  -- all pipes, before they are put in order
+  abbrev pub pipes : List Pipe
   pipes = stay ++ pipes_a ++ pipes_b
 
+  -- without the pipe the rules hold
   fewer : IsSynchronized record { verts = i.verts; edges = i.edges; pipes = stay }
   fewer = IsSynchronized-fewer_pipes i (λ q. not (has (p.name ∷ []) q.name)) h.rules
 
+  -- the names of all pipes
   names_of_all_pipes : map (λ q. q.name) pipes ≡ map (λ q. q.name) stay ++ (s.names ++ t.names)
   names_of_all_pipes =
       map-append (λ (q : Pipe). q.name) (stay ++ pipes_a) pipes_b
@@ -166,12 +161,14 @@ module _ (i : Synchronized) (p : Pipe) (s t : Parting) (hats : List ℕ) (h : Ha
       h.parted.second_end.name_each h.parted.second_end.outer_each h.parted.second_end.inner_each)
       ∙ append_assoc (map (λ (q : Pipe). q.name) stay) s.names t.names
 
+  -- a pipe that stays was live
   stay_live : (n : ℕ) → Has n (map (λ q. q.name) stay) → Contains (pipe_names i) n
   stay_live n k =
       let same = names_kept (λ (q : Pipe). q.name) (λ q. not (has (p.name ∷ []) q.name)) (λ m. not (has (p.name ∷ []) m)) i.pipes
       (λ j d lt. refl) in
       (Has-Contains n (pipe_names i)).0 (Has-kept (λ m. not (has (p.name ∷ []) m)) (pipe_names i) n (subst (Has n) same k)).0
 
+  -- no name of a pipe stands twice
   pipes_once : Distinct (map (λ q. q.name) stay ++ (s.names ++ t.names))
   pipes_once =
       Distinct-append (map (λ q. q.name) stay) (s.names ++ t.names)
@@ -180,14 +177,7 @@ module _ (i : Synchronized) (p : Pipe) (s t : Parting) (hats : List ℕ) (h : Ha
       (λ d k. Lacks-from d (s.names ++ t.names) (λ l. fresh_other (pipe_names i) (s.names ++ t.names) d d
       h.parted.new_pipes l (stay_live d k) refl))
 
-  pipes_fit : All (λ n. n < 2 ^ 63) (pipe_names after)
-  pipes_fit =
-      All-map-IsPermutation (λ (q : Pipe). q.name) (λ n. n < 2 ^ 63) pipes after.pipes (by_name_keeps (λ q. q.name) pipes)
-      (subst (All (λ n. n < 2 ^ 63)) (sym names_of_all_pipes)
-      (All-append (λ n. n < 2 ^ 63) (map (λ q. q.name) stay) (s.names ++ t.names) fewer.pipes_named.fit
-      (small_sum (length (pipe_names i) + length (s.names ++ t.names)) (2 ^ 63) few_pipes (s.names ++ t.names)
-      (fresh_small (pipe_names i) (s.names ++ t.names) h.parted.new_pipes))))
-
+  -- the cells fit as before
   cells_fit : All (λ c. c < 2 ^ 63) (flat_map (λ v. cell_of v.kind) after.verts)
   cells_fit =
       All-values (λ c. c < 2 ^ 63) (λ (v : Vert). cell_of v.kind) after.verts
@@ -205,7 +195,8 @@ module _ (i : Synchronized) (p : Pipe) (s t : Parting) (hats : List ℕ) (h : Ha
       (λ b out. new_has (outer_b i p s t hats h e.name) (outer_b_new i p s t hats h (outer_b i p s t hats h e.name) out))
       (λ na nb c. old_has x c na nb)
 
-  ends_live : All (λ e. Contains (vert_names after) e.a × Contains (vert_names after) e.b) after.edges
+  -- the ends of all edges are there
+  pub ends_live : All (λ e. Contains (vert_names after) e.a × Contains (vert_names after) e.b) after.edges
   ends_live =
       All-permutation live rows after.edges (by_name_keeps (λ e. e.name) rows)
       (All-append live (kept_rows i p s t hats h) (new_rows i p s t hats h)
@@ -224,6 +215,7 @@ module _ (i : Synchronized) (p : Pipe) (s t : Parting) (hats : List ℕ) (h : Ha
       live : EdgeRow → Type 0
       live e = Contains (vert_names after) e.a × Contains (vert_names after) e.b
 
+  -- the ends of a moved edge differ
   ends_apart_in : (e : EdgeRow) → IsLiveRow i e → to i p s t hats h e.name e.a ≢ to i p s t hats h e.name e.b
   ends_apart_in e r =
       by_end i p s t hats h (λ y. y ≢ to i p s t hats h e.name e.b) e e.a r (first_touch i p s t hats h e)
@@ -246,7 +238,8 @@ module _ (i : Synchronized) (p : Pipe) (s t : Parting) (hats : List ℕ) (h : Ha
       ob : ℕ
       ob = outer_b i p s t hats h e.name
 
-  ends_differ : All (λ e. e.a ≢ e.b) after.edges
+  -- and so do those of all edges
+  pub ends_differ : All (λ e. e.a ≢ e.b) after.edges
   ends_differ =
       All-permutation (λ (e : EdgeRow). e.a ≢ e.b) rows after.edges (by_name_keeps (λ e. e.name) rows)
       (All-append (λ (e : EdgeRow). e.a ≢ e.b) (kept_rows i p s t hats h) (new_rows i p s t hats h)
@@ -257,6 +250,7 @@ module _ (i : Synchronized) (p : Pipe) (s t : Parting) (hats : List ℕ) (h : Ha
       (λ x k. (apart i p s t hats h).second_fourth (inner_a i p s t hats h x) (inner_b i p s t hats h x)
       (inner_a_has i p s t hats h x k) (inner_b_has i p s t hats h x k)))))
 
+  -- the kinds of all vertices are right
   lists_right : All (λ v. IsRightKind (graph after) v.name v.kind) after.verts
   lists_right =
       All-permutation (λ (v : Vert). IsRightKind (graph after) v.name v.kind) verts after.verts (by_name_keeps (λ v. v.name) verts)
@@ -284,6 +278,7 @@ module _ (i : Synchronized) (p : Pipe) (s t : Parting) (hats : List ℕ) (h : Ha
       ∙ ap (λ o. option_or o (find (λ v. eqb v.name n) (map free_vert fresh))) (found_kept keeps n (other_keeps n na nb) i.verts))
       ∙ found_or (find (λ v. eqb v.name n) i.verts) (find (λ v. eqb v.name n) (map free_vert fresh)) e
 
+  -- and a new vertex is a P-vertex
   kind_new : (n : ℕ) → Has n fresh → kind_in after.verts n ≡ Some P
   kind_new n k =
       ap (option_map (λ x. x.kind))
@@ -298,27 +293,33 @@ module _ (i : Synchronized) (p : Pipe) (s t : Parting) (hats : List ℕ) (h : Ha
           ((Has-Contains n (vert_names i)).0 (Has-kept keeps (vert_names i) n
           (subst (Has n) (names_kept (λ (v : Vert). v.name) (λ v. keeps v.name) keeps i.verts (λ j d lt. refl)) m)).0) k refl)
 
-  others_off : All (λ q. (q.a ≢ p.a) × (q.a ≢ p.b) × (q.b ≢ p.a) × (q.b ≢ p.b)) stay
+  -- no other pipe has an end of the pipe
+  pub others_off : All (λ q. (q.a ≢ p.a) × (q.a ≢ p.b) × (q.b ≢ p.a) × (q.b ≢ p.b)) stay
   others_off = others_apart p.name p i.pipes h.rules.ends_apart h.live
 
+  -- the outer vertex of a part of the first end
   outer_a_at : (k : ℕ) → k < length s.parts → Has (slice_index s.outer k) s.outer
   outer_a_at k lt = Has_at s.outer k (omega (arith, lt, h.parted.first_end.outer_each))
 
+  -- the inner one
   inner_a_at : (k : ℕ) → k < length s.parts → Has (slice_index s.inner k) s.inner
   inner_a_at k lt = Has_at s.inner k (omega (arith, lt, h.parted.first_end.inner_each))
 
+  -- the outer vertex of a part of the second end
   outer_b_at : (k : ℕ) → k < length t.parts → Has (slice_index t.outer k) t.outer
   outer_b_at k lt = Has_at t.outer k (omega (arith, lt, h.parted.second_end.outer_each))
 
+  -- and the inner one
   inner_b_at : (k : ℕ) → k < length t.parts → Has (slice_index t.inner k) t.inner
   inner_b_at k lt = Has_at t.inner k (omega (arith, lt, h.parted.second_end.inner_each))
 
   -- what holds of the pipes that stay and of those of the parts holds of all
-  All-pipes : (holds : Pipe → Type 0) → All holds stay → All holds pipes_a → All holds pipes_b → All holds after.pipes
+  pub All-pipes : (holds : Pipe → Type 0) → All holds stay → All holds pipes_a → All holds pipes_b → All holds after.pipes
   All-pipes holds old first second =
       All-permutation holds pipes after.pipes (by_name_keeps (λ q. q.name) pipes)
       (All-append holds (stay ++ pipes_a) pipes_b (All-append holds stay pipes_a old first) second)
 
+  -- the ends of all pipes are two different P-vertices
   ends_free : All (HasRightEnds after.verts) after.pipes
   ends_free =
       All-pipes (HasRightEnds after.verts)
@@ -362,6 +363,7 @@ module _ (i : Synchronized) (p : Pipe) (s t : Parting) (hats : List ℕ) (h : Ha
           ∙ ap (λ zs. zs ++ ends_of_all pipes_b) (flat_map-append ends stay pipes_a)
           ∙ append_assoc (ends_of_all stay) (ends_of_all pipes_a) (ends_of_all pipes_b)
 
+  -- the ends of pipes that stay were live
   stay_ends_live : (d : ℕ) → Has d (ends_of_all stay) → Contains (vert_names i) d
   stay_ends_live d k = from_pipes stay fewer.ends_free k
     where
@@ -377,12 +379,14 @@ module _ (i : Synchronized) (p : Pipe) (s t : Parting) (hats : List ℕ) (h : Ha
           n)
           m
 
+  -- no two pipes share an end
   ends_apart : Distinct (ends_of_all after.pipes)
   ends_apart =
       Distinct-IsPermutation (ends_of_all stay ++ fresh) (ends_of_all after.pipes) ends_in_order
       (Distinct-append (ends_of_all stay) fresh fewer.ends_apart (new_once i p s t hats h)
       (λ d k. Lacks-from d fresh (λ l. old_other i p s t hats h d d (stay_ends_live d k) l refl)))
 
+  -- the pairs of all pipes are right
   pairs_right : All (HasRightPairs (graph after)) after.pipes
   pairs_right =
       All-pipes (HasRightPairs (graph after))
@@ -413,25 +417,62 @@ module _ (i : Synchronized) (p : Pipe) (s t : Parting) (hats : List ℕ) (h : Ha
             (edges_of_inner_b i p s t hats h k lt);
       }))
 
-  pub IsSynchronized-joined : IsSynchronized (joined i p s t hats h)
-  IsSynchronized-joined = record {
-    verts_named = record { rise = IsStrictlyIncreasing-from_test (vert_names after) verts_rise; fit = verts_fit };
-    edges_named = record {
-      rise = IsStrictlyIncreasing-from_test (edge_names after)
-          (rises-by_name (λ e. e.name) rows (names_differ i p s t hats h));
-      fit = edges_fit;
-    };
-    pipes_named = record {
-      rise = IsStrictlyIncreasing-from_test (pipe_names after)
-          (rises-by_name (λ q. q.name) pipes
-          (distinct_from (map (λ q. q.name) pipes) (subst Distinct (sym names_of_all_pipes) pipes_once)));
-      fit = pipes_fit;
-    };
-    cells_fit = cells_fit;
-    ends_live = ends_live;
-    ends_differ = ends_differ;
-    lists_right = lists_right;
-    ends_free = ends_free;
-    ends_apart = ends_apart;
-    pairs_right = pairs_right;
-  }
+  -- where there are so few names that the new ones are small
+  module _ (few_verts : length (vert_names i) + length (new_verts s t) ≤ 2 ^ 63)
+      (few_edges : length (edge_names i) + length hats ≤ 2 ^ 63)
+      (few_pipes : length (pipe_names i) + length (s.names ++ t.names) ≤ 2 ^ 63) where
+    -- numbers below a small one are small
+    small_sum : (m n : ℕ) → m ≤ n → (ns : List ℕ) → All (λ x. x < m) ns → All (λ x. x < n) ns
+    small_sum m n le ns all = All-weaker (λ x. x < m) (λ x. x < n) (λ x lt. omega (arith, lt, le)) ns all
+
+    -- the names of vertices fit
+    verts_fit : All (λ n. n < 2 ^ 63) (vert_names after)
+    verts_fit =
+        All-map-IsPermutation (λ (v : Vert). v.name) (λ n. n < 2 ^ 63) verts after.verts (by_name_keeps (λ v. v.name) verts)
+        (subst (All (λ n. n < 2 ^ 63)) (sym names_of_verts)
+        (All-append (λ n. n < 2 ^ 63) (filter keeps (vert_names i)) fresh
+        (All-filter keeps (λ n. n < 2 ^ 63) (vert_names i) h.rules.verts_named.fit)
+        (small_sum (length (vert_names i) + length fresh) (2 ^ 63) few_verts fresh
+        (fresh_small (vert_names i) fresh h.parted.new_verts))))
+
+    -- the names of edges fit
+    edges_fit : All (λ n. n < 2 ^ 63) (edge_names after)
+    edges_fit =
+        All-map-IsPermutation (λ (e : EdgeRow). e.name) (λ n. n < 2 ^ 63) rows after.edges (by_name_keeps (λ e. e.name) rows)
+        (subst (All (λ n. n < 2 ^ 63)) (sym (names_all i p s t hats h))
+        (All-append (λ n. n < 2 ^ 63) (edge_names i) hats h.rules.edges_named.fit
+        (small_sum (length (edge_names i) + length hats) (2 ^ 63) few_edges hats
+        (fresh_small (edge_names i) hats h.hats_new))))
+
+    -- and the names of pipes
+    pipes_fit : All (λ n. n < 2 ^ 63) (pipe_names after)
+    pipes_fit =
+        All-map-IsPermutation (λ (q : Pipe). q.name) (λ n. n < 2 ^ 63) pipes after.pipes (by_name_keeps (λ q. q.name) pipes)
+        (subst (All (λ n. n < 2 ^ 63)) (sym names_of_all_pipes)
+        (All-append (λ n. n < 2 ^ 63) (map (λ q. q.name) stay) (s.names ++ t.names) fewer.pipes_named.fit
+        (small_sum (length (pipe_names i) + length (s.names ++ t.names)) (2 ^ 63) few_pipes (s.names ++ t.names)
+        (fresh_small (pipe_names i) (s.names ++ t.names) h.parted.new_pipes))))
+
+    -- so the five rules hold
+    pub IsSynchronized-joined : IsSynchronized (joined i p s t hats h)
+    IsSynchronized-joined = record {
+      verts_named = record { rise = IsStrictlyIncreasing-from_test (vert_names after) verts_rise; fit = verts_fit };
+      edges_named = record {
+        rise = IsStrictlyIncreasing-from_test (edge_names after)
+            (rises-by_name (λ e. e.name) rows (names_differ i p s t hats h));
+        fit = edges_fit;
+      };
+      pipes_named = record {
+        rise = IsStrictlyIncreasing-from_test (pipe_names after)
+            (rises-by_name (λ q. q.name) pipes
+            (distinct_from (map (λ q. q.name) pipes) (subst Distinct (sym names_of_all_pipes) pipes_once)));
+        fit = pipes_fit;
+      };
+      cells_fit = cells_fit;
+      ends_live = ends_live;
+      ends_differ = ends_differ;
+      lists_right = lists_right;
+      ends_free = ends_free;
+      ends_apart = ends_apart;
+      pairs_right = pairs_right;
+    }

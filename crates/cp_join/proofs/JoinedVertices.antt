@@ -43,9 +43,11 @@ vertex_eq parts verts k e once size apart lt h =
     (cases_Bool (has (slice_index_or parts k []) e))
 
 module _ (i : Synchronized) (p : Pipe) (s t : Parting) (hats : List ℕ) (h : HasPartings i p s t hats) where
+  -- an edge row after the moves
   abbrev moved : EdgeRow → EdgeRow
   moved e = moved_row (to i p s t hats h) e
 
+  -- where an end of it is then
   abbrev end_of : EdgeRow → ℕ → ℕ
   end_of e x = to i p s t hats h e.name x
 
@@ -53,18 +55,23 @@ module _ (i : Synchronized) (p : Pipe) (s t : Parting) (hats : List ℕ) (h : Ha
   abbrev pub inner_a : ℕ → ℕ
   inner_a x = vertex_for s.parts s.inner x
 
+  -- and at the second end
   abbrev pub inner_b : ℕ → ℕ
   inner_b x = vertex_for t.parts t.inner (partner p p.a x)
 
+  -- an edge of the first end is in a part
   has_a : (e : ℕ) → Has e (edges_of i p.a) → Has e (all_of s.parts)
   has_a e k = all_has (graph i) p.a s.parts h.rules.edges_named.rise h.parts_a e ((Has-Contains e (edges_of i p.a)).0 k)
 
+  -- and one of the second
   has_b : (e : ℕ) → Has e (edges_of i p.b) → Has e (all_of t.parts)
   has_b e k = all_has (graph i) p.b t.parts h.rules.edges_named.rise h.parts_b e ((Has-Contains e (edges_of i p.b)).0 k)
 
+  -- its inner vertex at the first end is one
   pub inner_a_has : (x : ℕ) → Has x (edges_of i p.a) → Has (inner_a x) s.inner
   inner_a_has x k = vertex_has s.parts s.inner x h.parted.first_end.inner_each (has_a x k)
 
+  -- and that at the second
   pub inner_b_has : (x : ℕ) → Has x (edges_of i p.a) → Has (inner_b x) t.inner
   inner_b_has x k =
       vertex_has t.parts t.inner (partner p p.a x) h.parted.second_end.inner_each
@@ -99,9 +106,11 @@ module _ (i : Synchronized) (p : Pipe) (s t : Parting) (hats : List ℕ) (h : Ha
           (λ r. subst (Contains (vert_names i)) (eqb-true e.b x r) live.live_b)
           (or_cases (eqb e.a x) (eqb e.b x) at)
 
+  -- a row ends at its first end
   pub first_touch : (e : EdgeRow) → touch e.a e ≡ true
   first_touch e = or_left (eqb e.a e.a) (eqb e.b e.a) (eq-eqb e.a e.a refl)
 
+  -- and at its second
   pub second_touch : (e : EdgeRow) → touch e.b e ≡ true
   second_touch e = or_right (eqb e.a e.b) (eqb e.b e.b) (eq-eqb e.b e.b refl)
 
@@ -165,26 +174,33 @@ module _ (i : Synchronized) (p : Pipe) (s t : Parting) (hats : List ℕ) (h : Ha
           (λ k. both_ways (touch u e) (or_from (eqb e.a u) (eqb e.b u) (ne_eqb e.a u na) (ne_eqb e.b u nb))
           (among (has_from part e.name k)))
 
+  -- no edge is in two parts of the first end
   once_a : Distinct (all_of s.parts)
   once_a = all_once (graph i) p.a s.parts h.rules.edges_named.rise h.parts_a
 
+  -- nor of the second
   once_b : Distinct (all_of t.parts)
   once_b = all_once (graph i) p.b t.parts h.rules.edges_named.rise h.parts_b
 
+  -- no new vertex stands twice
   four : Distinct (s.outer ++ s.inner ++ t.outer ++ t.inner)
   four = new_once i p s t hats h
 
+  -- so no outer vertex of the first end does
   outer_a_once : Distinct s.outer
   outer_a_once = Distinct-append_left s.outer s.inner
       (Distinct-append_left (s.outer ++ s.inner) t.outer (Distinct-append_left (s.outer ++ s.inner ++ t.outer) t.inner four))
 
+  -- nor an inner one
   inner_a_once : Distinct s.inner
   inner_a_once = Distinct-append_right s.outer s.inner
       (Distinct-append_left (s.outer ++ s.inner) t.outer (Distinct-append_left (s.outer ++ s.inner ++ t.outer) t.inner four))
 
+  -- nor an outer vertex of the second end
   outer_b_once : Distinct t.outer
   outer_b_once = Distinct-append_right (s.outer ++ s.inner) t.outer (Distinct-append_left (s.outer ++ s.inner ++ t.outer) t.inner four)
 
+  -- nor an inner one
   inner_b_once : Distinct t.inner
   inner_b_once = Distinct-append_right (s.outer ++ s.inner ++ t.outer) t.inner four
 
@@ -193,10 +209,12 @@ module _ (i : Synchronized) (p : Pipe) (s t : Parting) (hats : List ℕ) (h : Ha
   part_edges_a k e lt m =
       all_from (graph i) p.a s.parts h.rules.edges_named.rise h.parts_a e (Has-flat_map e s.parts k lt m)
 
+  -- and those of a part of the second end
   part_edges_b : (k e : ℕ) → k < length t.parts → Has e (slice_index_or t.parts k []) → Contains (edges_of i p.b) e
   part_edges_b k e lt m =
       all_from (graph i) p.b t.parts h.rules.edges_named.rise h.parts_b e (Has-flat_map e t.parts k lt m)
 
+  -- an edge of a vertex is live
   edge_live : (v e : ℕ) → Contains (edges_of i v) e → Has e (edge_names i)
   edge_live v e c = (Has-Contains e (edge_names i)).1 (edges_at-Contains (graph i) v e c).0
 
@@ -250,6 +268,7 @@ module _ (i : Synchronized) (p : Pipe) (s t : Parting) (hats : List ℕ) (h : Ha
           (λ same. (apart i p s t hats h).first_third v (outer_b i p s t hats h e.name) in_outer out (sym same)))
           (λ na nb l. ne_eqb x v (old_other i p s t hats h x v l (outer_a_new i p s t hats h v in_outer)))
 
+  -- and so has one of the second end
   pub edges_of_outer_b : (k : ℕ) → k < length t.parts
       → edges_of (joined i p s t hats h) (slice_index t.outer k) ≡ slice_index_or t.parts k []
   edges_of_outer_b k lt =

@@ -32,3 +32,19 @@ mod JoinedLists
 mod ToldParts
 mod MovedCrossings
 mod HatOrders
+-- from instances to maps and back
+mod RowOrders
+mod DartsBeside
+mod GraphSystems
+mod JoinedHalves
+mod JoinedOuter
+mod JoinedInner
+mod LaterLists
+mod LaterSolutions
+mod EarlierSolutions
+mod SolvableJoins
+mod UniqueParts
+mod UniqueJoins
+mod InnerFits
+mod InnerSides
+mod SolutionsBack

@@ -53,9 +53,11 @@ module _
     (edges_rise : IsStrictlyIncreasing g.edges)
     (live : (e : ℕ) → Contains g.edges e
     → Contains g.verts (g.ends e).0 × Contains g.verts (g.ends e).1 × ((g.ends e).0 ≢ (g.ends e).1)) where
+  -- the ends of the numbered edges
   abbrev numbered : List (ℕ × ℕ)
   numbered = map (numbered_ends g) g.edges
 
+  -- the name of a number
   abbrev name : ℕ → ℕ
   name k = slice_index g.edges k
 
@@ -68,9 +70,11 @@ module _
       → slice_index_or numbered k (0, 0) ≡ (rank g.verts (g.ends (name k)).0, rank g.verts (g.ends (name k)).1)
   numbered_at k lt = get_or-map (numbered_ends g) g.edges k 0 (0, 0) lt
 
+  -- is one of an edge
   named_live : (k : ℕ) → k < length g.edges → Contains g.edges (name k)
   named_live k lt = Contains-get_or g.edges k 0 lt
 
+  -- the ends are numbers of vertices
   pub within : AreWithin (length g.verts) numbered
   within k lt =
       let l : k < length g.edges = omega (arith, lt, length-map g.edges (numbered_ends g)) in
@@ -78,6 +82,7 @@ module _
       subst (λ (x : ℕ × ℕ). (x.0 < length g.verts) × (x.1 < length g.verts)) (sym (numbered_at k l))
       ((rank_at g.verts (g.ends (name k)).0 ends.0).0, (rank_at g.verts (g.ends (name k)).1 ends.1).0)
 
+  -- no numbered edge is a loop
   pub no_loop : HaveNoLoop numbered
   no_loop k lt e =
       let l : k < length g.edges = omega (arith, lt, length-map g.edges (numbered_ends g)) in
@@ -86,6 +91,7 @@ module _
       (rank_one (g.ends (name k)).0 (g.ends (name k)).1 ends.0 ends.1
       (sym (ap (λ (x : ℕ × ℕ). x.0) (numbered_at k l)) ∙ e ∙ ap (λ (x : ℕ × ℕ). x.1) (numbered_at k l)))
 
+  -- nor one under its name
   named_no_loop : HaveNoLoop (pairs g)
   named_no_loop k lt e =
       let at = edge_at g k lt in
@@ -113,6 +119,7 @@ module _
         );
   }
 
+  -- each block of the numbered graph is whole in the named one
   whole_blocks : HasWholeBlocks numbered (pairs g) (λ k. k)
   whole_blocks i f lt block = (f, below, refl)
     where
@@ -126,6 +133,7 @@ module _
           (λ q. omega (arith, q.1.within q.3.0 q.3.1, q.3.2, same))
           block
 
+  -- so the blocks are the same
   same_blocks : (i j : ℕ) → i < length g.edges → j < length g.edges
       → AreInOneBlock numbered i j ↔ AreInOneBlock (pairs g) i j
   same_blocks i j li lj =
@@ -135,9 +143,11 @@ module _
 
   module _ (u : ℕ) (vertex : Contains g.verts u) (numbers : List (List ℕ))
       (are : AreBlocksAt numbered (rank g.verts u) numbers) where
+    -- the parts by their names
     abbrev parts : List (List ℕ)
     parts = map (map name) numbers
 
+    -- the number of an edge of a part
     abbrev number : ℕ → ℕ → ℕ
     number i k = item numbers i k
 
@@ -152,6 +162,7 @@ module _
         (rank_one (g.ends (name k)).1 u ends.1 vertex (sym (ap (λ (x : ℕ × ℕ). x.1) (numbered_at k lt)) ∙ e))))
         touches
 
+    -- an edge at the vertex is at its number
     touches_there : (k : ℕ) → k < length g.edges → ends_at g u (name k) ≡ true → Touches numbered (rank g.verts u) k
     touches_there k lt t =
         ⊎_elim
@@ -165,6 +176,7 @@ module _
     part_at : (i : ℕ) → i < length numbers → slice_index_or parts i [] ≡ map name (slice_index_or numbers i [])
     part_at i lt = get_or-map (map name) numbers i [] [] lt
 
+    -- the number of an edge of a part is one of an edge
     number_below : (i k : ℕ) → i < length numbers → k < length (slice_index_or numbers i [])
         → number i k < length g.edges
     number_below i k li lk = omega (arith, (are.touching i k li lk).0, length-map g.edges (numbered_ends g))
@@ -188,6 +200,7 @@ module _
         omega (arith, w.1, length-map (slice_index_or numbers i []) name) in
         (w.0, below, sym (get_or-map name (slice_index_or numbers i []) w.0 0 0 below) ∙ w.2)
 
+    -- the edges of a part by their names
     in_part : (i k : ℕ) → i < length numbers → k < length (slice_index_or numbers i [])
         → Has (name (number i k)) (slice_index_or parts i [])
     in_part i k li lk =
@@ -231,6 +244,7 @@ module _
           ),
         )
 
+    -- each edge of the vertex is in a part
     in_some : (e : ℕ) (c : Contains (edges_at g u) e) → Has e (slice_index_or parts (some_part e c).0 [])
     in_some e c =
         let r = some_part e c in
@@ -238,6 +252,7 @@ module _
         (ap name r.2.2 ∙ (rank_at g.edges e (edges_at-Contains g u e c).0).1)
         (in_part r.0 r.2.0 r.1 r.2.1)
 
+    -- the place of its part
     part_is : (e : ℕ) (c : Contains (edges_at g u) e) → part_of parts e ≡ (some_part e c).0
     part_is e c =
         let r = some_part e c in
@@ -257,6 +272,7 @@ module _
         (rising_order g.edges edges_rise (number i k) (number i (k + 1)) less
         (number_below i (k + 1) lt (omega (arith, within, size))))
 
+    -- the least edge of a part
     first_of_part : (i : ℕ) → i < length numbers
         → slice_index (map (λ part. slice_index part 0) parts) i ≡ name (number i 0)
     first_of_part i lt =
@@ -264,6 +280,7 @@ module _
         ∙ ap (λ part. slice_index part 0) (part_at i lt)
         ∙ get_or-map name (slice_index_or numbers i []) 0 0 0 (are.filled i lt)
 
+    -- so they are the parts of the vertex
     pub named_parts : ArePartsAt g u parts
     named_parts = record {
       whole = IsPermutation-from (edges_at g u) (flat_map (λ part. part) parts)

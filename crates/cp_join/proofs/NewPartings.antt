@@ -22,15 +22,19 @@ module _ (i : Synchronized) (pa pb : List (List ℕ)) (s t : Parting) (vs ps : L
     (inner_b : t.inner ≡ drop (length pb) (drop (2 * length pa) vs))
     (names_a : s.names ≡ take (length pa) ps)
     (names_b : t.names ≡ drop (length pa) ps) where
+  -- how many new vertices there are
   size : length vs ≡ 2 * (length pa + length pb)
   size = ap length verts ∙ length-new_names (vert_names i) (2 * (length pa + length pb))
 
+  -- and how many new pipes
   size_pipes : length ps ≡ length pa + length pb
   size_pipes = ap length pipes ∙ length-new_names (pipe_names i) (length pa + length pb)
 
+  -- how many vertices the first end gets
   size_first : length (take (2 * length pa) vs) ≡ 2 * length pa
   size_first = length-take-le (2 * length pa) vs (omega (arith, size))
 
+  -- and the second
   size_second : length (drop (2 * length pa) vs) ≡ 2 * length pb
   size_second = omega (arith, length-drop (2 * length pa) vs, size)
 
@@ -45,9 +49,11 @@ module _ (i : Synchronized) (pa pb : List (List ℕ)) (s t : Parting) (vs ps : L
       ∙ ap (λ ys. take (2 * length pa) vs ++ ys) (take-append-drop (length pb) (drop (2 * length pa) vs))
       ∙ take-append-drop (2 * length pa) vs
 
+  -- the pipes of both ends are all new ones
   all_names : s.names ++ t.names ≡ ps
   all_names = ap₂ (λ xs ys. xs ++ ys) names_a names_b ∙ take-append-drop (length pa) ps
 
+  -- so both ends are parted
   pub AreParted-cut : AreParted i pa pb s t
   AreParted-cut = record {
     first_end = record {

@@ -76,9 +76,11 @@ module _ (g : NamedGraph) (u : ℕ) (parts : List (List ℕ)) (rise : IsStrictly
   all_once = Distinct-IsPermutation (edges_at g u) (all_of parts) are.whole
       (Distinct-rising (edges_at g u) (IsStrictlyIncreasing-filter (ends_at g u) g.edges rise))
 
+  -- an edge of the vertex is in a part
   pub all_has : (e : ℕ) → Contains (edges_at g u) e → Has e (all_of parts)
   all_has e c = Has-IsPermutation e (edges_at g u) (all_of parts) are.whole ((Has-Contains e (edges_at g u)).1 c)
 
+  -- and each edge of a part is one of the vertex
   pub all_from : (e : ℕ) → Has e (all_of parts) → Contains (edges_at g u) e
   all_from e h = (Has-Contains e (edges_at g u)).0
       (Has-IsPermutation e (all_of parts) (edges_at g u) (IsPermutation-sym (edges_at g u) (all_of parts) are.whole) h)

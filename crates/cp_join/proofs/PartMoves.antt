@@ -16,6 +16,7 @@ use Rattle.cp_join.specs.Joining.{moves_to, part_moves}
 use Rattle.cp_join.proofs.NamedParts.{from_has, has_not}
 use Rattle.cp_join.proofs.PartLists.{all_of}
 
+-- the move of an edge
 abbrev pub move : ℕ → ℕ → ℕ → EdgeMove
 move e u v = record { edge = e; from = u; to = v }
 
@@ -24,11 +25,13 @@ abbrev pub moved_by : List EdgeMove → EdgeRow → EdgeRow
 moved_by [] e = e
 moved_by (m ∷ ms) e = moved_by ms (moved_end m e)
 
+-- one more move of all rows
 map_moved : (ms : List EdgeMove) (m : EdgeMove) (es : List EdgeRow)
     → map (moved_by ms) (map (moved_end m) es) ≡ map (moved_by (m ∷ ms)) es
 map_moved ms m [] = refl
 map_moved ms m (e ∷ es) = ap (λ zs. moved_by ms (moved_end m e) ∷ zs) (map_moved ms m es)
 
+-- no move leaves all rows
 map_same : (es : List EdgeRow) → es ≡ map (moved_by []) es
 map_same [] = refl
 map_same (e ∷ es) = ap (λ zs. e ∷ zs) (map_same es)
@@ -38,6 +41,7 @@ pub after_moves-map : (ms : List EdgeMove) (es : List EdgeRow) → after_moves m
 after_moves-map [] es = map_same es
 after_moves-map (m ∷ ms) es = after_moves-map ms (map (moved_end m) es) ∙ map_moved ms m es
 
+-- moves one after the other
 pub moved_by-append : (ms ns : List EdgeMove) (e : EdgeRow) → moved_by (ms ++ ns) e ≡ moved_by ns (moved_by ms e)
 moved_by-append [] ns e = refl
 moved_by-append (m ∷ ms) ns e = moved_by-append ms ns (moved_end m e)
@@ -52,9 +56,11 @@ moved_end-name m e =
     (record { name = e.name; a = e.a; b = m.to }) (λ (f : EdgeRow). f.name ≡ e.name) (λ u. refl) (λ u. refl))
     (λ f. refl)
 
+-- the move of another edge leaves a row
 pub moved_end-other : (m : EdgeMove) (e : EdgeRow) → e.name ≢ m.edge → moved_end m e ≡ e
 moved_end-other m e ne = cond-false (eqb e.name m.edge) _ e (ne_eqb e.name m.edge ne)
 
+-- so do the moves of a part without it
 moved_by_none : (u v : ℕ) (part : List ℕ) (e : EdgeRow) → has part e.name ≡ false → moved_by (moves_to u v part) e ≡ e
 moved_by_none u v [] e off = refl
 moved_by_none u v (x ∷ xs) e off =
@@ -105,6 +111,7 @@ vertex_first part parts v verts n t =
     let first : part_of (part ∷ parts) n ≡ 0 = ap (λ b. cond (not b) (1 + part_of parts n) 0) t in
     ap (slice_index (v ∷ verts)) first
 
+-- the vertex for an edge that is not in the first part
 pub vertex_later : (part : List ℕ) (parts : List (List ℕ)) (v : ℕ) (verts : List ℕ) (n : ℕ) → has part n ≡ false
     → vertex_for (part ∷ parts) (v ∷ verts) n ≡ vertex_for parts verts n
 vertex_later part parts v verts n f =

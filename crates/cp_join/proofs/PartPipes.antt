@@ -1,7 +1,7 @@
 -- The pipes of the parts of a vertex: their names, ends and pairs.
-use Rattle.std.proofs.Common.{◌≡◌, ◌≢◌, ℕ, suc, ◌<◌, Bool, false, not, ◌||◌, ltb, eqb, List, [], ◌∷◌, ◌++◌, length, map, slice_index, slice_index_or, sym, refl, ap, ◌∙◌, subst, ⊎_elim, arith, append_assoc, IsPermutation}
+use Rattle.std.proofs.Common.{◌≡◌, ◌≢◌, ℕ, zero, suc, ◌<◌, Bool, false, not, ◌||◌, ltb, eqb, List, [], ◌∷◌, ◌++◌, length, map, slice_index, slice_index_or, sym, refl, ap, ◌∙◌, subst, ⊎_elim, arith, append_assoc, IsPermutation}
 use Rattle.std.specs.Prelude.{Some, find, filter}
-use Rattle.std.specs.List.{All, flat_map}
+use Rattle.std.specs.List.{All, Contains, flat_map}
 use Rattle.std.specs.Option.{option_map_or}
 use Rattle.std.proofs.lemmas.Bool.{cases_Bool, cond-true, cond-false, cond_both}
 use Rattle.std.proofs.lemmas.List.Elements.{All-nil, All-cons, All-head, All-tail, All-filter}
@@ -16,6 +16,7 @@ use Rattle.cp_join.proofs.LiveVerts.{none_some}
 abbrev pub ends : Pipe → List ℕ
 ends p = p.a ∷ p.b ∷ []
 
+-- and of all pipes
 abbrev pub ends_of_all : List Pipe → List ℕ
 ends_of_all ps = flat_map ends ps
 
@@ -26,6 +27,7 @@ exchanged xs ys zs =
     (subst (λ ws. IsPermutation ws ((ys ++ xs) ++ zs)) (append_assoc xs ys zs)
     (IsPermutation-append_left zs (xs ++ ys) (ys ++ xs) (IsPermutation-append_comm xs ys)))
 
+-- values of items, one of which is put in order
 flat_put : {A B : Type 0} (f : A → List B) (name : A → ℕ) (x : A) (ys : List A)
     → IsPermutation (f x ++ flat_map f ys) (flat_map f (put name x ys))
 flat_put f name x [] = IsPermutation-refl (f x ++ [])
@@ -51,6 +53,7 @@ pub firsts_of_pipe : (hat : ℕ → ℕ) (part : List ℕ) → map (λ (x : ℕ 
 firsts_of_pipe hat [] = refl
 firsts_of_pipe hat (e ∷ es) = ap (λ zs. e ∷ zs) (firsts_of_pipe hat es)
 
+-- and the seconds
 pub seconds_of_pipe : (hat : ℕ → ℕ) (part : List ℕ) → map (λ (x : ℕ × ℕ). x.1) (map (λ e. (e, hat e)) part) ≡ map hat part
 seconds_of_pipe hat [] = refl
 seconds_of_pipe hat (e ∷ es) = ap (λ zs. hat e ∷ zs) (seconds_of_pipe hat es)
@@ -103,19 +106,41 @@ All-part_pipes hat (x ∷ xs) (y ∷ ys) (z ∷ zs) (p ∷ ps) n o m holds each 
     (All-part_pipes hat xs ys zs ps (omega (arith, n)) (omega (arith, o)) (omega (arith, m)) holds
     (λ k lt. each (suc k) (omega (arith, lt))))
 
+-- the pipe of each part is there
+pub part_pipes-Contains : (hat : ℕ → ℕ) (names outer inner : List ℕ) (parts : List (List ℕ))
+    → length names ≡ length parts → length outer ≡ length parts → length inner ≡ length parts
+    → (k : ℕ) → k < length parts → Contains (part_pipes hat names outer inner parts) record {
+      name = slice_index names k;
+      a = slice_index outer k;
+      b = slice_index inner k;
+      pairs = map (λ e. (e, hat e)) (slice_index_or parts k []);
+    }
+part_pipes-Contains hat [] outer inner parts n o m k lt = absurd (omega (arith, n, lt))
+part_pipes-Contains hat (x ∷ xs) outer inner [] n o m k lt = absurd (omega (arith, n))
+part_pipes-Contains hat (x ∷ xs) [] inner (p ∷ ps) n o m k lt = absurd (omega (arith, o))
+part_pipes-Contains hat (x ∷ xs) (y ∷ ys) [] (p ∷ ps) n o m k lt = absurd (omega (arith, m))
+part_pipes-Contains hat (x ∷ xs) (y ∷ ys) (z ∷ zs) (p ∷ ps) n o m zero lt = (0, omega arith, refl)
+part_pipes-Contains hat (x ∷ xs) (y ∷ ys) (z ∷ zs) (p ∷ ps) n o m (suc k) lt =
+    let c = part_pipes-Contains hat xs ys zs ps (omega (arith, n)) (omega (arith, o)) (omega (arith, m)) k
+    (omega (arith, lt)) in
+    let low = c.1 in (suc c.0, omega (arith, low), c.2)
+
 -- no end of q is one of p
 abbrev Apart : Pipe → Pipe → Type 0
 Apart p q = (q.a ≢ p.a) × (q.a ≢ p.b) × (q.b ≢ p.a) × (q.b ≢ p.b)
 
+-- the test for pipes of other names
 abbrev other : ℕ → Pipe → Bool
 other n q = not (has (n ∷ []) q.name)
 
+-- a pipe is apart from pipes that lack its ends
 apart_from : (p : Pipe) (qs : List Pipe) → Lacks p.a (ends_of_all qs) → Lacks p.b (ends_of_all qs)
     → All (λ q. Apart p q) qs
 apart_from p [] la lb = All-nil (λ q. Apart p q)
 apart_from p (q ∷ qs) la lb =
     All-cons (λ z. Apart p z) q qs (la.0, lb.0, la.1.0, lb.1.0) (apart_from p qs la.1.1 lb.1.1)
 
+-- the other way round
 apart_sym : (p q : Pipe) → Apart p q → Apart q p
 apart_sym p q h = ((λ e. h.0 (sym e)), (λ e. h.2 (sym e)), (λ e. h.1 (sym e)), (λ e. h.3 (sym e)))
 

@@ -31,9 +31,11 @@ found_once key (x ∷ xs) (suc k) d once lt =
     ∙ found_once key xs k d once.1 (omega (arith, lt))
 
 module _ (pairs : List (ℕ × ℕ)) where
+  -- the first edges of the pairs
   abbrev pub firsts : List ℕ
   firsts = map (λ x. x.0) pairs
 
+  -- and the second ones
   abbrev pub seconds : List ℕ
   seconds = map (λ x. x.1) pairs
 
@@ -41,25 +43,31 @@ module _ (pairs : List (ℕ × ℕ)) where
   abbrev pub second : ℕ → ℕ
   second x = option_map_or (λ y. y.1) (find (λ y. eqb y.0 x) pairs) 0
 
+  -- and that of a second
   abbrev pub first : ℕ → ℕ
   first y = option_map_or (λ x. x.0) (find (λ x. eqb x.1 y) pairs) 0
 
+  -- the pair at a place
   abbrev pair : ℕ → ℕ × ℕ
   pair k = slice_index_or pairs k (0, 0)
 
   module _ (once_a : Distinct firsts) (once_b : Distinct seconds) where
+    -- the partner of the first of a pair
     second_at : (k : ℕ) → k < length pairs → second (pair k).0 ≡ (pair k).1
     second_at k lt = ap (λ o. option_map_or (λ y. y.1) o 0) (found_once (λ (x : ℕ × ℕ). x.0) pairs k (0, 0) once_a lt)
 
+    -- and that of the second
     first_at : (k : ℕ) → k < length pairs → first (pair k).1 ≡ (pair k).0
     first_at k lt = ap (λ o. option_map_or (λ y. y.0) o 0) (found_once (λ (x : ℕ × ℕ). x.1) pairs k (0, 0) once_b lt)
 
+    -- the place of the pair of a first
     at_first : (x : ℕ) → Has x firsts → (k : ℕ) × (k < length pairs) × ((pair k).0 ≡ x)
     at_first x h =
         let w = Has-place x firsts h in
         let lt : w.0 < length pairs = omega (arith, w.1, length-map pairs (λ (y : ℕ × ℕ). y.0)) in
         (w.0, lt, sym (get_or-map (λ (y : ℕ × ℕ). y.0) pairs w.0 (0, 0) 0 lt) ∙ w.2)
 
+    -- and of a second
     at_second : (y : ℕ) → Has y seconds → (k : ℕ) × (k < length pairs) × ((pair k).1 ≡ y)
     at_second y h =
         let w = Has-place y seconds h in
@@ -72,6 +80,7 @@ module _ (pairs : List (ℕ × ℕ)) where
         let w = at_first x h in
         subst (λ n. Has n seconds) (sym (second_at w.0 w.1) ∙ ap second w.2) (key_has (λ (y : ℕ × ℕ). y.1) pairs w.0 (0, 0) w.1)
 
+    -- and that of a second is a first
     pub first_has : (y : ℕ) → Has y seconds → Has (first y) firsts
     first_has y h =
         let w = at_second y h in
@@ -83,6 +92,7 @@ module _ (pairs : List (ℕ × ℕ)) where
         let w = at_first x h in
         ap (λ n. first (second n)) (sym w.2) ∙ ap first (second_at w.0 w.1) ∙ first_at w.0 w.1 ∙ w.2
 
+    -- also from the second
     pub second_first : (y : ℕ) → Has y seconds → second (first y) ≡ y
     second_first y h =
         let w = at_second y h in

@@ -48,6 +48,7 @@ All-from_has holds (x ∷ xs) each zero d lt = each x (inl refl)
 All-from_has holds (x ∷ xs) each (suc k) d lt =
     All-from_has holds xs (λ y h. each y (inr h)) k d (omega (arith, lt))
 
+-- and back
 pub All-has : (holds : ℕ → Type 0) (xs : List ℕ) → All holds xs → (x : ℕ) → Has x xs → holds x
 All-has holds [] all x h = elim h [ ]
 All-has holds (y ∷ ys) all x h =
@@ -92,6 +93,7 @@ Has-kept q (y ∷ ys) x h =
     (λ f. let r = Has-kept q ys x (subst (Has x) (cond-false (q y) (y ∷ filter q ys) (filter q ys) f) h) in (inr r.0, r.1))
     (cases_Bool (q y))
 
+-- and the other way round
 pub kept-Has : (q : ℕ → Bool) (xs : List ℕ) (x : ℕ) → Has x xs → q x ≡ true → Has x (filter q xs)
 kept-Has q [] x h t = elim h [ ]
 kept-Has q (y ∷ ys) x h t =
@@ -111,6 +113,7 @@ head_less x (y ∷ ys) t z h =
     (λ k. omega (arith, less, head_less y ys parts.1 z k))
     h
 
+-- what rises does so without its first
 rises_tail : (x : ℕ) (xs : List ℕ) → rises (x ∷ xs) ≡ true → rises xs ≡ true
 rises_tail x [] t = refl
 rises_tail x (y ∷ ys) t = (and_parts (ltb x y) (rises (y ∷ ys)) t).1

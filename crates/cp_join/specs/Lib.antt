@@ -1,3 +1,4 @@
 -- what functions inside promise each other
 pub mod Partings
 pub mod Joining
+pub mod InnerSystems

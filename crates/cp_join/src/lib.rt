@@ -3,9 +3,11 @@
 
 mod joins;
 mod parted_ends;
+mod turning_back;
 mod vertex_parts;
 
 pub use joins::join;
+pub use turning_back::join_keeps_solvable;
 pub use vertex_parts::parts_at;
 
 #[cfg(test)]

@@ -93,7 +93,7 @@ pub(crate) fn holds(part: &[usize], edge: usize) -> bool
 }
 
 // The place of the part that has the edge, or the number of parts. Linear in the edges of the parts.
-fn part_place(parts: &[CycList], edge: usize) -> usize
+pub(crate) fn part_place(parts: &[CycList], edge: usize) -> usize
     ensures { result ≡ part_of parts.now edge }
 {
     for k in 0..parts.len() {

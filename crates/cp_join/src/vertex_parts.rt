@@ -12,7 +12,7 @@ use cp_sync::{Board, graph_of};
 use std::alloc::Global;
 
 // The place of a number that is one of those that rise. Logarithmic.
-fn place_of(names: &[usize], name: usize) -> usize
+pub(crate) fn place_of(names: &[usize], name: usize) -> usize
     requires rising { IsStrictlyIncreasing names.now }
     requires live { Contains names.now name }
     ensures value { result ≡ rank names.now name }

@@ -13,18 +13,22 @@ use Rattle.cp_poles.proofs.FoundItems.{All-found, Some-same}
 abbrev pub Apart : Pipe → Pipe → Type 0
 Apart p q = (q.a ≢ p.a) × (q.a ≢ p.b) × (q.b ≢ p.a) × (q.b ≢ p.b)
 
-abbrev ends_of_all : List Pipe → List ℕ
+-- the ends of all pipes
+abbrev pub ends_of_all : List Pipe → List ℕ
 ends_of_all ps = flat_map (λ p. p.a ∷ p.b ∷ []) ps
 
+-- the pipe has another name
 abbrev other : ℕ → Pipe → Bool
 other n q = not (has (n ∷ []) q.name)
 
+-- where the ends of p are no ends of any of the pipes, each pipe is apart from p
 apart_from : (p : Pipe) (qs : List Pipe) → Lacks p.a (ends_of_all qs) → Lacks p.b (ends_of_all qs)
     → All (λ q. Apart p q) qs
 apart_from p [] la lb = All-nil (λ q. Apart p q)
 apart_from p (q ∷ qs) la lb =
     All-cons (λ z. Apart p z) q qs (la.0, lb.0, la.1.0, lb.1.0) (apart_from p qs la.1.1 lb.1.1)
 
+-- to be apart goes both ways
 apart_sym : (p q : Pipe) → Apart p q → Apart q p
 apart_sym p q h = ((λ e. h.0 (sym e)), (λ e. h.2 (sym e)), (λ e. h.1 (sym e)), (λ e. h.3 (sym e)))
 

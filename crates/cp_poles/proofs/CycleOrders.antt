@@ -70,14 +70,15 @@ module _ (to : List ℕ) (perm : IsPerm to) (size : ℕ) (one : HaveLength to si
   abbrev pub places : List ℕ
   places = range_with_len 0 (length to)
 
-  -- the row of the least places, and all rows
+  -- the places that are least on their cycles
   abbrev pub row : List ℕ
   row = leaders m size places
 
+  -- all rows, one behind the other
   abbrev pub rows : List ℕ
   rows = layers m size row
 
-  -- a place is a number below their number
+  -- each number below how many places there are is one of them
   place_at : (x : ℕ) → x < length to → Has x places
   place_at x lt =
       let at : get_or places x 0 ≡ x = omega (arith, get_or-range_with_len 0 (length to) x 0 lt) in
@@ -85,6 +86,7 @@ module _ (to : List ℕ) (perm : IsPerm to) (size : ℕ) (one : HaveLength to si
       (subst (Contains places) at
       (Contains-get_or places x 0 (omega (arith, lt, length-range_with_len 0 (length to)))))
 
+  -- and each of them is one
   place_low : (x : ℕ) → Has x places → x < length to
   place_low x h =
       let c = (Has-Contains x places).0 h in
@@ -108,6 +110,7 @@ module _ (to : List ℕ) (perm : IsPerm to) (size : ℕ) (one : HaveLength to si
   inside : (x : ℕ) → Has x places → Has (m x) places
   inside x h = place_at (m x) (perm.below x (place_low x h))
 
+  -- the cycle of each has the one length
   cycles : (x : ℕ) → Has x places → CycleLength m x size
   cycles x h = one x (place_low x h)
 
@@ -167,11 +170,13 @@ module _ (to : List ℕ) (perm : IsPerm to) (size : ℕ) (one : HaveLength to si
     pub before_within : k - length row < length xs
     before_within = omega (arith, found_size, had, row_some (omega (arith, lt)))
 
+    -- it has the item of the rows at that place
     before_item : get_or xs (k - length row) 0 ≡ get_or rows (k - length row) 0
     before_item =
         ap (λ ys. get_or ys (k - length row) 0) so
         ∙ get_or-take k rows (k - length row) 0 (omega (arith, had, row_some (omega (arith, lt))))
 
+    -- which is a place
     before_low : get_or xs (k - length row) 0 < length to
     before_low = subst (λ x. x < length to) (sym before_item) (rows_low (k - length row) (omega (arith, lt)))
 
@@ -322,6 +327,7 @@ IsWalked-suc to start step at old new lt w = record {
         (λ ne. get_or-set_other new at k true false ne ∙ t)
         (cases_eq k at)
 
+-- the same with the number of steps written as a sum
 pub IsWalked-more : (to : List ℕ) (start step at : ℕ) (old new : List Bool) → at < length new
     → IsWalked to start step at old new → IsWalked to start (step + 1) (slice_index to at) old (set new at true)
 IsWalked-more to start step at old new lt w =

@@ -106,6 +106,7 @@ lowest-at m (suc n) x y t zero lt = leb-true x y (and_parts (leb x y) (lowest m 
 lowest-at m (suc n) x y t (suc k) lt =
     lowest-at m n x (m y) (and_parts (leb x y) (lowest m n x (m y)) t).1 k (omega (arith, lt))
 
+-- an item that is least of those that the map makes of it passes the test
 pub lowest-from : (m : ℕ → ℕ) (n x y : ℕ) → ((k : ℕ) → k < n → x ≤ iterate m k y) → lowest m n x y ≡ true
 lowest-from m zero x y each = refl
 lowest-from m (suc n) x y each =

@@ -30,10 +30,11 @@ fixed i p cell = record {
   pipes = other_pipes i (p.name ∷ []);
 }
 
--- the two ends after the step
+-- the first end after the step
 abbrev pub fixed_a : Pipe → ℕ → Vert
 fixed_a p cell = record { name = p.a; kind = first_kind p cell }
 
+-- the second end after the step
 abbrev pub fixed_b : Pipe → ℕ → Vert
 fixed_b p cell = record { name = p.b; kind = second_kind p cell }
 

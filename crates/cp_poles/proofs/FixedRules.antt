@@ -121,24 +121,31 @@ kind_fixed p cell n differ na nb (v ∷ vs) =
 -- the five rules after the step
 module _ (i : Synchronized) (pipe : ℕ) (p : Pipe) (is : IsSynchronized i) (live : pipe_named i pipe ≡ Some p) (cell : ℕ)
     (fits : cell < 2 ^ 63) where
+  -- the ends of the pipe are right
   ends : HasRightEnds i.verts p
   ends = right_ends i pipe p is live
 
+  -- and so are its pairs
   pairs : HasRightPairs (graph i) p
   pairs = right_pairs i pipe p is live
 
+  -- the instance without the pipe keeps the rules
   fewer : IsSynchronized record { verts = i.verts; edges = i.edges; pipes = other_pipes i (p.name ∷ []) }
   fewer = IsSynchronized-fewer_pipes i (λ q. not (has (p.name ∷ []) q.name)) is
 
+  -- the step keeps the graph
   same_graph : graph (fixed i p cell) ≡ graph i
   same_graph = graph_fixed i p cell ends.differ
 
+  -- and the names of the vertices
   same_names : vert_names (fixed i p cell) ≡ vert_names i
   same_names = names_fixed p cell ends.differ i.verts
 
+  -- the edges of a vertex rise
   edges_rise : (v : ℕ) → rises (edges_of i v) ≡ true
   edges_rise v = rises_from (edges_of i v) (IsStrictlyIncreasing-filter _ (edge_names i) is.edges_named.rise)
 
+  -- the cells of the vertices after the step are small
   cells_fit : All (λ v. All (λ c. c < 2 ^ 63) (cell_of (fixed_vert p cell v).kind)) i.verts
   cells_fit k d lt =
       let fit_one = All-cons (λ c. c < 2 ^ 63) cell [] fits (All-nil (λ c. c < 2 ^ 63)) in
@@ -146,10 +153,12 @@ module _ (i : Synchronized) (pipe : ℕ) (p : Pipe) (is : IsSynchronized i) (liv
       (λ e. fit_one) (λ e. fit_one)
       (λ na nb. All-by_item (λ c. c < 2 ^ 63) (λ v. cell_of v.kind) i.verts is.cells_fit k d lt)
 
+  -- the partners in reverse arrange the edges of the second end
   seconds_arranged : IsPermutation (edges_of i p.b) (reverse (map (λ x. x.1) p.pairs))
   seconds_arranged = IsPermutation-trans (edges_of i p.b) (map (λ x. x.1) p.pairs)
       (reverse (map (λ x. x.1) p.pairs)) pairs.second (IsPermutation-reverse (map (λ x. x.1) p.pairs))
 
+  -- each vertex after the step has a right kind
   lists_right : All (λ v. IsRightKind (graph i) (fixed_vert p cell v).name (fixed_vert p cell v).kind) i.verts
   lists_right k d lt = fixed_cases p cell (slice_index_or i.verts k d)
       (λ w. IsRightKind (graph i) w.name w.kind) ends.differ
@@ -165,9 +174,11 @@ module _ (i : Synchronized) (pipe : ℕ) (p : Pipe) (is : IsSynchronized i) (liv
       ))
       (λ na nb. is.lists_right k d lt)
 
+  -- the pipe is found under its own name
   found : find (λ x. eqb x.name p.name) i.pipes ≡ Some p
   found = ap (λ n. find (λ x. eqb x.name n) i.pipes) (own_name i pipe p is live) ∙ live
 
+  -- the ends of the other pipes are P-vertices still
   ends_free : All (HasRightEnds (map (fixed_vert p cell) i.verts)) (other_pipes i (p.name ∷ []))
   ends_free k d lt =
       let old = fewer.ends_free k d lt in
@@ -179,6 +190,7 @@ module _ (i : Synchronized) (pipe : ℕ) (p : Pipe) (is : IsSynchronized i) (liv
         free_b = kind_fixed p cell q.b ends.differ apart.2 apart.3 i.verts ∙ old.free_b;
       }
 
+  -- after the step the instance keeps the rules
   pub IsSynchronized-fixed : IsSynchronized (fixed i p cell)
   IsSynchronized-fixed = record {
     verts_named = subst AreNames (sym same_names) is.verts_named;

@@ -50,6 +50,7 @@ module _ (i : Synchronized) (pipe : ℕ) (p : Pipe) (is : IsSynchronized i) (liv
   ends : HasRightEnds i.verts p
   ends = right_ends i pipe p is live
 
+  -- what the reverse of partners is, seen from u
   fits : FitsEnd i is p ends.differ (right_pairs i pipe p is live) u (opposite p u) (λ x. partner p u x)
       (λ x. partner p (opposite p u) x)
   fits = end-FitsEnd i is p ends.differ (right_pairs i pipe p is live) u end
@@ -58,6 +59,7 @@ module _ (i : Synchronized) (pipe : ℕ) (p : Pipe) (is : IsSynchronized i) (liv
   pub free_end : IsPVertex i u
   free_end = ⊎_elim (λ e. subst (IsPVertex i) e ends.free_a) (λ e. subst (IsPVertex i) e ends.free_b) end
 
+  -- it is a vertex
   pub live_end : Contains (vert_names i) u
   live_end = named-Contains i.verts u P free_end
 
@@ -69,14 +71,15 @@ module _ (i : Synchronized) (pipe : ℕ) (p : Pipe) (is : IsSynchronized i) (liv
   pub left-IsSynchronized : IsSynchronized left
   left-IsSynchronized = IsSynchronized-fewer_pipes i (λ q. not (has (p.name ∷ []) q.name)) is
 
-  -- the pipes that stay
+  -- the pipe is found by its name
   found : find (λ x. eqb x.name p.name) i.pipes ≡ Some p
   found = ap (λ n. find (λ x. eqb x.name n) i.pipes) (own_name i pipe p is live) ∙ live
 
+  -- have no end of p
   others : All (λ q. Apart p q) (other_pipes i (p.name ∷ []))
   others = others_apart p.name p i.pipes is.ends_apart found
 
-  -- do not end at u
+  -- so none of them ends at u
   pub others_off : All (HasNoEnd u) (other_pipes i (p.name ∷ []))
   others_off k d lt =
       let h = others k d lt in
@@ -90,6 +93,7 @@ module _ (i : Synchronized) (pipe : ℕ) (p : Pipe) (is : IsSynchronized i) (liv
       (λ x y there back. (y ≢ x) × IsPVertex i y × IsEnd p y)
       ((λ e. ends.differ (sym e)), ends.free_b, inr refl) (ends.differ, ends.free_a, inl refl) u end
 
+  -- it is a vertex
   pub live_other : Contains (vert_names i) (opposite p u)
   live_other = named-Contains i.verts (opposite p u) P other_end.1
 
@@ -142,6 +146,7 @@ module _ (i : Synchronized) (pipe : ℕ) (p : Pipe) (is : IsSynchronized i) (liv
         λ e. false≢true (sym none ∙ or_right (eqb q.a v) (eqb q.b v) (eq-eqb q.b v e)),
       )
 
+  -- the pole is a vertex
   pub live_pole : Contains (vert_names i) v
   live_pole = named-Contains i.verts v P free.free
 
@@ -206,6 +211,7 @@ pub record IsTurnable (i : Synchronized) (pipe end pole : ℕ) (lists : List (�
   pub rotation : IsRotationOf (graph i) (list_in lists)
   pub arranged : ArrangesEdges (graph i) end order
 
+-- a solution after FreePole is one that can be turned back
 pub free-IsTurnable : (i j : Synchronized) (pipe end pole : ℕ) (after : List (ℕ × List ℕ)) → IsSynchronized i
     → (allowed : Allowed i (FreePole pipe end pole)) → After i (FreePole pipe end pole) j → IsSolution j after
     → IsTurnable i pipe end pole after (wanted allowed.0 end (list_in after))

@@ -1,13 +1,13 @@
 -- FusePoles keeps solvability, and how a solution is turned back.
-use Rattle.std.proofs.Common.{◌≡◌, ◌≢◌, ℕ, true, false, Bool, ◌||◌, not, eqb, List, [], ◌∷◌, length, map, reverse, slice_index_or, sym, refl, ap, ◌∙◌, subst, inl, inr, ⊎_elim, arith}
+use Rattle.std.proofs.Common.{◌≡◌, ◌≢◌, ℕ, false, ◌||◌, not, eqb, List, [], ◌∷◌, map, reverse, slice_index_or, sym, refl, ap, ◌∙◌, subst, ⊎_elim}
 use Rattle.std.specs.Prelude.{◌↔◌, Some, find}
-use Rattle.std.specs.List.{All, Contains, filter}
+use Rattle.std.specs.List.{All, Contains}
 use Rattle.std.specs.Option.{option_map_or}
 use Rattle.std.specs.List.Sorted.{IsPermutation}
-use Rattle.std.proofs.lemmas.Bool.{cases_Bool, cases_eq, cond-false, cond-true, eqb-true, false≢true, ne_eqb, or_cases}
-use Rattle.std.proofs.lemmas.List.{get_or-map, length-map, reverse-reverse}
-use Rattle.std.proofs.lemmas.List.Elements.{All-cons, All-contains, All-filter, All-head, All-nil, All-tail}
-use Rattle.std.proofs.lemmas.List.Sorted.{All-permutation, Contains-permutation, IsPermutation-map, IsPermutation-sym, length_permutation}
+use Rattle.std.proofs.lemmas.Bool.{cases_eq, ne_eqb}
+use Rattle.std.proofs.lemmas.List.{reverse-reverse}
+use Rattle.std.proofs.lemmas.List.Elements.{All-cons, All-contains, All-filter, All-head, All-tail}
+use Rattle.std.proofs.lemmas.List.Sorted.{All-permutation, Contains-permutation, IsPermutation-map, IsPermutation-sym}
 use Rattle.cp_lists.specs.CyclicLists.{Distinct, Has}
 use Rattle.cp_lists.specs.Turns.{IsTurn}
 use Rattle.cp_lists.proofs.DistinctLists.{Has-Contains}
@@ -16,37 +16,36 @@ use Rattle.cp_lists.proofs.MappedLists.{Distinct-map_on}
 use Rattle.cp_lists.proofs.PermutedLists.{Distinct-IsPermutation}
 use Rattle.cp_lists.proofs.ReversedLists.{map-reverse}
 use Rattle.cp_lists.proofs.TurnedLists.{turn-map, turn-reverse, turn-sym, turn-trans, turn_mirrored}
-use Rattle.cp_conn.specs.NamedGraphs.{NamedGraph, edges_at, ends_at}
+use Rattle.cp_conn.specs.NamedGraphs.{NamedGraph, ends_at}
+use Rattle.cp_conn.proofs.NamedGraphs.{map_has}
 use Rattle.cp_maps.proofs.GluedVertices.{maps_agree}
 use Rattle.cp_board.specs.declared.parts.Pipe.{Pipe}
 use Rattle.cp_board.specs.declared.steps.Step.TheVariants.{FusePoles}
 use Rattle.cp_board.specs.Names.{has}
-use Rattle.cp_board.specs.Instances.{HasRightPairs, Synchronized, IsSynchronized, edges_of, graph, names_of_verts, pipe_at, pipe_named, vert_names}
-use Rattle.cp_board.specs.Changes.{other_pipes, pairs_by_first, pipes_by_name}
+use Rattle.cp_board.specs.Instances.{HasRightPairs, Synchronized, IsSynchronized, edges_of, graph, names_of_verts, pipe_named, vert_names}
+use Rattle.cp_board.specs.Changes.{pairs_by_first, pipes_by_name}
 use Rattle.cp_board.specs.Rotations.{IsRotationOf}
 use Rattle.cp_board.specs.Solutions.{IsMirror, IsSolution, Solves, first_of, list_in, second_of}
 use Rattle.cp_board.specs.Reductions.{KeepsSolvable}
-use Rattle.cp_board.proofs.DroppedPipes.{IsSynchronized-fewer_pipes}
 use Rattle.cp_board.specs.Effects.{After, IsFused}
-use Rattle.cp_board.specs.Steps.{Allowed, IsEnd, IsFusible, degree, opposite, partner}
-use Rattle.cp_board.proofs.NamedLists.{by_name_keeps, rises_from}
-use Rattle.cp_board.proofs.NumberOfNewNames.{Distinct-from_rises}
+use Rattle.cp_board.specs.Steps.{Allowed, IsEnd, IsFusible, opposite, partner}
+use Rattle.cp_board.proofs.NamedLists.{by_name_keeps}
 use Rattle.cp_poles.proofs.FoundItems.{All-found, All-unfiltered, Some-same}
-use Rattle.cp_poles.proofs.FreePoles.{IsTurnable, free_end, live_end, live_other, other_arranged, other_end, others_off, wanted_arranged}
-use Rattle.cp_poles.proofs.InstanceDarts.{edges_once}
-use Rattle.cp_poles.proofs.InstanceSystems.{bond-IsMirror, listed_edge}
-use Rattle.cp_poles.proofs.PipePartners.{by_end, end-FitsEnd, first_second, found_own, second_first}
+use Rattle.cp_poles.proofs.FreePoles.{IsTurnable, free_end, live_end, live_other, other_arranged, other_end, wanted_arranged}
+use Rattle.cp_synclaw.proofs.InstanceDarts.{edges_once}
+use Rattle.cp_synclaw.proofs.InstanceSystems.{listed_edge}
+use Rattle.cp_synclaw.proofs.MirroredBonds.{bond-IsMirror}
+use Rattle.cp_poles.proofs.FusiblePipes.{IsSynchronized-without_two, ends-apart, named_own, others-no_end_p, others-no_end_q, q_end, q_live, without_two}
+use Rattle.cp_poles.proofs.PipePartners.{HasPartners, by_end, end-FitsEnd, end-HasPartners, first_second, found_own, second_first}
 use Rattle.cp_poles.proofs.PermutedLists.{IsReordered-some}
-use Rattle.cp_poles.proofs.ReorderedSolutions.{HasNoEnd, Solves-reordered}
+use Rattle.cp_poles.proofs.ReorderedSolutions.{Solves-reordered}
 use Rattle.cp_poles.specs.Permuted.{IsReordered}
 use Rattle.cp_poles.specs.Wanted.{wanted}
 use Rattle.cp_poles.proofs.SmallPipes.{live_a, live_b, own_name, right_ends, right_pairs}
 
--- the ends of a pipe mirror each other, seen from one of them as from the first, and partners are partners of each other
-pub record IsSeenFrom (i : Synchronized) (p : Pipe) (s : ℕ → List ℕ) (u w : ℕ) (there back : ℕ → ℕ) : Type 0 where
-  pub mirrors : IsMirror there (s u) (s w) ↔ IsMirror (second_of p) (s p.a) (s p.b)
-  pub undone : (x : ℕ) → Contains (edges_of i u) x → back (there x) ≡ x
-  pub size : length (edges_of i u) ≡ degree p
+-- the ends of a pipe mirror each other, seen from one of them as from the first
+abbrev MirrorsFrom : Pipe → (ℕ → List ℕ) → ℕ → ℕ → (ℕ → ℕ) → (ℕ → ℕ) → Type 0
+MirrorsFrom p s u w there back = IsMirror there (s u) (s w) ↔ IsMirror (second_of p) (s p.a) (s p.b)
 
 -- a live pipe, an end u of it, and a rotation
 module _ (i : Synchronized) (pipe : ℕ) (p : Pipe) (is : IsSynchronized i) (live : pipe_named i pipe ≡ Some p) (u : ℕ)
@@ -55,6 +54,7 @@ module _ (i : Synchronized) (pipe : ℕ) (p : Pipe) (is : IsSynchronized i) (liv
   differ : p.a ≢ p.b
   differ = (right_ends i pipe p is live).differ
 
+  -- the pairs are right
   right : HasRightPairs (graph i) p
   right = right_pairs i pipe p is live
 
@@ -65,32 +65,20 @@ module _ (i : Synchronized) (pipe : ℕ) (p : Pipe) (is : IsSynchronized i) (liv
       turn-sym (s a) (reverse (map g (s b)))
       (turn_mirrored f g (s b) (s a) undone (turn-sym (reverse (map f (s a))) (s b) m))
 
-  at_a : IsSeenFrom i p s p.a p.b (second_of p) (first_of p)
-  at_a = record {
-    mirrors = (λ m. m, λ m. m);
-    undone = first_second i is p (right_ends i pipe p is live).differ (right_pairs i pipe p is live);
-    size = ap length (sym (right_pairs i pipe p is live).first) ∙ length-map p.pairs (λ (x : ℕ × ℕ). x.0);
-  }
-
-  at_b : IsSeenFrom i p s p.b p.a (first_of p) (second_of p)
-  at_b = record {
-    mirrors = (
-      other_side (first_of p) (second_of p) p.b p.a
-          (λ x h. second_first i is p differ right x
-          ((listed_edge i is s rotation.arranged p.b x (live_b i pipe p is live)).0 h)),
-      other_side (second_of p) (first_of p) p.a p.b
-          (λ x h. first_second i is p differ right x
-          ((listed_edge i is s rotation.arranged p.a x (live_a i pipe p is live)).0 h)),
-    );
-    undone = second_first i is p differ right;
-    size = sym (length_permutation (edges_at (graph i) p.b) (map (λ (x : ℕ × ℕ). x.1) p.pairs) right.second)
-        ∙ length-map p.pairs (λ (x : ℕ × ℕ). x.1);
-  }
+  -- seen from the second end
+  mirrors_at_b : MirrorsFrom p s p.b p.a (first_of p) (second_of p)
+  mirrors_at_b = (
+    other_side (first_of p) (second_of p) p.b p.a
+        (λ x h. second_first i is p differ right x
+        ((listed_edge i is s rotation.arranged p.b x (live_b i pipe p is live)).0 h)),
+    other_side (second_of p) (first_of p) p.a p.b
+        (λ x h. first_second i is p differ right x
+        ((listed_edge i is s rotation.arranged p.a x (live_a i pipe p is live)).0 h)),
+  )
 
   -- seen from u
-  pub seen : IsSeenFrom i p s u (opposite p u) (λ x. partner p u x) (λ x. partner p (opposite p u) x)
-  seen = by_end i is p (right_ends i pipe p is live).differ (right_pairs i pipe p is live) (IsSeenFrom i p s) at_a at_b
-      u end
+  pub mirrors_from : MirrorsFrom p s u (opposite p u) (λ x. partner p u x) (λ x. partner p (opposite p u) x)
+  mirrors_from = by_end i is p differ right (MirrorsFrom p s) ((λ m. m), (λ m. m)) mirrors_at_b u end
 
 -- the image of a list, item by item
 map_twice : {A B : Type 0} (f : A → B) (g : B → ℕ) (h : A → ℕ) (xs : List A) → ((x : A) → g (f x) ≡ h x)
@@ -98,51 +86,9 @@ map_twice : {A B : Type 0} (f : A → B) (g : B → ℕ) (h : A → ℕ) (xs : L
 map_twice f g h [] same = refl
 map_twice f g h (x ∷ xs) same = ap (λ y. y ∷ map g (map f xs)) (same x) ∙ ap (λ ys. h x ∷ ys) (map_twice f g h xs same)
 
--- what holds of all that pass holds of the rest
-All-filtered : {A : Type 0} (t : A → Bool) (holds : A → Type 0) (xs : List A) → All (λ x. t x ≡ true → holds x) xs
-    → All holds (filter t xs)
-All-filtered t holds [] h = All-nil holds
-All-filtered t holds (x ∷ xs) h =
-    let rest = All-filtered t holds xs (All-tail (λ y. t y ≡ true → holds y) x xs h) in
-    ⊎_elim
-    (λ b. subst (All holds) (sym (cond-true (t x) (x ∷ filter t xs) (filter t xs) b))
-    (All-cons holds x (filter t xs) (All-head (λ y. t y ≡ true → holds y) x xs h b) rest))
-    (λ b. subst (All holds) (sym (cond-false (t x) (x ∷ filter t xs) (filter t xs) b)) rest)
-    (cases_Bool (t x))
-
--- neither of two names is the one of two
-neither : (a b : Bool) → not (a || (b || false)) ≡ true → (not (a || false) ≡ true) × (not (b || false) ≡ true)
-neither true b e = absurd (false≢true e)
-neither false true e = absurd (false≢true e)
-neither false false e = (refl, refl)
-
--- an image of an item is one of the images
-image_Contains : {A B : Type 0} (f : A → B) (xs : List A) (x : A) → Contains xs x → Contains (map f xs) (f x)
-image_Contains f xs x c =
-    (c.0, omega (arith, c.1, length-map xs f), get_or-map f xs c.0 x (f x) c.1 ∙ ap f c.2)
-
 -- the ends of the pipe mirror each other
 abbrev mirrored_in : (ℕ → List ℕ) → Pipe → Type 0
 mirrored_in s r = IsMirror (second_of r) (s r.a) (s r.b)
-
--- the pipe q of a pole
-module _ (i : Synchronized) (is : IsSynchronized i) (v : ℕ) (q : Pipe) (matched : pipe_at i v ≡ Some q) where
-  -- it is found
-  own : All (λ x. find (λ y. eqb y.name x.name) i.pipes ≡ Some x) i.pipes
-  own = found_own (λ x. x.name) i.pipes
-      (Distinct-from_rises (map (λ x. x.name) i.pipes) (rises_from (map (λ x. x.name) i.pipes) is.pipes_named.rise))
-
-  -- under its name
-  pub pole_named : pipe_named i q.name ≡ Some q
-  pole_named = (All-found (λ x. eqb x.a v || eqb x.b v) (λ x. find (λ y. eqb y.name x.name) i.pipes ≡ Some x) i.pipes q
-      own matched).0
-
-  -- and the pole is an end of it
-  pub pole_end : IsEnd q v
-  pole_end =
-      let t = (All-found (λ x. eqb x.a v || eqb x.b v) (λ x. find (λ y. eqb y.name x.name) i.pipes ≡ Some x) i.pipes q
-      own matched).1 in
-      ⊎_elim (λ e. inl (eqb-true q.a v e)) (λ e. inr (eqb-true q.b v e)) (or_cases (eqb q.a v) (eqb q.b v) t)
 
 -- the pipes p of the end u and q of its pole v, and what goes along
 module _ (i : Synchronized) (pipe : ℕ) (p q : Pipe) (is : IsSynchronized i) (live : pipe_named i pipe ≡ Some p)
@@ -151,17 +97,19 @@ module _ (i : Synchronized) (pipe : ℕ) (p q : Pipe) (is : IsSynchronized i) (l
   abbrev g : NamedGraph
   g = graph i
 
-  -- the partners
+  -- the partner of an edge of u along p
   abbrev pu : ℕ → ℕ
   pu x = partner p u x
 
+  -- the partner of an edge of v
   abbrev qv : ℕ → ℕ
   qv x = partner q v x
 
-  -- the new pipe
+  -- the pair of the new pipe for an edge of u: its partner along p, and the partner along q of the edge it goes on as
   abbrev made : ℕ → ℕ × ℕ
   made x = (partner p u x, partner q v (fused.along x))
 
+  -- with the pairs of the step
   abbrev pub new_pipe : Pipe
   new_pipe = record {
     name = fused.name;
@@ -170,20 +118,27 @@ module _ (i : Synchronized) (pipe : ℕ) (p q : Pipe) (is : IsSynchronized i) (l
     pairs = pairs_by_first (map (λ x. (partner p u x, partner q v (fused.along x))) (edges_of i u));
   }
 
-  q_live : pipe_named i q.name ≡ Some q
-  q_live = pole_named i is v q fus.matched
+  -- q is found under its name
+  live_q : pipe_named i q.name ≡ Some q
+  live_q = q_live i pipe p q is live u v fus
 
-  q_end : IsEnd q v
-  q_end = pole_end i is v q fus.matched
+  -- the pole is an end of q
+  end_q : IsEnd q v
+  end_q = q_end i pipe p q is live u v fus
+
+  -- the partners of both
+  partners_p : HasPartners i is p (right_ends i pipe p is live).differ (right_pairs i pipe p is live) u (opposite p u)
+      pu (λ x. partner p (opposite p u) x)
+  partners_p = end-HasPartners i is p (right_ends i pipe p is live).differ (right_pairs i pipe p is live) u fus.end
+
+  -- the partners of the edges of v
+  partners_q : HasPartners i is q (right_ends i q.name q is live_q).differ (right_pairs i q.name q is live_q) v
+      (opposite q v) qv (λ x. partner q (opposite q v) x)
+  partners_q = end-HasPartners i is q (right_ends i q.name q is live_q).differ (right_pairs i q.name q is live_q) v
+      end_q
 
   -- a rotation
   module _ (s : ℕ → List ℕ) (rotation : IsRotationOf g s) where
-    seen_p : IsSeenFrom i p s u (opposite p u) pu (λ x. partner p (opposite p u) x)
-    seen_p = seen i pipe p is live u fus.end s rotation
-
-    seen_q : IsSeenFrom i q s v (opposite q v) qv (λ x. partner q (opposite q v) x)
-    seen_q = seen i q.name q is q_live v q_end s rotation
-
     -- the items of the list of u are its edges
     item : (x : ℕ) → Has x (s u) → Contains (edges_of i u) x
     item x h = (listed_edge i is s rotation.arranged u x (live_end i pipe p is live u fus.end)).0 h
@@ -192,6 +147,7 @@ module _ (i : Synchronized) (pipe : ℕ) (p q : Pipe) (is : IsSynchronized i) (l
     abbrev pairs : List (ℕ × ℕ)
     pairs = map made (edges_of i u)
 
+    -- the order of first edges only moves them
     pairs_kept : IsPermutation pairs new_pipe.pairs
     pairs_kept = by_name_keeps (λ x. x.0) pairs
 
@@ -202,8 +158,8 @@ module _ (i : Synchronized) (pipe : ℕ) (p q : Pipe) (is : IsSynchronized i) (l
         (IsPermutation-map (λ x. x.0) pairs new_pipe.pairs pairs_kept)
         (subst Distinct (sym (map_twice made (λ x. x.0) pu (edges_of i u) (λ x. refl)))
         (Distinct-map_on pu (edges_of i u)
-        (λ x y hx hy e. sym (seen_p.undone x ((Has-Contains x (edges_of i u)).0 hx))
-        ∙ ap (λ z. partner p (opposite p u) z) e ∙ seen_p.undone y ((Has-Contains y (edges_of i u)).0 hy))
+        (λ x y hx hy e. sym (partners_p.undone x ((Has-Contains x (edges_of i u)).0 hx))
+        ∙ ap (λ z. partner p (opposite p u) z) e ∙ partners_p.undone y ((Has-Contains y (edges_of i u)).0 hy))
         (filter-Distinct (ends_at g u) g.edges (edges_once i is))))
 
     -- the partner of the partner of x is the partner of the edge as which x goes on
@@ -212,13 +168,13 @@ module _ (i : Synchronized) (pipe : ℕ) (p q : Pipe) (is : IsSynchronized i) (l
         ap (λ o. option_map_or (λ z. z.1) o 0)
         (All-contains (λ y. find (λ z. eqb z.0 y.0) new_pipe.pairs ≡ Some y) new_pipe.pairs (made x)
         (found_own (λ z. z.0) new_pipe.pairs firsts_once)
-        (Contains-permutation pairs new_pipe.pairs (made x) pairs_kept (image_Contains made (edges_of i u) x c)))
+        (Contains-permutation pairs new_pipe.pairs (made x) pairs_kept (map_has made (edges_of i u) x c)))
 
     -- the poles mirror each other
     poles : IsMirror fused.along (s u) (s v)
     poles = bond-IsMirror i is s rotation u v (live_end i pipe p is live u fus.end)
-        (live_end i q.name q is q_live v q_end) fus.bond
-        (seen_p.size ∙ sym fus.same ∙ sym seen_q.size) fused.along fused.is_along
+        (live_end i q.name q is live_q v end_q) fus.bond
+        (partners_p.size ∙ sym fus.same ∙ sym partners_q.size) fused.along fused.is_along
 
     -- where p mirrors its ends, the new pipe asks for what q asks for
     pub through : IsMirror pu (s u) (s (opposite p u))
@@ -247,14 +203,7 @@ module _ (i : Synchronized) (pipe : ℕ) (p q : Pipe) (is : IsSynchronized i) (l
 
   -- the pipes that stay
   abbrev others : List Pipe
-  others = other_pipes i (p.name ∷ q.name ∷ [])
-
-  -- the instance without the two pipes
-  abbrev left : Synchronized
-  left = record { verts = i.verts; edges = i.edges; pipes = others }
-
-  left_rules : IsSynchronized left
-  left_rules = IsSynchronized-fewer_pipes i (λ r. not (has (p.name ∷ q.name ∷ []) r.name)) is
+  others = (without_two i p q).pipes
 
   -- what the step makes
   after_is : j ≡ record { verts = i.verts; edges = i.edges; pipes = pipes_by_name (new_pipe ∷ others) }
@@ -263,6 +212,7 @@ module _ (i : Synchronized) (pipe : ℕ) (p q : Pipe) (is : IsSynchronized i) (l
       ∙ ap (λ z. record { verts = i.verts; edges = z; pipes = j.pipes }) fused.edges
       ∙ ap (λ z. record { verts = i.verts; edges = i.edges; pipes = z }) fused.pipes
 
+  -- p is found under its own name
   p_named : pipe_named i p.name ≡ Some p
   p_named = subst (λ n. pipe_named i n ≡ Some p) (sym (own_name i pipe p is live)) live
 
@@ -270,53 +220,27 @@ module _ (i : Synchronized) (pipe : ℕ) (p q : Pipe) (is : IsSynchronized i) (l
   all_pipes : (holds : Pipe → Type 0) → holds p → holds q → All holds others → All holds i.pipes
   all_pipes holds hp hq rest k d lt =
       let r : Pipe = slice_index_or i.pipes k d in
-      let found : pipe_named i r.name ≡ Some r = own i is v q fus.matched k d lt in
+      let found : pipe_named i r.name ≡ Some r = named_own i is k d lt in
       ⊎_elim
       (λ (e : r.name ≡ p.name).
       subst holds (Some-same p r (sym p_named ∙ subst (λ n. pipe_named i n ≡ Some r) e found)) hp)
       (λ np. ⊎_elim
       (λ (e : r.name ≡ q.name).
-      subst holds (Some-same q r (sym q_live ∙ subst (λ n. pipe_named i n ≡ Some r) e found)) hq)
+      subst holds (Some-same q r (sym live_q ∙ subst (λ n. pipe_named i n ≡ Some r) e found)) hq)
       (λ nq. All-unfiltered (λ x. not (has (p.name ∷ q.name ∷ []) x.name)) holds i.pipes rest k d lt
       (ap (λ b. not (b || (eqb r.name q.name || false))) (ne_eqb r.name p.name np)
       ∙ ap (λ b. not (b || false)) (ne_eqb r.name q.name nq)))
       (cases_eq r.name q.name))
       (cases_eq r.name p.name)
 
-  -- the others do not end at u nor at v
-  off_u : All (HasNoEnd u) others
-  off_u = All-filtered (λ x. not (has (p.name ∷ q.name ∷ []) x.name)) (HasNoEnd u) i.pipes
-      (λ k d lt t.
-      let r : Pipe = slice_index_or i.pipes k d in
-      All-unfiltered (λ x. not (has (p.name ∷ []) x.name)) (HasNoEnd u) i.pipes
-      (others_off i pipe p is live u fus.end) k d lt
-      (neither (eqb r.name p.name) (eqb r.name q.name) t).0)
-
-  off_v : All (HasNoEnd v) others
-  off_v = All-filtered (λ x. not (has (p.name ∷ q.name ∷ []) x.name)) (HasNoEnd v) i.pipes
-      (λ k d lt t.
-      let r : Pipe = slice_index_or i.pipes k d in
-      All-unfiltered (λ x. not (has (q.name ∷ []) x.name)) (HasNoEnd v) i.pipes
-      (others_off i q.name q is q_live v q_end) k d lt
-      (neither (eqb r.name p.name) (eqb r.name q.name) t).1)
-
-  -- q ends at no end of p
-  apart_q : (x : ℕ) → IsEnd p x → HasNoEnd x q
-  apart_q x e =
-      (All-found (λ r. eqb r.a v || eqb r.b v) (λ r. not (has (p.name ∷ []) r.name) ≡ true → HasNoEnd x r) i.pipes q
-      (All-unfiltered (λ r. not (has (p.name ∷ []) r.name)) (HasNoEnd x) i.pipes (others_off i pipe p is live x e))
-      fus.matched).0
-      (ap (λ b. not (b || false)) (ne_eqb q.name p.name fus.another))
-
+  -- the other ends are neither u nor v
   w_not_v : opposite p u ≢ v
-  w_not_v e =
-      let h = apart_q (opposite p u) (other_end i pipe p is live u fus.end).2 in
-      ⊎_elim (λ at. h.0 (at ∙ sym e)) (λ at. h.1 (at ∙ sym e)) q_end
+  w_not_v = ends-apart i pipe p q is live u v fus (opposite p u) v (other_end i pipe p is live u fus.end).2 end_q
 
+  -- the other end of q is not u
   w2_not_u : opposite q v ≢ u
   w2_not_u e =
-      let h = apart_q u fus.end in
-      ⊎_elim (λ at. h.0 (at ∙ e)) (λ at. h.1 (at ∙ e)) (other_end i q.name q is q_live v q_end).2
+      ends-apart i pipe p q is live u v fus u (opposite q v) fus.end (other_end i q.name q is live_q v end_q).2 (sym e)
 
   -- a solution is one after the step
   pub Solves-after_fuse : (s : ℕ → List ℕ) → Solves i s → Solves j s
@@ -331,10 +255,11 @@ module _ (i : Synchronized) (pipe : ℕ) (p q : Pipe) (is : IsSynchronized i) (l
   }
     where
       of_p : IsMirror (partner p u) (s u) (s (opposite p u))
-      of_p = (seen_p s h.rotation).mirrors.1 (All-found (λ x. eqb x.name pipe) (mirrored_in s) i.pipes p h.mirrored live).0
+      of_p = (mirrors_from i pipe p is live u fus.end s h.rotation).1
+          (All-found (λ x. eqb x.name pipe) (mirrored_in s) i.pipes p h.mirrored live).0
 
       of_q : IsMirror (partner q v) (s v) (s (opposite q v))
-      of_q = (seen_q s h.rotation).mirrors.1
+      of_q = (mirrors_from i q.name q is live_q v end_q s h.rotation).1
           (All-found (λ x. eqb x.a v || eqb x.b v) (mirrored_in s) i.pipes q h.mirrored fus.matched).0
 
       mirror : (mirrored_in s) new_pipe
@@ -359,7 +284,7 @@ module _ (i : Synchronized) (pipe : ℕ) (p q : Pipe) (is : IsSynchronized i) (l
           (by_name_keeps (λ r. r.name) (new_pipe ∷ others)))
           told.mirrored
 
-      left_solved : Solves left s
+      left_solved : Solves (without_two i p q) s
       left_solved = record {
         rotation = told.rotation;
         mirrored = All-tail (mirrored_in s) new_pipe others both;
@@ -367,17 +292,20 @@ module _ (i : Synchronized) (pipe : ℕ) (p q : Pipe) (is : IsSynchronized i) (l
         in_direction = told.in_direction;
       }
 
-      solved : Solves left s'
-      solved = Solves-reordered left left_rules s s' u v (wanted p u s) re (free_end i pipe p is live u fus.end)
-          (free_end i q.name q is q_live v q_end) off_u off_v left_solved
+      solved : Solves (without_two i p q) s'
+      solved = Solves-reordered (without_two i p q) (IsSynchronized-without_two i pipe p q is live u v fus) s s' u v
+          (wanted p u s) re (free_end i pipe p is live u fus.end)
+          (free_end i q.name q is live_q v end_q)
+          (others-no_end_p i pipe p q is live u v fus u fus.end)
+          (others-no_end_q i pipe p q is live u v fus v end_q) left_solved
 
       same : s' (opposite p u) ≡ s (opposite p u)
       same = re.others (opposite p u) (live_other i pipe p is live u fus.end)
           (other_end i pipe p is live u fus.end).0 w_not_v
 
       same_q : s' (opposite q v) ≡ s (opposite q v)
-      same_q = re.others (opposite q v) (live_other i q.name q is q_live v q_end) w2_not_u
-          (other_end i q.name q is q_live v q_end).0
+      same_q = re.others (opposite q v) (live_other i q.name q is live_q v end_q) w2_not_u
+          (other_end i q.name q is live_q v end_q).0
 
       mirror_p : mirrored_in s' p
       mirror_p = (end-FitsEnd i is p (right_ends i pipe p is live).differ (right_pairs i pipe p is live) u
@@ -391,19 +319,20 @@ module _ (i : Synchronized) (pipe : ℕ) (p q : Pipe) (is : IsSynchronized i) (l
           (All-head (mirrored_in s) new_pipe others both))
 
       mirror_q : mirrored_in s' q
-      mirror_q = (seen_q s' re.rotation).mirrors.0
+      mirror_q = (mirrors_from i q.name q is live_q v end_q s' re.rotation).0
           (turn-trans (reverse (map qv (s' v))) (reverse (map (second_of new_pipe) (s' (opposite p u))))
           (s' (opposite q v))
           (turn-sym (reverse (map (second_of new_pipe) (s' (opposite p u)))) (reverse (map qv (s' v)))
-          (through s' re.rotation ((seen_p s' re.rotation).mirrors.1 mirror_p)))
+          (through s' re.rotation ((mirrors_from i pipe p is live u fus.end s' re.rotation).1 mirror_p)))
           new_mirror)
 
   -- the graph stays
   pub rotation_fused : (s : ℕ → List ℕ) → Solves j s → IsRotationOf g s
   rotation_fused s h = (subst (λ z. Solves z s) after_is h).rotation
 
+  -- the pole is a vertex
   pub pole_live : Contains (vert_names i) v
-  pole_live = live_end i q.name q is q_live v q_end
+  pole_live = live_end i q.name q is live_q v end_q
 
 -- the pipes of the effect are those of the condition
 fusible_after : (i : Synchronized) (pipe u v : ℕ) (j : Synchronized) (allowed : Allowed i (FusePoles pipe u v))

@@ -27,7 +27,7 @@ use Rattle.cp_poles.specs.Kept.{IsKeptBy, IsKeptOrder}
 use Rattle.cp_poles.specs.Turned.{IsTurningByPlace}
 use Rattle.cp_poles.proofs.CycleWalks.{iterate-carry}
 use Rattle.cp_poles.proofs.FoundItems.{Some-same}
-use Rattle.cp_poles.proofs.InstanceDarts.{edges_once}
+use Rattle.cp_synclaw.proofs.InstanceDarts.{edges_once}
 use Rattle.cp_poles.proofs.TorusTurns.{along, along_turned, back, equal_ends, is_along, is_back}
 
 -- a list by its places
@@ -117,6 +117,7 @@ module _ (i : Synchronized) (pipe : ℕ) (p : Pipe) (is : IsSynchronized i) (liv
   sized : Permutes (length es) (slice_index to)
   sized = subst (λ n. Permutes n (slice_index to)) tells.one_each tells.permutes
 
+  -- no edge stands twice
   once : Distinct es
   once = filter-Distinct (ends_at (graph i) p.a) (graph i).edges (edges_once i is)
 

@@ -10,8 +10,6 @@ mod FirstItems
 mod RisingPlaces
 mod NumberedParts
 mod TakenEdges
-mod InstanceDarts
-mod InstanceSystems
 mod NumberedBonds
 mod PermutedExists
 mod PermutedLists
@@ -27,5 +25,11 @@ mod CycleWalks
 mod TurnedPlaces
 mod CycleOrders
 mod KeptOrders
-mod TestedPipes
+mod FusiblePipes
 mod FusedSolutions
+mod NamedOrders
+mod AddedPipes
+mod FusedPipes
+mod FusedRewrites
+mod ToldPipes
+mod TestedPipes

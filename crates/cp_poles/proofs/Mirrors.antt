@@ -60,12 +60,15 @@ module _
     (s : ℕ → List ℕ)
     (at_a : ArrangesEdges (graph i) p.a (s p.a))
     (at_b : ArrangesEdges (graph i) p.b (s p.b)) where
+  -- the first edges of the pairs
   abbrev firsts : List ℕ
   firsts = map (λ x. x.0) p.pairs
 
+  -- the second edges of the pairs
   abbrev seconds : List ℕ
   seconds = map (λ x. x.1) p.pairs
 
+  -- the list of b that mirrors that of a
   abbrev mirrored : List ℕ
   mirrored = reverse (map (second_of p) (s p.a))
 
@@ -73,6 +76,7 @@ module _
   edges_rise : (v : ℕ) → rises (edges_of i v) ≡ true
   edges_rise v = rises_from (edges_of i v) (IsStrictlyIncreasing-filter _ (edge_names i) is.edges_named.rise)
 
+  -- the first edges rise
   firsts_rise : rises firsts ≡ true
   firsts_rise = subst (λ z. rises z ≡ true) (sym right.first) (edges_rise p.a)
 
@@ -81,30 +85,36 @@ module _
   partners = map_pairs (second_of p) p.pairs
       (λ k d lt. ap (λ o. option_map_or (λ z. z.1) o 0) (found_at (λ z. z.0) p.pairs k d firsts_rise lt))
 
+  -- the list of a has the first edges
   firsts_arranged : IsPermutation firsts (s p.a)
   firsts_arranged = subst (λ z. IsPermutation z (s p.a)) (sym right.first) at_a
 
+  -- no edge stands twice in the list of a
   distinct_a : Distinct (s p.a)
   distinct_a = Distinct-IsPermutation firsts (s p.a) firsts_arranged (Distinct-from_rises firsts firsts_rise)
 
+  -- nor in that of b
   distinct_b : Distinct (s p.b)
   distinct_b = Distinct-IsPermutation (edges_of i p.b) (s p.b) at_b
       (Distinct-from_rises (edges_of i p.b) (edges_rise p.b))
 
+  -- nor among the second edges
   distinct_seconds : Distinct seconds
   distinct_seconds = Distinct-IsPermutation (edges_of i p.b) seconds right.second
       (Distinct-from_rises (edges_of i p.b) (edges_rise p.b))
 
+  -- an edge of the list of a is a first edge
   to_firsts : (d : ℕ) → Has d (s p.a) → Has d firsts
   to_firsts d h = Has-IsPermutation d (s p.a) firsts (IsPermutation-sym firsts (s p.a) firsts_arranged) h
 
-  -- the mirrored list has the items of the list of b, each once
+  -- no edge stands twice in the mirrored list
   mirrored_once : Distinct mirrored
   mirrored_once = Distinct-reverse (map (second_of p) (s p.a))
       (Distinct-map_on (second_of p) (s p.a)
       (λ x y hx hy e. Distinct-map_on_apart (second_of p) firsts x y (subst Distinct (sym partners) distinct_seconds) (to_firsts x hx) (to_firsts y hy) e)
       distinct_a)
 
+  -- its items are in the list of b
   mirrored_to : (d : ℕ) → Has d mirrored → Has d (s p.b)
   mirrored_to d h =
       let w = map_on-Has (second_of p) d (s p.a) (reverse-Has d (map (second_of p) (s p.a)) h) in
@@ -112,6 +122,7 @@ module _
       Has-IsPermutation d (edges_of i p.b) (s p.b) at_b
       (Has-IsPermutation d seconds (edges_of i p.b) (IsPermutation-sym (edges_of i p.b) seconds right.second) (subst (λ x. Has x seconds) w.2 there))
 
+  -- and those of the list of b are in it
   mirrored_from : (d : ℕ) → Has d (s p.b) → Has d mirrored
   mirrored_from d h =
       let there = Has-IsPermutation d (edges_of i p.b) seconds right.second
@@ -147,13 +158,14 @@ module _
       (turn-reverse (map (second_of p) (directed back firsts)) (map (second_of p) (s p.a))
       (turn-map (second_of p) (directed back firsts) (s p.a) turn)))
 
-  -- where a stands in a direction, b mirrors it exactly where b stands in this direction
+  -- where a stands in a direction and b mirrors it, b stands in this direction, too
   pub direction_from_mirror : (back : Bool) → IsTurn (directed back firsts) (s p.a)
       → IsMirror (second_of p) (s p.a) (s p.b)
       → IsTurn (directed back (turned_to_least (reverse seconds))) (s p.b)
   direction_from_mirror back turn mirror =
       turn-trans (directed back (turned_to_least (reverse seconds))) mirrored (s p.b) (mirror_turn back turn) mirror
 
+  -- and where b stands in the direction of a, b mirrors a
   pub mirror_from_direction : (back : Bool) → IsTurn (directed back firsts) (s p.a)
       → IsTurn (directed back (turned_to_least (reverse seconds))) (s p.b)
       → IsMirror (second_of p) (s p.a) (s p.b)

@@ -63,6 +63,7 @@ cell_once : (kind : Kind) → length (cell_of kind) ≤ 1
 cell_once P = omega arith
 cell_once (Q c psi) = omega arith
 
+-- the cells of some vertices
 abbrev cells_in : List Vert → List ℕ
 cells_in vs = flat_map (λ v. cell_of v.kind) vs
 

@@ -16,27 +16,30 @@ use Rattle.cp_rotlaw.proofs.NamedMaps.{Has-numbers, numbers-below}
 use Rattle.cp_board.specs.Instances.{Synchronized, IsSynchronized, graph}
 use Rattle.cp_board.specs.Rotations.{ArrangesEdges, system}
 use Rattle.cp_sync.specs.Numbering.{numbered_ends}
-use Rattle.cp_poles.proofs.InstanceDarts.{edge_joins, edges_once, live_ends, live_far, two_each-first, two_each-second}
-use Rattle.cp_poles.proofs.InstanceSystems.{system_edges}
+use Rattle.cp_synclaw.proofs.InstanceDarts.{edge_joins, edges_once, live_ends, live_far, two_each-first, two_each-second}
+use Rattle.cp_synclaw.proofs.InstanceSystems.{system_edges}
 use Rattle.cp_poles.proofs.NumberedParts.{places_connected, rank_one}
 
 -- an instance and lists of its vertices
 module _ (i : Synchronized) (is : IsSynchronized i) (s : ℕ → List ℕ)
     (arranged : All (λ v. ArrangesEdges (graph i) v (s v)) (graph i).verts) where
-  -- the graph, and that of its system
+  -- the graph of the instance
   abbrev g : NamedGraph
   g = graph i
 
+  -- its rotation system
   abbrev r : System
   r = system g s
 
+  -- the graph of the system, by numbers
   abbrev G : NamedGraph
   G = graph_of r
 
-  -- the places of names
+  -- the place of the name of a vertex
   abbrev at : ℕ → ℕ
   at w = rank g.verts w
 
+  -- the place of an edge
   abbrev nth : ℕ → ℕ
   nth e = rank g.edges e
 

@@ -47,10 +47,11 @@ module _ (g : NamedGraph)
   abbrev pub name : ℕ → ℕ
   name k = get_or g.verts k 0
 
-  -- the pairs without the two, and their places
+  -- the ends of the edges that end at neither u nor v
   abbrev pub named_pairs : List (ℕ × ℕ)
   named_pairs = without_vertex u (without_vertex v (pairs g))
 
+  -- the pairs of places without the two
   abbrev pub placed_pairs : List (ℕ × ℕ)
   placed_pairs = without_vertex (place u) (without_vertex (place v) (map (numbered_ends g) g.edges))
 

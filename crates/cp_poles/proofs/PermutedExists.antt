@@ -67,13 +67,15 @@ first_other p c (suc n) =
 -- a rotation system with a bond, and an order of the darts of its first pole
 module _ (r : System) (is : IsRotation r) (u v : ℕ) (ltu : u < r.vertices) (ltv : v < r.vertices)
     (bond : IsBond (graph_of r) u v) (order : List ℕ) (arr : Arranges r.at u order) where
-  -- the parts
+  -- the number of the component of each vertex where u and v are removed
   abbrev numbers : List ℕ
   numbers = component_numbers (pairs_between r u v) r.vertices
 
+  -- the part of a dart
   abbrev part : ℕ → ℕ
   part = dart_part r u v numbers
 
+  -- the numbers tell the parts
   parts : ArePoleParts r u v (slice_index numbers) part
   parts = ArePoleParts-numbers r is u v ltu ltv numbers
       (component_numbers-AreNumbered (pairs_between r u v) r.vertices) bond
@@ -86,6 +88,7 @@ module _ (r : System) (is : IsRotation r) (u v : ℕ) (ltu : u < r.vertices) (lt
   own : (w d : ℕ) → IsDartOf r w d → Has d (list_of r w)
   own w d at = subst (λ x. Has d (list_of r x)) at.stands ((Listed-system r is).own d at.within)
 
+  -- the test tells the parts that are entered
   test : IsEnteredTest r u part entered
   test = record {
     yes = λ d at. has_yes (part d) (map part (list_of r u)) (Has-map_on part d (list_of r u) (own u d at));
@@ -138,6 +141,7 @@ module _ (r : System) (is : IsRotation r) (u v : ℕ) (ltu : u < r.vertices) (lt
   abbrev row : List ℕ
   row = permuted_row r v part entered ws order
 
+  -- it is the list of v for the order
   row-IsPermutedRow : 1 < length order → IsPermutedRow r u v order row
   row-IsPermutedRow many = record {
     number = slice_index numbers;

@@ -19,8 +19,8 @@ use Rattle.cp_rotlaw.specs.Poles.{IsPermutedAt}
 use Rattle.cp_rotlaw.proofs.PermutedSystems.{HasPermuted}
 use Rattle.cp_board.specs.Instances.{Synchronized, IsSynchronized, graph}
 use Rattle.cp_board.specs.Rotations.{ArrangesEdges, IsRotationOf, dart, system}
-use Rattle.cp_poles.proofs.InstanceDarts.{dart_edge, dart_low, dart_of_edge, dart_stands, edges_once, live_at, verts_once}
-use Rattle.cp_poles.proofs.InstanceSystems.{listed_edge, system_darts, system_list, system-IsRotation}
+use Rattle.cp_synclaw.proofs.InstanceDarts.{dart_edge, dart_low, dart_of_edge, dart_stands, edges_once, live_at, verts_once}
+use Rattle.cp_synclaw.proofs.InstanceSystems.{listed_edge, system_darts, system_list, system-IsRotation}
 use Rattle.cp_poles.proofs.NumberedBonds.{IsBond-numbered}
 use Rattle.cp_poles.proofs.NumberedParts.{rank_one}
 use Rattle.cp_poles.proofs.PermutedExists.{HasPermuted-some}
@@ -47,15 +47,17 @@ module _ (i : Synchronized) (is : IsSynchronized i) (s : ℕ → List ℕ) (rota
 
   -- an order of edges of a vertex is one of its darts
   module _ (u : ℕ) (order : List ℕ) (cu : Contains g.verts u) (arr : ArrangesEdges g u order) where
-    -- the edges of the order
+    -- the items of the order are edges of u
     order_edge : (e : ℕ) → Has e order → Contains (edges_at g u) e
     order_edge e h =
         (Has-Contains e (edges_at g u)).0
         (Has-IsPermutation e order (edges_at g u) (IsPermutation-sym (edges_at g u) order arr) h)
 
+    -- and each edge of the vertex is in it
     edge_order : (e : ℕ) → Contains (edges_at g u) e → Has e order
     edge_order e c = Has-IsPermutation e (edges_at g u) order arr ((Has-Contains e (edges_at g u)).1 c)
 
+    -- each edge stands once in it
     order_once : Distinct order
     order_once = Distinct-IsPermutation (edges_at g u) order arr
         (filter-Distinct (ends_at g u) g.edges (edges_once i is))

@@ -4,9 +4,9 @@ use Rattle.std.specs.Prelude.{Some, find}
 use Rattle.std.specs.List.{All, Contains}
 use Rattle.std.specs.Option.{option_map_or}
 use Rattle.std.proofs.lemmas.Bool.{cond-false, cond-true, eq-eqb, ne_eqb}
-use Rattle.std.proofs.lemmas.List.{get_or_default, reverse-reverse}
+use Rattle.std.proofs.lemmas.List.{get_or_default, length-map, reverse-reverse}
 use Rattle.std.proofs.lemmas.List.Elements.{All-contains, All-nil, All-cons, All-head, All-tail}
-use Rattle.std.proofs.lemmas.List.Sorted.{Contains-permutation, IsPermutation-map, IsPermutation-reverse, IsPermutation-sym, IsPermutation-trans}
+use Rattle.std.proofs.lemmas.List.Sorted.{Contains-permutation, IsPermutation-map, IsPermutation-reverse, IsPermutation-sym, IsPermutation-trans, length_permutation}
 use Rattle.cp_lists.specs.CyclicLists.{Distinct, Has}
 use Rattle.cp_lists.specs.Turns.{IsTurn}
 use Rattle.cp_lists.proofs.DistinctLists.{Has-Contains, has_lacks}
@@ -21,7 +21,7 @@ use Rattle.cp_board.specs.Instances.{Synchronized, IsSynchronized, HasRightPairs
 use Rattle.cp_board.specs.Rotations.{ArrangesEdges}
 use Rattle.cp_board.specs.Solutions.{IsMirror, first_of, second_of}
 use Rattle.cp_board.specs.Steps.{IsEnd, opposite, partner}
-use Rattle.cp_poles.proofs.InstanceDarts.{edges_once}
+use Rattle.cp_synclaw.proofs.InstanceDarts.{edges_once}
 use Rattle.cp_lists.proofs.PermutedLists.{Distinct-IsPermutation}
 
 -- in a list with names of its own each item is found under its name
@@ -58,10 +58,11 @@ module _ (i : Synchronized) (is : IsSynchronized i) (p : Pipe) (differ : p.a ≢
   abbrev g : NamedGraph
   g = graph i
 
-  -- the edges of the two ends in the order of the pairs
+  -- the first edges of the pairs
   abbrev firsts : List ℕ
   firsts = map (λ x. x.0) p.pairs
 
+  -- the second edges, in the order of the pairs
   abbrev seconds : List ℕ
   seconds = map (λ x. x.1) p.pairs
 
@@ -69,34 +70,37 @@ module _ (i : Synchronized) (is : IsSynchronized i) (p : Pipe) (differ : p.a ≢
   pub edges_at-Distinct : (v : ℕ) → Distinct (edges_at g v)
   edges_at-Distinct v = filter-Distinct (ends_at g v) g.edges (edges_once i is)
 
-  -- each first edge has its second, and the other way round
+  -- the partner of the first edge of a pair is its second edge
   seconds_found : All (λ x. second_of p x.0 ≡ x.1) p.pairs
   seconds_found k d lt =
       ap (λ o. option_map_or (λ z. z.1) o 0)
       (found_own (λ x. x.0) p.pairs (subst Distinct (sym right.first) (edges_at-Distinct p.a)) k d lt)
 
+  -- each second edge has its first
   firsts_found : All (λ x. first_of p x.1 ≡ x.0) p.pairs
   firsts_found k d lt =
       ap (λ o. option_map_or (λ z. z.0) o 0)
       (found_own (λ x. x.1) p.pairs
       (Distinct-IsPermutation (edges_at g p.b) seconds right.second (edges_at-Distinct p.b)) k d lt)
 
-  -- the partners of an end
+  -- the partners of the first edges are the second edges, in the order of the pairs
   pub seconds_are : map (second_of p) firsts ≡ seconds
   seconds_are = map_each (second_of p) (λ x. x.0) (λ x. x.1) p.pairs seconds_found
 
+  -- the partners of the second edges are the first ones
   firsts_are : map (first_of p) seconds ≡ firsts
   firsts_are = map_each (first_of p) (λ x. x.1) (λ x. x.0) p.pairs firsts_found
 
-  -- an edge of an end is one of a pair
+  -- each edge of the first end is the first of a pair
   pair_of_first : (x : ℕ) → Contains (edges_at g p.a) x → (y : ℕ × ℕ) × Contains p.pairs y × (y.0 ≡ x)
   pair_of_first x c = map_from (λ y. y.0) p.pairs x (subst (λ zs. Contains zs x) (sym right.first) c)
 
+  -- an edge of the second end is one of a pair
   pair_of_second : (x : ℕ) → Contains (edges_at g p.b) x → (y : ℕ × ℕ) × Contains p.pairs y × (y.1 ≡ x)
   pair_of_second x c =
       map_from (λ y. y.1) p.pairs x (Contains-permutation (edges_at g p.b) seconds x right.second c)
 
-  -- partners are partners of each other
+  -- the partner of the partner of an edge of the first end is this edge
   pub first_second : (x : ℕ) → Contains (edges_at g p.a) x → first_of p (second_of p x) ≡ x
   first_second x c =
       let y = pair_of_first x c in
@@ -104,6 +108,7 @@ module _ (i : Synchronized) (is : IsSynchronized i) (p : Pipe) (differ : p.a ≢
       let back = All-contains (λ z. first_of p z.1 ≡ z.0) p.pairs y.0 firsts_found y.1 in
       ap (λ z. first_of p (second_of p z)) (sym y.2) ∙ ap (first_of p) there ∙ back ∙ y.2
 
+  -- a second edge is the partner of its partner
   pub second_first : (x : ℕ) → Contains (edges_at g p.b) x → second_of p (first_of p x) ≡ x
   second_first x c =
       let y = pair_of_second x c in
@@ -147,6 +152,7 @@ module _ (i : Synchronized) (is : IsSynchronized i) (p : Pipe) (differ : p.a ≢
   item_edge w xs arr x h =
       Contains-permutation xs (edges_at g w) x (IsPermutation-sym (edges_at g w) xs arr) ((Has-Contains x xs).0 h)
 
+  -- so it is for the first end
   at_first : FitsEnd p.a p.b (second_of p) (first_of p)
   at_first = record {
     arranges = λ xs arr. subst (λ zs. IsPermutation zs (reverse (map (first_of p) xs))) (firsts_are ∙ right.first)
@@ -164,6 +170,7 @@ module _ (i : Synchronized) (is : IsSynchronized i) (p : Pipe) (differ : p.a ≢
     undone = second_first;
   }
 
+  -- and for the second end
   at_second : FitsEnd p.b p.a (first_of p) (second_of p)
   at_second = record {
     arranges = λ xs arr. IsPermutation-trans (edges_at g p.b) (map (second_of p) xs) (reverse (map (second_of p) xs))
@@ -181,3 +188,34 @@ module _ (i : Synchronized) (is : IsSynchronized i) (p : Pipe) (differ : p.a ≢
   pub end-FitsEnd : (u : ℕ) → IsEnd p u
       → FitsEnd u (opposite p u) (λ x. partner p u x) (λ x. partner p (opposite p u) x)
   end-FitsEnd u end = by_end FitsEnd at_first at_second u end
+
+  -- the partners of the edges of one end are the edges of the other, and each edge is the partner of its partner
+  pub record HasPartners (u w : ℕ) (there back : ℕ → ℕ) : Type 0 where
+    pub arranged : IsPermutation (edges_at g w) (map there (edges_at g u))
+    pub undone : (x : ℕ) → Contains (edges_at g u) x → back (there x) ≡ x
+    pub size : length (edges_at g u) ≡ length p.pairs
+
+  -- so it is for the first end
+  first_partners : HasPartners p.a p.b (second_of p) (first_of p)
+  first_partners = record {
+    arranged = subst (λ es. IsPermutation (edges_at g p.b) (map (second_of p) es)) right.first
+        (subst (IsPermutation (edges_at g p.b)) (sym seconds_are) right.second);
+    undone = first_second;
+    size = ap length (sym right.first) ∙ length-map p.pairs (λ (x : ℕ × ℕ). x.0);
+  }
+
+  -- and for the second end
+  second_partners : HasPartners p.b p.a (first_of p) (second_of p)
+  second_partners = record {
+    arranged = subst (λ es. IsPermutation es (map (first_of p) (edges_at g p.b))) (firsts_are ∙ right.first)
+        (IsPermutation-map (first_of p) seconds (edges_at g p.b)
+        (IsPermutation-sym (edges_at g p.b) seconds right.second));
+    undone = second_first;
+    size = sym (length_permutation (edges_at g p.b) seconds right.second)
+        ∙ length-map p.pairs (λ (x : ℕ × ℕ). x.1);
+  }
+
+  -- seen from each end
+  pub end-HasPartners : (u : ℕ) → IsEnd p u
+      → HasPartners u (opposite p u) (λ x. partner p u x) (λ x. partner p (opposite p u) x)
+  end-HasPartners u end = by_end HasPartners first_partners second_partners u end

@@ -11,10 +11,11 @@ use Rattle.cp_board.specs.Solutions.{list_in, with_list}
 abbrev set_row : ℕ → List ℕ → ℕ × List ℕ → ℕ × List ℕ
 set_row v list x = cond (eqb x.0 v) (v, list) x
 
--- where it is exchanged, and where it is not
+-- the list of v is exchanged
 set_row-yes : (v : ℕ) (list : List ℕ) (x : ℕ × List ℕ) → x.0 ≡ v → set_row v list x ≡ (v, list)
 set_row-yes v list x e = cond-true (eqb x.0 v) (v, list) x (eq-eqb x.0 v e)
 
+-- another row stays
 set_row-no : (v : ℕ) (list : List ℕ) (x : ℕ × List ℕ) → x.0 ≢ v → set_row v list x ≡ x
 set_row-no v list x ne = cond-false (eqb x.0 v) (v, list) x (ne_eqb x.0 v ne)
 

@@ -26,22 +26,27 @@ use Rattle.cp_poles.proofs.Mirrors.{mirror_of_two, direction_of_three, direction
 
 -- a live pipe of an instance
 module _ (i : Synchronized) (pipe : ℕ) (p : Pipe) (is : IsSynchronized i) (live : pipe_named i pipe ≡ Some p) where
-  -- what the rules say of the pipe
+  -- its ends are two different P-vertices
   pub right_ends : HasRightEnds i.verts p
   right_ends = (All-found (λ x. eqb x.name pipe) (HasRightEnds i.verts) i.pipes p is.ends_free live).0
 
+  -- its pairs are right
   pub right_pairs : HasRightPairs (graph i) p
   right_pairs = (All-found (λ x. eqb x.name pipe) (HasRightPairs (graph i)) i.pipes p is.pairs_right live).0
 
+  -- its name is the one under which it is found
   pub own_name : p.name ≡ pipe
   own_name = eqb-true p.name pipe (All-found (λ x. eqb x.name pipe) (HasRightPairs (graph i)) i.pipes p is.pairs_right live).1
 
+  -- its first end is a vertex
   pub live_a : Contains (vert_names i) p.a
   live_a = named-Contains i.verts p.a P right_ends.free_a
 
+  -- and so is its second end
   pub live_b : Contains (vert_names i) p.b
   live_b = named-Contains i.verts p.b P right_ends.free_b
 
+  -- it is found under its own name
   found : find (λ x. eqb x.name p.name) i.pipes ≡ Some p
   found = ap (λ n. find (λ x. eqb x.name n) i.pipes) own_name ∙ live
 
@@ -68,9 +73,11 @@ module _ (i : Synchronized) (pipe : ℕ) (p : Pipe) (is : IsSynchronized i) (liv
 
   -- a rotation arranges the edges of the two ends
   module _ (s : ℕ → List ℕ) (rotation : IsRotationOf (graph i) s) where
+    -- the list of the first end arranges its edges
     pub at_a : ArrangesEdges (graph i) p.a (s p.a)
     at_a = All-contains (λ v. ArrangesEdges (graph i) v (s v)) (vert_names i) p.a rotation.arranged live_a
 
+    -- and so does that of the second end
     pub at_b : ArrangesEdges (graph i) p.b (s p.b)
     at_b = All-contains (λ v. ArrangesEdges (graph i) v (s v)) (vert_names i) p.b rotation.arranged live_b
 
@@ -82,9 +89,11 @@ module _ (i : Synchronized) (pipe : ℕ) (p : Pipe) (is : IsSynchronized i) (liv
 
   -- a pipe of three pairs
   module _ (cell : ℕ) (new : AreNew (cells i) (cell ∷ [])) where
+    -- the step keeps the graph
     same_graph : graph (fixed i p cell) ≡ graph i
     same_graph = graph_fixed i p cell right_ends.differ
 
+    -- no vertex has the new cell
     lacks : All (λ v. has (cell_of v.kind) cell ≡ false) i.verts
     lacks = cells_lack cell i.verts (All-head (λ n. has (cells i) n ≡ false) cell [] (new_names-dead (cells i) (cell ∷ []) new))
 
@@ -185,6 +194,7 @@ module _ (i : Synchronized) (pipe : ℕ) (p : Pipe) (is : IsSynchronized i) (liv
       (λ three e. subst (λ z. Solves z s) (sym (fixed_is j e)) (fixed_solved e.cell e.new_cell s three h))
       (λ other w. Solves-without_pipe i j p.name s w h)
 
+  -- and solutions after the step are those before it
   pub Solves-before_small : (j : Synchronized) (s : ℕ → List ℕ) → degree p ≤ 3 → IsAfterSmall i p j → Solves j s → Solves i s
   Solves-before_small j s short after h = by_degree j (Solves i s) after
       (λ three e. fixed_back e.cell e.new_cell s (subst (λ z. Solves z s) (fixed_is j e) h))

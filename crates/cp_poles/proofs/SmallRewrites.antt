@@ -39,21 +39,27 @@ live_pipe i pipe p live =
     subst (Contains (pipe_names i)) (eqb-true p.name pipe w.1) w.0
 
 module _ (i : Synchronized) (pipe : ℕ) (p : Pipe) (is : IsSynchronized i) (live : pipe_named i pipe ≡ Some p) where
+  -- the ends of the pipe are right
   ends : HasRightEnds i.verts p
   ends = right_ends i pipe p is live
 
+  -- the new cell
   abbrev cell : ℕ
   cell = new_cell i
 
+  -- the vertices whose kinds are set
   abbrev kinds : List Vert
   kinds = fixed_a p cell ∷ fixed_b p cell ∷ []
 
+  -- the cell is the least new one
   new : AreNew (cells i) (cell ∷ [])
   new = one_new_name (cells i)
 
+  -- it is not live
   dead : has (cells i) cell ≡ false
   dead = All-head (λ n. has (cells i) n ≡ false) cell [] (new_names-dead (cells i) (cell ∷ []) new)
 
+  -- it is small
   fits : cell < 2 ^ 63
   fits = omega (
     arith,
@@ -80,11 +86,13 @@ module _ (i : Synchronized) (pipe : ℕ) (p : Pipe) (is : IsSynchronized i) (liv
       (ne_eqb p.a v.name (λ h. na (sym h))) ∙ cond-false (eqb p.b v.name) (Some (fixed_b p cell)) None
       (ne_eqb p.b v.name (λ h. nb (sym h)))))
 
+  -- and so for all vertices
   with_all : (vs : List Vert) → map (with_kinds kinds) vs ≡ map (fixed_vert p cell) vs
   with_all [] = refl
   with_all (v ∷ vs) = ap (λ w. w ∷ map (with_kinds kinds) vs) (with_fixed v) ∙ ap (λ ws. fixed_vert p cell v ∷ ws)
       (with_all vs)
 
+  -- the names of the vertices rise
   abbrev names_rise : rises (vert_names i) ≡ true
   names_rise = rises_from (vert_names i) is.verts_named.rise
 
@@ -157,6 +165,7 @@ module _ (i : Synchronized) (pipe : ℕ) (p : Pipe) (is : IsSynchronized i) (liv
     pipes = ap (λ z. z.pipes) rewritten_setting;
   }
 
+  -- a pipe of three pairs: its ends get new kinds
   three_performed : degree p ≡ 3 → Performs i (Small pipe) (setting pipe kinds)
   three_performed three = (fixed_fits, (p, live, by_test (eqb (degree p) 3) (eq-eqb (degree p) 3 three)))
     where
@@ -170,6 +179,7 @@ module _ (i : Synchronized) (pipe : ℕ) (p : Pipe) (is : IsSynchronized i) (liv
       by_test : (b : Bool) → b ≡ true → effect b
       by_test b e = subst effect (sym e) fixed_effect
 
+  -- a pipe of fewer pairs: only the pipe goes
   fewer_performed : degree p ≢ 3 → Performs i (Small pipe) (setting pipe [])
   fewer_performed other = (
     IsRewriteOf-dropping i pipe is (live_pipe i pipe p live),
@@ -188,13 +198,15 @@ module _ (i : Synchronized) (pipe : ℕ) (p : Pipe) (is : IsSynchronized i) (liv
           (subst (λ n. IsWithoutPipe i n (rewritten (dropping pipe) i)) (sym (own_name i pipe p is live))
           (IsWithoutPipe-dropping i (rewritten (dropping pipe) i) pipe is refl))
 
-  -- the kinds that are set, by what the board tells
+  -- the board tells the pairs of the pipe
   told_pairs : pairs_of i pipe ≡ p.pairs
   told_pairs = ap (λ o. option_map_or (λ x. x.pairs) o []) live
 
+  -- and the ends
   told_ends : pipe_ends_of i pipe ≡ (p.a, p.b)
   told_ends = ap (λ o. option_map_or (λ x. (x.a, x.b)) o (0, 0)) live
 
+  -- the rewrite with these kinds performs the step
   pub kinds_performed : Performs i (Small pipe) (setting pipe (kinds_after i pipe))
   kinds_performed =
       cond_both (eqb (length (pairs_of i pipe)) 3) (fixed_ends (pipe_ends_of i pipe) (pairs_of i pipe) cell) []

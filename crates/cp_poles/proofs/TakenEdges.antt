@@ -72,6 +72,7 @@ module _ (g : NamedGraph) (u v : ℕ) (numbers : List ℕ) (are : AreNumbersBetw
   abbrev es : List ℕ
   es = edges_at g u
 
+  -- the edge of u at a place
   abbrev at : ℕ → ℕ
   at j = slice_index es j
 
@@ -92,6 +93,7 @@ module _ (g : NamedGraph) (u v : ℕ) (numbers : List ℕ) (are : AreNumbersBetw
       → ConnectedWithout g u v (far g u e) (far g w f)
   same_part e w f ce cf same = (are.tells (far g u e) (far g w f) (live u e ce) (live w f cf)).0 same
 
+  -- edges that enter one component have one number
   part_same : (e w f : ℕ) → Contains es e → Contains (edges_at g w) f → ConnectedWithout g u v (far g u e) (far g w f)
       → part u e ≡ part w f
   part_same e w f ce cf c = (are.tells (far g u e) (far g w f) (live u e ce) (live w f cf)).1 c

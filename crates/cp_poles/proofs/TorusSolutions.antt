@@ -26,7 +26,7 @@ use Rattle.cp_poles.proofs.CycleRows.{rows-Distinct, rows-all, rows-items, rows-
 use Rattle.cp_poles.proofs.FoundItems.{Some-same}
 use Rattle.cp_poles.proofs.KeptOrders.{ends_told}
 use Rattle.cp_poles.proofs.FreePoles.{left, left-IsSynchronized, left_is, others_off, rotation_before}
-use Rattle.cp_poles.proofs.InstanceDarts.{edges_once}
+use Rattle.cp_synclaw.proofs.InstanceDarts.{edges_once}
 use Rattle.cp_poles.proofs.PermutedLists.{IsReordered-some}
 use Rattle.cp_lists.proofs.PermutedLists.{IsPermutation-from}
 use Rattle.cp_poles.proofs.ReorderedSolutions.{Solves-reordered}
@@ -119,6 +119,7 @@ pub record IsTurnableTorus (i : Synchronized) (p : Pipe) (lists : List (ℕ × L
   pub names : map (λ x. x.0) lists ≡ vert_names i
   pub rotation : IsRotationOf (graph i) (list_in lists)
 
+-- a solution after Toroidal can be turned back
 pub torus-IsTurnable : (i j : Synchronized) (pipe : ℕ) (p : Pipe) (after : List (ℕ × List ℕ)) → IsSynchronized i
     → pipe_named i pipe ≡ Some p → After i (Toroidal pipe) j → IsSolution j after → IsTurnableTorus i p after
 torus-IsTurnable i j pipe p after is live effect h =

@@ -24,8 +24,9 @@ use Rattle.cp_board.specs.Rotations.{IsRotationOf}
 use Rattle.cp_board.specs.Solutions.{IsMirror, Solves, second_of}
 use Rattle.cp_board.specs.Steps.{IsTurning}
 use Rattle.cp_poles.proofs.FoundItems.{All-found}
-use Rattle.cp_poles.proofs.InstanceDarts.{edges_once}
-use Rattle.cp_poles.proofs.InstanceSystems.{bond-IsMirror, listed_edge, listed_once}
+use Rattle.cp_synclaw.proofs.InstanceDarts.{edges_once}
+use Rattle.cp_synclaw.proofs.InstanceSystems.{listed_edge, listed_once}
+use Rattle.cp_synclaw.proofs.MirroredBonds.{bond-IsMirror}
 use Rattle.cp_poles.proofs.SmallPipes.{live_a, live_b, right_pairs}
 
 -- a live pipe between the poles of a bond
@@ -47,16 +48,19 @@ module _ (i : Synchronized) (pipe : ℕ) (p : Pipe) (is : IsSynchronized i) (liv
         length-map p.pairs (λ (x : ℕ × ℕ). x.1),
       )
 
-  -- along the bond, and back
+  -- the edge of b as which an edge of a goes on along the bond
   abbrev pub along : ℕ → ℕ
   along = first_onward (graph i) p.a p.b
 
+  -- the way back along the bond
   abbrev pub back : ℕ → ℕ
   back = first_onward g p.b p.a
 
+  -- which is one way to go along the bond
   pub is_along : IsAlong g p.a p.b along
   is_along = IsAlong-first_onward g p.a p.b bond
 
+  -- and the way back is one
   pub is_back : IsAlong g p.b p.a back
   is_back = IsAlong-first_onward g p.b p.a (bond_back g p.a p.b bond (edges_once i is) equal_ends)
 

@@ -32,7 +32,7 @@ use Rattle.cp_poles.specs.Cycles.{HaveLength, IsOtherLength}
 use Rattle.cp_poles.specs.TorusFaults.{IsTorusFaultOf}
 use Rattle.cp_poles.specs.Turned.{AreEndLists, AreOnward, IsTurningByPlace, place_back}
 use Rattle.cp_poles.proofs.CycleWalks.{CycleLength-carry}
-use Rattle.cp_poles.proofs.InstanceDarts.{edges_once}
+use Rattle.cp_synclaw.proofs.InstanceDarts.{edges_once}
 use Rattle.cp_poles.proofs.PipePartners.{edges_at-Distinct, first_second, seconds_are}
 use Rattle.cp_poles.proofs.SmallPipes.{live_a, live_b, right_ends, right_pairs}
 use Rattle.cp_poles.proofs.SmallRewrites.{live_pipe}
@@ -72,10 +72,11 @@ module _ (i : Synchronized) (pipe : ℕ) (p : Pipe) (is : IsSynchronized i) (liv
   abbrev g : NamedGraph
   g = graph i
 
-  -- the edges of the two ends
+  -- the edges of the first end
   abbrev es : List ℕ
   es = edges_at g p.a
 
+  -- those of the second end
   abbrev fs : List ℕ
   fs = edges_at g p.b
 
@@ -147,6 +148,7 @@ module _ (i : Synchronized) (pipe : ℕ) (p : Pipe) (is : IsSynchronized i) (liv
     abbrev places : List ℕ
     places = map (place_back es back fs) partners
 
+    -- there are as many as edges
     places_size : length places ≡ length es
     places_size = length-map partners (place_back es back fs) ∙ partners_size
 
@@ -160,10 +162,12 @@ module _ (i : Synchronized) (pipe : ℕ) (p : Pipe) (is : IsSynchronized i) (liv
     turned_live : (k : ℕ) → k < length es → Contains es (turned (slice_index es k))
     turned_live k lt = (is_turned (slice_index es k) (Contains-get_or es k 0 lt)).0
 
+    -- so the place is one of an edge
     place_below : (k : ℕ) → k < length es → slice_index places k < length es
     place_below k lt =
         subst (λ z. z < length es) (sym (place_at k lt)) (rank_at es (turned (slice_index es k)) (turned_live k lt)).0
 
+    -- and the edge there is what the map makes of the edge
     carried_at : (k : ℕ) → k < length es → slice_index es (slice_index places k) ≡ turned (slice_index es k)
     carried_at k lt =
         ap (slice_index es) (place_at k lt) ∙ (rank_at es (turned (slice_index es k)) (turned_live k lt)).1
@@ -244,25 +248,29 @@ module _ (i : Synchronized) (pipe : ℕ) (p : Pipe) (is : IsSynchronized i) (liv
           differ = other.differ;
         }
 
-  -- what a board tells of the ends of the pipe and of its pairs
+  -- a board tells the two ends of the pipe
   ends_told : pipe_ends_of i pipe ≡ (p.a, p.b)
   ends_told = ap (λ o. option_map_or (λ x. (x.a, x.b)) o (0, 0)) live
 
+  -- what a board tells of the pairs
   pairs_told : pairs_of i pipe ≡ p.pairs
   pairs_told = ap (λ o. option_map_or (λ x. x.pairs) o []) live
 
   -- the lists as a board tells them
   module _ (ends : ℕ × ℕ) (asked : ends ≡ pipe_ends_of i pipe) where
+    -- the first end is that of the pipe
     a_told : ends.0 ≡ p.a
     a_told = ap (λ (x : ℕ × ℕ). x.0) (asked ∙ ends_told)
 
+    -- and so is the second
     b_told : ends.1 ≡ p.b
     b_told = ap (λ (x : ℕ × ℕ). x.1) (asked ∙ ends_told)
 
-    -- the ends are live
+    -- the first end that a board tells is a vertex of the instance
     pub live_first : Contains (vert_names i) ends.0
     live_first = subst (Contains (vert_names i)) (sym a_told) (live_a i pipe p is live)
 
+    -- the second end is live
     pub live_second : Contains (vert_names i) ends.1
     live_second = subst (Contains (vert_names i)) (sym b_told) (live_b i pipe p is live)
 
@@ -273,6 +281,7 @@ module _ (i : Synchronized) (pipe : ℕ) (p : Pipe) (is : IsSynchronized i) (liv
     module _ (firsts back seconds partnered : List ℕ) (first : firsts ≡ edges_of i ends.0)
         (second : seconds ≡ edges_of i ends.1) (are : AreOnward g ends.1 ends.0 back)
         (paired : partnered ≡ map (λ x. x.1) (pairs_of i pipe)) where
+      -- the lists of the ends are as the search for places needs them
       pub told-AreEndLists : AreEndLists firsts back seconds
       told-AreEndLists = record {
         firsts_rise = subst IsStrictlyIncreasing (sym first) (edges_at-rise i is ends.0);
@@ -281,10 +290,11 @@ module _ (i : Synchronized) (pipe : ℕ) (p : Pipe) (is : IsSynchronized i) (liv
         back_live = subst (λ xs. All (Contains xs) back) (sym first) (AreOnward-within g ends.1 ends.0 back are);
       }
 
-      -- the partners are second edges
+      -- the partners that a board tells are those of the pipe
       are_partners : partnered ≡ partners
       are_partners = paired ∙ ap (map (λ x. x.1)) pairs_told
 
+      -- each partner is an edge of the second end
       pub told_live : All (Contains seconds) partnered
       told_live =
           subst (λ xs. All (Contains xs) partnered) (sym (second ∙ ap (edges_of i) b_told))

@@ -8,3 +8,4 @@ pub mod Turned
 pub mod TorusFaults
 pub mod Kept
 pub mod PoleSteps
+pub mod Fused

@@ -7,10 +7,11 @@ use Rattle.cp_lists.specs.Turns.{turned_to_least}
 use Rattle.cp_board.specs.Names.{new_names}
 use Rattle.cp_board.specs.Instances.{Synchronized, cells, pairs_of, pipe_ends_of}
 
--- the first edges of the pairs, and the reverse of the second ones, from the least on
+-- the first edges of the pairs, which are the psi of the first end
 abbrev pub first_psi : List (ℕ × ℕ) → List ℕ
 first_psi pairs = map (λ x. x.0) pairs
 
+-- the second edges of the pairs in reverse, turned so that the least comes first: the psi of the second end
 abbrev pub second_psi : List (ℕ × ℕ) → List ℕ
 second_psi pairs = turned_to_least (reverse (map (λ x. x.1) pairs))
 

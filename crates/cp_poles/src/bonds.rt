@@ -178,6 +178,25 @@ pub(crate) fn along_bond<B: Board>(
     taken(alloc, board, &parts, u, v)
 }
 
+// Each edge of `u` with the edge of `v` as which it goes on along their bond. Linear in the board, up to a logarithm.
+pub(crate) fn bond_pairs<B: Board>(
+    alloc: Global,
+    board: &B,
+    u: usize,
+    v: usize,
+) -> Result<Vec<(usize, usize)>, Memory>
+    requires live_u { Contains (vert_names (B.instance board.now)) u }
+    requires live_v { Contains (vert_names (B.instance board.now)) v }
+    requires bond { IsBond (graph (B.instance board.now)) u v }
+    ensures { IfOk result (λ along. IsAlongBond (graph (B.instance board.now)) u v along.items) }
+{
+    let found = along_bond(alloc, board, u, v)?;
+    match found {
+        Some(along) => Ok(along),
+        None => unreachable!(),
+    }
+}
+
 /// Whether two vertices are the poles of a bond: `v` is adjacent to each component of the rest that an edge of `u`
 /// enters, and no two edges of `u` enter one (Bläsius, Fink, Rutter 2021). Both are live. The only error is want of
 /// memory. It numbers the components of the board without the two vertices once, and asks the board for the ends of

@@ -16,7 +16,7 @@ mod wanted;
 
 pub use bonds::is_bond;
 pub use free_poles::{free_pole, free_pole_back, free_pole_keeps_solvable};
-pub use fused_poles::{fuse_poles_back, fuse_poles_keeps_solvable};
+pub use fused_poles::{fuse_poles, fuse_poles_back, fuse_poles_keeps_solvable};
 pub use small_pipes::{small, small_back, small_keeps_solvable};
 pub use torus::{toroidal, toroidal_back, toroidal_keeps_solvable, unequal_cycles_unsolvable};
 pub use torus_fault::TorusFault;

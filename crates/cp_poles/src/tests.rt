@@ -1,11 +1,13 @@
 // Reductions of small instances, worked out by hand, where memory suffices.
-ghost use Rattle.std.specs.Prelude.{◌≡◌, ◌⊎◌, IfOk, IsTrue, None};
+ghost use Rattle.std.specs.Prelude.{◌≡◌, ◌≢◌, ◌⊎◌, length, IfOk, IsTrue, None, Some};
 ghost use Rattle.std.specs.List.{Contains};
-ghost use Rattle.cp_board.specs.Instances.{IsPVertex, graph, pipe_at, pipe_ends_of, pipe_names, vert_names};
+ghost use Rattle.cp_board.specs.declared.parts.Pipe.{Pipe};
+ghost use Rattle.cp_board.specs.Instances.{IsPVertex, graph, pairs_of, pipe_at, pipe_ends_of, pipe_names, vert_names};
+ghost use Rattle.cp_board.specs.Steps.{degree};
 ghost use Rattle.cp_conn.specs.Bonds.{IsBond};
 
 use crate::tests_parts::{Parts, Want, instance, wanted};
-use crate::{TorusFault, free_pole, is_bond, small, toroidal};
+use crate::{TorusFault, free_pole, fuse_poles, is_bond, small, toroidal};
 use cp_base::Memory;
 use cp_board::Rewrite;
 use cp_sync::{Board, Instance};
@@ -111,6 +113,45 @@ fn freed_at(
         return Ok(None);
     }
     let rewrite = free_pole(alloc, i, pipe, end, pole)?;
+    Ok(Some(rewrite))
+}
+
+// Whether the pole is an end of another pipe, which has as many pairs.
+fn has_fitting_pipe(i: &Instance, pipe: usize, pole: usize) -> bool
+    requires pipe { Contains (pipe_names i.now) pipe }
+    requires pole { Contains (vert_names i.now) pole }
+    ensures { IsTrue result → (q : Pipe) × (pipe_at i.now pole ≡ Some q) × (q.name ≢ pipe) × (degree q ≡ length (pairs_of i.now pipe)) }
+{
+    i.follows_rules();
+    let Some(other) = i.pipe_at(pole) else {
+        return false;
+    };
+    if other == pipe {
+        return false;
+    }
+    i.pairs(other).len() == i.pairs(pipe).len()
+}
+
+// The rewrite of FusePoles at the greatest pipe, where it is allowed at this end and this pole.
+fn fused_at(
+    alloc: Global,
+    i: &Instance,
+    end: usize,
+    pole: usize,
+) -> Result<Option<Rewrite>, Memory> {
+    let Some(pipe) = i.max_pipe() else {
+        return Ok(None);
+    };
+    if !is_live(alloc, i, end)? || !is_live(alloc, i, pole)? {
+        return Ok(None);
+    }
+    let ended = has_end(i, pipe, end);
+    let fitting = has_fitting_pipe(i, pipe, pole);
+    let bonded = is_bond(alloc, i, end, pole)?;
+    if !ended || !fitting || !bonded {
+        return Ok(None);
+    }
+    let rewrite = fuse_poles(alloc, i, pipe, end, pole)?;
     Ok(Some(rewrite))
 }
 
@@ -294,5 +335,55 @@ fn a_pipe_with_a_free_pole_goes(rt: HostRuntime) -> Result<(), Fail> {
     )?;
     let found = freed_at(alloc, &i, 0, 1)?;
     assert!(rt; is_wanted(alloc, &found, DROP)?, "{found:?}");
+    Ok(())
+}
+
+#[test]
+fn two_pipes_become_one_past_a_pole(rt: HostRuntime) -> Result<(), Fail> {
+    let alloc = rt.alloc();
+    let rows: [(Parts<'_>, &[(usize, usize)]); 2] = [
+        (
+            Parts {
+                verts: FOUR_POLES,
+                edges: EIGHT,
+                pipes: &[
+                    (0, 0, 2, &[(0, 4), (1, 5), (2, 6), (3, 7)]),
+                    (1, 1, 3, &[(0, 4), (1, 5), (2, 6), (3, 7)]),
+                ],
+            },
+            &[(4, 4), (5, 5), (6, 6), (7, 7)],
+        ),
+        // a direct edge and two components between the end and its pole, and the pipes read from their second ends
+        (
+            Parts {
+                verts: &[0, 1, 2, 3, 4, 5],
+                edges: &[
+                    (0, 0, 4),
+                    (1, 4, 1),
+                    (2, 0, 5),
+                    (3, 5, 1),
+                    (4, 0, 1),
+                    (5, 2, 3),
+                    (6, 2, 3),
+                    (7, 2, 3),
+                ],
+                pipes: &[
+                    (0, 2, 0, &[(5, 0), (6, 4), (7, 2)]),
+                    (1, 3, 1, &[(5, 3), (6, 1), (7, 4)]),
+                ],
+            },
+            &[(5, 6), (6, 7), (7, 5)],
+        ),
+    ];
+    for (parts, pairs) in rows {
+        let i = instance(alloc, parts)?;
+        let found = fused_at(alloc, &i, 0, 1)?;
+        let want = Want {
+            drops: &[0, 1],
+            fixed: &[],
+            pipes: &[(2, 2, 3, pairs)],
+        };
+        assert!(rt; is_wanted(alloc, &found, want)?, "{found:?}");
+    }
     Ok(())
 }

@@ -44,8 +44,8 @@ fn partner_of(pairs: &[(usize, usize)], first: bool, x: usize) -> usize
     }
 }
 
-// The partners of some edges.
-fn partners_of(
+// The partners of some edges. Linear in the pairs for each edge.
+pub(crate) fn partners_of(
     alloc: Global,
     pairs: &[(usize, usize)],
     first: bool,
@@ -61,7 +61,7 @@ fn partners_of(
 }
 
 // Of two ends the one that is not `end`.
-fn other_end(ends: (usize, usize), end: usize) -> usize
+pub(crate) fn other_end(ends: (usize, usize), end: usize) -> usize
     ensures { result ≡ other_of ends end }
 {
     if ends.0 == end { ends.1 } else { ends.0 }

@@ -3,7 +3,7 @@ ghost use Rattle.std.specs.Prelude.{◌≡◌, ◌++◌, ◌∷◌, [], ◌+◌,
 ghost use Rattle.std.specs.Fmt.{decimal};
 ghost use Rattle.std.specs.List.{flat_map};
 ghost use Rattle.cp_report.specs.Reading.{row_item, row_key, row_line};
-ghost use Rattle.cp_report.specs.Texts.{IsWithinLimits, numbered, report_text, text_of};
+ghost use Rattle.cp_report.specs.Texts.{numbered, report_text, text_of};
 
 use crate::report::Report;
 use crate::row::{Row, key_of};
@@ -88,7 +88,7 @@ fn push_rows(
     first: usize,
     lists: &[CycList],
 ) -> Result<(), Memory>
-    requires { first + length lists.now ≤ 2 ^ 32 }
+    requires { first ≤ 1 }
     ensures { OnOk result (text.new.items ≡ text.old.items ++ text_of (numbered (row_line row) first lists.now)) }
 {
     let mut number = first;
@@ -101,7 +101,6 @@ fn push_rows(
 
 /// Appends what stands between the heading and `end` for a layout.
 fn push_layout(alloc: Global, text: &mut Vec<u8>, layout: &Layout) -> Result<(), Memory>
-    requires { IsWithinLimits (Report.Yes layout.now) }
     ensures { OnOk result (text.new.items ≡ text.old.items ++ text_of (codes "yes" ∷ numbered (row_line Row.Nodes) 0 layout.now.nodes ++ numbered (row_line Row.Clusters) 1 layout.now.clusters)) }
 {
     push_line(text, b"yes")?;
@@ -111,7 +110,6 @@ fn push_layout(alloc: Global, text: &mut Vec<u8>, layout: &Layout) -> Result<(),
 
 /// Writes the one text of a report. Linear in the length of the text.
 pub fn write_report(alloc: Global, report: &Report) -> Result<Vec<u8>, Memory>
-    requires { IsWithinLimits report.now }
     ensures { IfOk result (λ text. text.items ≡ report_text report.now) }
 {
     let mut text = Vec::new(alloc);

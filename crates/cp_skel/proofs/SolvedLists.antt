@@ -30,7 +30,7 @@ use Rattle.cp_skel.proofs.PlanarSkeletons.{solution_layout-node}
 use Rattle.cp_skel.proofs.SolutionGood.{Solves-good}
 use Rattle.cp_skel.proofs.SolutionLists.{name_edge-is}
 use Rattle.cp_skel.proofs.StockDarts.{edge_count, ends, name_kept, name_of, skeleton_graph, vertex_count}
-use Rattle.cp_skel.proofs.TurnedLayouts.{IsTurnedLayout, turned-IsGood}
+use Rattle.cp_skel.proofs.TurnedLayouts.{from_least-IsTurnedLayout, turned-IsGood}
 
 -- each name stands for an edge
 pub name_edge-lt : (g : Clustered) (n : ℕ) → n < length (kept_segments g) → name_edge g n < edges g
@@ -66,27 +66,6 @@ name_if_left-none g F c at =
     absurd (cc))
     (λ f. f)
     (cases_Bool b)
-
--- a list of lists that are turned
-turned_at : (f : List ℕ → List ℕ) (xs : List (List ℕ)) (i : ℕ)
-    → slice_index_or (map f xs) i (f []) ≡ f (slice_index_or xs i [])
-turned_at f [] i = refl
-turned_at f (x ∷ xs) zero = refl
-turned_at f (x ∷ xs) (suc i) = turned_at f xs i
-
--- each list is turned
-from_least-IsTurnedLayout : (l : Layout) → IsTurnedLayout l (from_least l)
-from_least-IsTurnedLayout l =
-    let turned : (xs : List (List ℕ)) (i : ℕ)
-    → IsTurn (slice_index_or xs i []) (slice_index_or (map turned_to_least xs) i []) =
-    λ xs i. subst (IsTurn (slice_index_or xs i [])) (sym (turned_at turned_to_least xs i))
-    (turned_to_least-IsTurn (slice_index_or xs i [])) in
-    record {
-      as_many_nodes = length-map l.nodes turned_to_least;
-      as_many_clusters = length-map l.clusters turned_to_least;
-      nodes_turned = λ v. turned l.nodes v;
-      clusters_turned = λ c. turned l.clusters (c - 1);
-    }
 
 -- a solution of the skeletons
 module _ (g : Clustered) (is : IsClustered g) (lists : List (ℕ × List ℕ)) (solution : IsSolution (skeletons g)

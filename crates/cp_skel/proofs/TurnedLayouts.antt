@@ -1,11 +1,12 @@
 -- A layout whose lists are turns of those of a good layout is good.
-use Rattle.std.proofs.Common.{◌≡◌, ℕ, suc, ◌*◌, Bool, List, [], ◌∷◌, ◌++◌, map, length, sym, subst, arith}
+use Rattle.std.proofs.Common.{◌≡◌, ℕ, zero, suc, ◌-◌, ◌*◌, Bool, List, [], ◌∷◌, ◌++◌, map, length, sym, refl, subst, arith}
 use Rattle.std.specs.Prelude.{slice_index_or, ◌==◌}
 use Rattle.std.specs.List.{flat_map}
-use Rattle.std.proofs.lemmas.List.{append-nil}
+use Rattle.std.proofs.lemmas.List.{append-nil, length-map}
 use Rattle.cp_lists.specs.Count.{Exactly}
-use Rattle.cp_lists.specs.Turns.{IsTurn}
+use Rattle.cp_lists.specs.Turns.{IsTurn, turned_to_least}
 use Rattle.cp_lists.proofs.ExactLists.{Exactly-turn}
+use Rattle.cp_lists.proofs.LeastItems.{turned_to_least-IsTurn}
 use Rattle.cp_lists.proofs.TurnedLists.{parts_of_turn, turn-map, turn-reverse}
 use Rattle.cp_cgraph.specs.Clustered.{Clustered, IsClustered, edges, node_of}
 use Rattle.cp_cgraph.specs.Crossings.{leaves}
@@ -16,6 +17,7 @@ use Rattle.cp_maps.specs.Maps.{IsMapOf, next_by}
 use Rattle.cp_maps.proofs.Genus.{SameGenus-IsFlat}
 use Rattle.cp_skel.specs.LoopLists.{AllTurned}
 use Rattle.cp_skel.specs.SkeletonLists.{border_pair, in_dart, inner_clusters, out_dart, skeleton_lists}
+use Rattle.cp_skel.specs.SolutionLayouts.{from_least}
 use Rattle.cp_skel.proofs.GoodLayouts.{good_exactly}
 use Rattle.cp_skel.proofs.SkeletonLists.{IsMapOf-skeletons}
 use Rattle.cp_skel.proofs.TurnedMaps.{IsMapOf-turned}
@@ -105,3 +107,24 @@ turned-IsGood g l k is turned good =
           (same_lists-SameGenus (segments g) h f (skeleton_lists g k) is_h (IsMapOf-skeletons g k is ar))
           ((good_exactly g l is).0 good).1,
     )
+
+-- a list of lists that are turned
+turned_at : (f : List ℕ → List ℕ) (xs : List (List ℕ)) (i : ℕ)
+    → slice_index_or (map f xs) i (f []) ≡ f (slice_index_or xs i [])
+turned_at f [] i = refl
+turned_at f (x ∷ xs) zero = refl
+turned_at f (x ∷ xs) (suc i) = turned_at f xs i
+
+-- a layout from its least items on has turned lists
+pub from_least-IsTurnedLayout : (l : Layout) → IsTurnedLayout l (from_least l)
+from_least-IsTurnedLayout l =
+    let turned : (xs : List (List ℕ)) (i : ℕ)
+    → IsTurn (slice_index_or xs i []) (slice_index_or (map turned_to_least xs) i []) =
+    λ xs i. subst (IsTurn (slice_index_or xs i [])) (sym (turned_at turned_to_least xs i))
+    (turned_to_least-IsTurn (slice_index_or xs i [])) in
+    record {
+      as_many_nodes = length-map l.nodes turned_to_least;
+      as_many_clusters = length-map l.clusters turned_to_least;
+      nodes_turned = λ v. turned l.nodes v;
+      clusters_turned = λ c. turned l.clusters (c - 1);
+    }

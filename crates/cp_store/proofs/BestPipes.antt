@@ -15,12 +15,15 @@ use Rattle.cp_store.specs.BestPipe.{IsBestOf}
 abbrev IsWorse : ℕ → ℕ → Pipe → Type 0
 IsWorse degree name q = (length q.pairs < degree) ⊎ ((length q.pairs ≡ degree) × (name ≤ q.name))
 
+-- a pipe of some pipes is one of them and one more
 kept_live : (ps : List Pipe) (p q : Pipe) → Contains ps q → Contains (ps ++ p ∷ []) q
 kept_live ps p q c = (c.0, omega (arith, c.1, length-append ps (p ∷ [])), get_or-append ps (p ∷ []) q c.0 c.1 ∙ c.2)
 
+-- and so is the one more
 new_live : (ps : List Pipe) (p : Pipe) → Contains (ps ++ p ∷ []) p
 new_live ps p = (length ps + 0, omega (arith, length-append ps (p ∷ [])), get_or-append-add ps (p ∷ []) 0 p)
 
+-- what is worse than a pipe among some and one more
 all_worse : (ps : List Pipe) (p : Pipe) (degree name : ℕ) → All (IsWorse degree name) ps → IsWorse degree name p → All (IsWorse degree name) (ps ++ p ∷ [])
 all_worse ps p degree name all it = All-append (IsWorse degree name) ps (p ∷ []) all (All-cons (IsWorse degree name) p [] it (All-nil (IsWorse degree name)))
 
@@ -50,6 +53,7 @@ worse-greater ps degree name more other lt all k d within =
     ⊎_elim (λ (l : length (slice_index_or ps k d).pairs < degree). inl (omega (arith, l, lt)))
     (λ (e : (length (slice_index_or ps k d).pairs ≡ degree) × (name ≤ (slice_index_or ps k d).name)). inl (omega (arith, e.0, lt))) (all k d within)
 
+-- of equal degrees the lesser name is better
 pub worse-earlier : (ps : List Pipe) (degree name other : ℕ) → other < name → All (IsWorse degree name) ps → All (IsWorse degree other) ps
 worse-earlier ps degree name other lt all k d within =
     ⊎_elim (λ (l : length (slice_index_or ps k d).pairs < degree). inl l)

@@ -15,6 +15,7 @@ Some-same x y e = ap (λ o. item_or o x) e
     item_or None d = d
     item_or (Some z) d = z
 
+-- no item is not some item
 pub None-Some : {A : Type 0} (x : A) → None ≡ Some x → ⊥
 None-Some x e = false≢true (ap is_one e)
   where

@@ -1,4 +1,3 @@
-mod Places
 mod ExchangedItems
 mod Tables
 mod RewrittenItems
@@ -10,3 +9,5 @@ mod BestPipes
 mod StoredStates
 mod StoredRewrites
 mod DroppedPipes
+mod SlotBounds
+mod WorkedSteps

@@ -7,10 +7,12 @@ use Rattle.cp_store.specs.Exchanges.{entry_names, items_of, IsTable}
 use Rattle.cp_store.specs.Rewriting.{kept}
 use Rattle.cp_store.proofs.RewrittenItems.{All-kept}
 
+-- the entries of items tell the items
 items-kept : {A : Type 0} (name : A → ℕ) (xs : List A) → items_of (map (kept name) xs) ≡ xs
 items-kept name [] = refl
 items-kept name (x ∷ xs) = ap (λ ys. x ∷ ys) (items-kept name xs)
 
+-- and their names
 names-kept : {A : Type 0} (name : A → ℕ) (xs : List A) → entry_names (map (kept name) xs) ≡ map name xs
 names-kept name [] = refl
 names-kept name (x ∷ xs) = ap (λ ns. name x ∷ ns) (names-kept name xs)

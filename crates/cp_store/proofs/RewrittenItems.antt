@@ -62,6 +62,7 @@ with_kinds-none : (vs : List Vert) → map (with_kinds []) vs ≡ vs
 with_kinds-none [] = refl
 with_kinds-none (v ∷ vs) = ap (λ us. v ∷ us) (with_kinds-none vs)
 
+-- vertices keep their names where kinds are set
 names-with_kinds : (ks vs : List Vert) → map (λ v. v.name) (map (with_kinds ks) vs) ≡ map (λ v. v.name) vs
 names-with_kinds ks [] = refl
 names-with_kinds ks (v ∷ vs) = ap (λ n. n ∷ map (λ (u : Vert). u.name) (map (with_kinds ks) vs)) (with_kinds-name ks v) ∙ ap (λ ns. v.name ∷ ns) (names-with_kinds ks vs)
@@ -110,6 +111,7 @@ taken_back-kinds (k ∷ ks) vs up live =
 put-before : {A : Type 0} (name : A → ℕ) (x z : A) (zs : List A) → name x < name z → put name x (z ∷ zs) ≡ x ∷ z ∷ zs
 put-before name x z zs lt = cond-true (ltb (name x) (name z)) (x ∷ z ∷ zs) (z ∷ put name x zs) (lt-ltb (name x) (name z) lt)
 
+-- and it may come behind the other
 put-after : {A : Type 0} (name : A → ℕ) (x z : A) (zs : List A) → name z ≤ name x → put name x (z ∷ zs) ≡ z ∷ put name x zs
 put-after name x z zs le = cond-false (ltb (name x) (name z)) (x ∷ z ∷ zs) (z ∷ put name x zs) (not_less (ltb (name x) (name z)) refl)
   where
@@ -117,6 +119,7 @@ put-after name x z zs le = cond-false (ltb (name x) (name z)) (x ∷ z ∷ zs) (
     not_less false e = e
     not_less true e = absurd (omega (arith, le, ltb-true (name x) (name z) e))
 
+-- two items of different names are put in alike in either order: the one of the lesser name last
 put-less : {A : Type 0} (name : A → ℕ) (x y : A) (zs : List A) → name x < name y → put name x (put name y zs) ≡ put name y (put name x zs)
 put-less name x y [] lt = put-before name x y [] lt ∙ sym (put-after name y x [] (omega (arith, lt)))
 put-less name x y (z ∷ zs) lt =
@@ -137,6 +140,7 @@ put-less name x y (z ∷ zs) lt =
     first : (us : List _) → put name x us ≡ x ∷ us → put name x us ≡ x ∷ us
     first us e = e
 
+-- and in general
 put-two : {A : Type 0} (name : A → ℕ) (x y : A) (zs : List A) → name x ≢ name y → put name x (put name y zs) ≡ put name y (put name x zs)
 put-two name x y zs ne =
     ⊎_elim
@@ -213,6 +217,7 @@ map-put f keeps x (y ∷ ys) =
     by_cond true = refl
     by_cond false = refl
 
+-- the order of names goes through what keeps names
 map-by_name : (f : Vert → Vert) → ((v : Vert) → (f v).name ≡ v.name) → (xs : List Vert)
     → by_name (λ v. v.name) (map f xs) ≡ map f (by_name (λ v. v.name) xs)
 map-by_name f keeps [] = refl
@@ -265,6 +270,7 @@ has-fewer name t (x ∷ xs) n f =
     (λ e. ap (λ b. b || has (map name (filter t xs)) n) h.0 ∙ has-fewer name t xs n h.1)
     (λ e. has-fewer name t xs n h.1)
 
+-- names that some items lack are lacked by those that pass a test
 All-fewer : {A : Type 0} (name : A → ℕ) (t : A → Bool) (xs : List A) (ns : List ℕ) → All (λ n. has (map name xs) n ≡ false) ns
     → All (λ n. has (map name (filter t xs)) n ≡ false) ns
 All-fewer name t xs ns all k d lt = has-fewer name t xs (slice_index_or ns k d) (all k d lt)
@@ -319,6 +325,7 @@ pub All-kept : {A : Type 0} (name : A → ℕ) (news : List A) → All (HasItsNa
 All-kept name [] = All-nil (HasItsName name)
 All-kept name (a ∷ news) = All-cons (HasItsName name) (kept name a) (map (kept name) news) (λ x e. ap name (sym (Some-same a x e))) (All-kept name news)
 
+-- and so have entries of names that go
 pub All-gone : {A : Type 0} (name : A → ℕ) (ns : List ℕ) → All (HasItsName name) (map gone ns)
 All-gone name [] = All-nil (HasItsName name)
 All-gone name (n ∷ ns) = All-cons (HasItsName name) (gone n) (map gone ns) (λ x e. absurd (None-Some x e)) (All-gone name ns)

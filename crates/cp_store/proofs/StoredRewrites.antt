@@ -20,7 +20,8 @@ use Rattle.cp_store.specs.declared.parts.Change.{Change}
 use Rattle.cp_store.specs.Exchanges.{taken_back, HasItsName}
 use Rattle.cp_store.specs.Rewriting.{kept, gone, vert_changes, edge_changes, pipe_changes}
 use Rattle.cp_store.specs.Parts.{IsPlanOf}
-use Rattle.cp_store.proofs.EdgeMoves.{row_name, names-after_moves, moves_live}
+use Rattle.cp_sync.proofs.Moves.{names-after_moves, moves_live}
+use Rattle.cp_store.proofs.EdgeMoves.{row_name}
 use Rattle.cp_store.proofs.RewrittenItems.{taken_back-new, pipes-exchanged, verts-exchanged, has-at, All-kept, All-gone}
 use Rattle.cp_store.proofs.StoredStates.{same_parts}
 
@@ -55,6 +56,7 @@ has-Contains : (xs : List ℕ) (x : ℕ) → Contains xs x → has xs x ≡ true
 has-Contains xs x c = subst (λ n. has xs n ≡ true) c.2 (has-at xs c.0 x c.1)
 
 module _ (i : Synchronized) (w : Rewrite) (is : IsSynchronized i) (fits : IsRewriteOf i w) where
+  -- the exchanges of vertices give those of the rewritten instance
   verts-rewritten : taken_back (λ v. v.name) (vert_changes w) i.verts ≡ (rewritten w i).verts
   verts-rewritten =
       verts-exchanged i.verts w.add_verts w.set_kinds w.drop_verts (rises_from (vert_names i) is.verts_named.rise)
@@ -63,6 +65,7 @@ module _ (i : Synchronized) (w : Rewrite) (is : IsSynchronized i) (fits : IsRewr
       (λ k d lt. subst (λ ns. has ns (slice_index_or w.set_kinds k d).name ≡ true) (sym (map-append (λ (v : Vert). v.name) i.verts w.add_verts))
       (has-Contains (verts_with w i) (slice_index_or w.set_kinds k d).name (fits.kinds_live k d lt).0))
 
+  -- those of edges give its edges, after the moves
   edges-rewritten : taken_back row_name (edge_changes w) (after_moves w.moves i.edges) ≡ (rewritten w i).edges
   edges-rewritten =
       let same = names-after_moves w.moves i.edges in
@@ -71,6 +74,7 @@ module _ (i : Synchronized) (w : Rewrite) (is : IsSynchronized i) (fits : IsRewr
       (new_names-distinct row_name (edge_names i) w.add_edges fits.new_edges)
       (subst (λ ns. All (λ n. has ns n ≡ false) (names_of_edges w.add_edges)) (sym same) (new_names-dead (edge_names i) (names_of_edges w.add_edges) fits.new_edges))).0
 
+  -- and those of pipes its pipes
   pipes-rewritten : taken_back (λ p. p.name) (pipe_changes w) i.pipes ≡ (rewritten w i).pipes
   pipes-rewritten =
       pipes-exchanged i.pipes w.add_pipes w.drop_pipes (rises_from (pipe_names i) is.pipes_named.rise)
@@ -91,7 +95,8 @@ module _ (i : Synchronized) (w : Rewrite) (is : IsSynchronized i) (fits : IsRewr
 
   -- the moves name live edges
   pub moves-live : All (λ m. has (names_of_edges i.edges) m.edge ≡ true) w.moves
-  moves-live = moves_live (verts_with w i) i.edges w.moves fits.moves
+  moves-live k d lt =
+      has-Contains (names_of_edges i.edges) (slice_index_or w.moves k d).edge (moves_live (verts_with w i) i.edges w.moves fits.moves k d lt)
 
 -- the entries of a plan have the names of their items
 pub plan-named : (w : Rewrite) (plan : Change) → IsPlanOf w plan

@@ -42,9 +42,11 @@ HasRoom-more p q c more room = record {
   pipes = All-grown (λ x. x.name) (entry_names p.pipes.entries.items) (entry_names q.pipes.entries.items) c.pipes.items more.pipes room.pipes;
 }
 
+-- and for all changes of a log
 pub All-HasRoom-more : (p q : Parts) (log : List Change) → HasMoreRoom p q → All (HasRoom p) log → All (HasRoom q) log
 All-HasRoom-more p q log more all k d lt = HasRoom-more p q (slice_index_or log k d) more (all k d lt)
 
+-- more room, and more again, is more room
 pub HasMoreRoom-next : (p q r : Parts) → HasMoreRoom p q → HasMoreRoom q r → HasMoreRoom p r
 HasMoreRoom-next p q r a b = record {
   verts = λ n h. b.verts n (a.verts n h);
@@ -109,6 +111,7 @@ more_than_one whole log c i last =
     ∙ ap (λ is. ltb 1 (length is)) (states-pushed log c i (undone c i) refl)
     ∙ lt-ltb 1 (suc (length (states (reverse log) (undone c i)))) (let h = length-states (reverse log) (undone c i) in omega (arith, h))
 
+-- without a change there is one instance
 pub no_more_than_one : (log : List Change) (i : Synchronized) → log ≡ [] → ltb 1 (length (states (reverse log) i)) ≡ false
 no_more_than_one log i none = ap (λ cs. ltb 1 (length (states (reverse cs) i))) none
 

@@ -13,13 +13,14 @@ use Rattle.cp_board.proofs.NamedLists.{under_all, under_all-rises, rises_from, r
 use Rattle.cp_sync.specs.Places.{IsLowerPlace}
 use Rattle.cp_store.specs.declared.entry.Entry.{Entry}
 use Rattle.cp_store.specs.Exchanges.{under, exchanged, entry_names, with_item, items_of, HasItsName, IsTable, IsReserved, IsGrown}
-use Rattle.cp_store.proofs.Places.{live_place, found_place}
+use Rattle.cp_sync.proofs.Places.{live_place, found_place}
 use Rattle.cp_store.proofs.ExchangedItems.{None-Some, under-named, under-below, others-all, put-front, put-behind, exchanged-back}
 
 -- the name of an entry
 abbrev pub entry_name : {A : Type 0} → Entry A → ℕ
 entry_name e = e.name
 
+-- the entry of a name with an item or none
 abbrev entry_of : {A : Type 0} → ℕ → Option A → Entry A
 entry_of n o = record { name = n; item = o }
 
@@ -71,6 +72,7 @@ items-rise {A} name (e ∷ es) up named =
     by_item (Some x) its above rest =
         rises-under name (name x) (items_of es) (subst (λ m. under_all name m (items_of es) ≡ true) (sym (its x refl)) above) rest
 
+-- the items of entries in the order of their names rise by name
 pub table-rises : {A : Type 0} (name : A → ℕ) (es : List (Entry A)) → IsTable name es → rises (map name (items_of es)) ≡ true
 table-rises name es is = items-rise name es (rises_from (entry_names es) is.rise) is.named
 
@@ -100,6 +102,7 @@ under-rising {A} name n (e ∷ es) up named =
     passed None its ne = refl
     passed (Some x) its ne = cond-false (eqb (name x) n) (Some x) (under name n (items_of es)) (ne_eqb (name x) n (λ h. ne (sym (its x refl) ∙ h)))
 
+-- what stands under a name is the item of the entry of this name
 pub under-items : {A : Type 0} (name : A → ℕ) (n : ℕ) (es : List (Entry A)) → IsTable name es
     → under name n (items_of es) ≡ item_in (under entry_name n es)
 under-items name n es is = under-rising name n es (rises_from (entry_names es) is.rise) is.named
@@ -174,9 +177,11 @@ IsGrown-insert {A} name es new k n is low free room made =
     later true b h = refl
     later false b h = h
 
+-- a table has grown to itself
 pub IsGrown-same : {A : Type 0} (name : A → ℕ) (es : List (Entry A)) → IsTable name es → IsGrown name es es
 IsGrown-same name es is = record { table = is; items = refl; names = λ n h. h }
 
+-- a table that has grown twice has grown
 pub IsGrown-next : {A : Type 0} (name : A → ℕ) (xs ys zs : List (Entry A)) → IsGrown name xs ys → IsGrown name ys zs → IsGrown name xs zs
 IsGrown-next name xs ys zs a b = record { table = b.table; items = b.items ∙ a.items; names = λ n h. b.names n (a.names n h) }
 
@@ -242,6 +247,7 @@ pub record IsExchange {A : Type 0} (name : A → ℕ) (old new : List (Entry A))
   pub names : entry_names new ≡ entry_names old
   pub reserved : IsReserved name (entry_names old) taken
 
+-- the entry of a name with another item is an exchange under this name
 pub IsExchange-set : {A : Type 0} (name : A → ℕ) (es : List (Entry A)) (k : ℕ) (put taken at : Entry A) → IsTable name es
     → IsReserved name (entry_names es) put
     → IsLowerPlace (entry_names es) put.name k

@@ -11,6 +11,7 @@ pub record IsBestOf (ps : List Pipe) (degree name : ℕ) : Type 0 where
   pub has_name : pipe.name ≡ name
   pub others : All (λ q. (length q.pairs < degree) ⊎ ((length q.pairs ≡ degree) × (name ≤ q.name))) ps
 
+-- the best of the pipes has this degree and name; where none is told there are no pipes
 abbrev pub IsBest : List Pipe → Option (ℕ × ℕ) → Type 0
 IsBest ps None = ps ≡ []
 IsBest ps (Some x) = IsBestOf ps x.0 x.1

@@ -19,6 +19,7 @@ abbrev pub taken_back : {A : Type 0} → (A → ℕ) → List (Entry A) → List
 taken_back name [] xs = xs
 taken_back name (e ∷ es) xs = exchanged name e.name e.item (taken_back name es xs)
 
+-- the names of entries, in the order of the entries
 abbrev pub entry_names : {A : Type 0} → List (Entry A) → List ℕ
 entry_names es = map (λ e. e.name) es
 

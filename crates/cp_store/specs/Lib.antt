@@ -1,7 +1,10 @@
 -- what contracts rest on
 pub mod Histories
+pub mod StepPipes
 -- what functions inside promise each other
 pub mod Exchanges
 pub mod Rewriting
 pub mod Parts
 pub mod BestPipe
+-- examples
+pub mod WorkedSteps

@@ -6,10 +6,11 @@ use Rattle.cp_board.specs.declared.parts.Pipe.{Pipe}
 use Rattle.cp_board.specs.declared.rewrite.Rewrite.{Rewrite}
 use Rattle.cp_store.specs.declared.entry.Entry.{Entry}
 
--- the entry of an item, and that of a name without one
+-- the entry of an item under its name
 abbrev pub kept : {A : Type 0} → (A → ℕ) → A → Entry A
 kept name x = record { name = name x; item = Some x }
 
+-- the entry of a name without an item
 abbrev pub gone : {A : Type 0} → ℕ → Entry A
 gone n = record { name = n; item = None }
 
@@ -17,6 +18,7 @@ gone n = record { name = n; item = None }
 abbrev pub vert_changes : Rewrite → List (Entry Vert)
 vert_changes w = map gone w.drop_verts ++ map (kept (λ v. v.name)) w.set_kinds ++ map (kept (λ v. v.name)) w.add_verts
 
+-- edges are only added: the moves of ends are told beside these exchanges
 abbrev pub edge_changes : Rewrite → List (Entry EdgeRow)
 edge_changes w = map (kept (λ e. e.name)) w.add_edges
 

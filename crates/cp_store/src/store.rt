@@ -3,17 +3,17 @@ ghost use Rattle.std.specs.Prelude.{◌≡◌, ◌+◌, ◌∷◌, [], length, t
 ghost use Rattle.cp_board.specs.Instances.{IsSynchronized};
 ghost use Rattle.cp_board.specs.Rewrites.{rewritten, IsRewriteOf};
 ghost use Rattle.cp_board.specs.Runs.{slots};
-ghost use Rattle.cp_sync.specs.Faults.{with_parts};
 ghost use Rattle.cp_store.specs.Histories.{present_of};
 
 use crate::greatest::best_pipe;
 use crate::lists::table_of;
 use crate::lookups::{cell_under, ends_under, has_list, pairs_under, pipe_ends_under, psi_under};
+use crate::names::{edges_ending_at, live_names};
 use crate::parts::{Change, Parts, empty_for, make_change, reserve_change, undo_change};
 use crate::plan::plan_of;
 use crate::reading::{copied_table, pipe_ending_at, slots_of};
 use cp_base::{CycList, Memory};
-use cp_board::{EdgeRow, NameKind, Pipe, Rewrite, Vert};
+use cp_board::{NameKind, Rewrite};
 use cp_sync::{Board, Instance, PartsFault};
 use std::alloc::Global;
 use std::marker::Model;
@@ -39,19 +39,14 @@ impl Model for Store {
 }
 
 impl Store {
-    /// A store of the instance with these lists, in memory of its own, with no rewrite to undo. Linear in them.
-    pub fn from_lists(
-        alloc: Global,
-        verts: &[Vert],
-        edges: &[EdgeRow],
-        pipes: &[Pipe],
-    ) -> Result<Store, Memory>
-        requires { IsSynchronized (with_parts verts.now edges.now pipes.now) }
-        ensures { IfOk result (λ s. s ≡ with_parts verts.now edges.now pipes.now ∷ []) }
+    /// A store of an instance, in memory of its own, with no rewrite to undo. Linear in the instance.
+    pub fn from_instance(alloc: Global, i: &Instance) -> Result<Store, Memory>
+        ensures { IfOk result (λ s. s ≡ i.now ∷ []) }
     {
-        let verts = table_of(alloc, verts)?;
-        let edges = table_of(alloc, edges)?;
-        let pipes = table_of(alloc, pipes)?;
+        i.follows_rules();
+        let verts = table_of(alloc, i.vert_rows())?;
+        let edges = table_of(alloc, i.edge_rows())?;
+        let pipes = table_of(alloc, i.pipe_rows())?;
         Ok(Store {
             parts: Parts {
                 verts,
@@ -130,29 +125,26 @@ impl Store {
 }
 
 /// `is_q`, `cell`, `psi`, `ends`, `pipe_ends` and `pairs` take logarithmic time, beside the length of a list that they
-/// give, and `pipe_at` and `max_pipe` linear time in the names of pipes. `rewrite` takes logarithmic time for each part
+/// give, `pipe_at` and `max_pipe` linear time in the names of pipes, and `verts`, `edges` and `edges_at` in those of
+/// vertices, edges and edges. `rewrite` takes logarithmic time for each part
 /// that it drops, adds or changes, beside copies of what it brings, and time linear in the names of a kind for each new
-/// name that lies below others and was never live. `verts`, `edges`, `edges_at` and `free_names` copy the present
-/// instance.
+/// name that lies below others and was never live. `free_names` copies the present instance.
 impl Board for Store {
     ghost instance = { λ s. present_of s };
 
     fn verts(&self, alloc: Global) -> Result<Vec<usize>, Memory> {
         self.present_follows_rules();
-        let i = self.present(alloc)?;
-        i.verts(alloc)
+        live_names(alloc, &self.parts.verts)
     }
 
     fn edges(&self, alloc: Global) -> Result<Vec<usize>, Memory> {
         self.present_follows_rules();
-        let i = self.present(alloc)?;
-        i.edges(alloc)
+        live_names(alloc, &self.parts.edges)
     }
 
     fn edges_at(&self, alloc: Global, v: usize) -> Result<Vec<usize>, Memory> {
         self.present_follows_rules();
-        let i = self.present(alloc)?;
-        i.edges_at(alloc, v)
+        edges_ending_at(alloc, &self.parts.edges, v)
     }
 
     fn is_q(&self, v: usize) -> bool {

@@ -1,16 +1,18 @@
-mod Places
+-- Facts about the definitions, for callers.
+pub mod NumberedGraphs
+pub mod Places
+pub mod Moves
+pub mod EqualOrders
+pub mod WorkedRows
+-- What the functions rest on.
 mod VertexTables
 mod Greatest
 mod NamedRows
 mod Passes
-mod EqualOrders
 mod RuleTables
 mod PipeTables
 mod KeptRules
 mod FreeNames
 mod NamedOrder
 mod Kept
-mod Moves
 mod RightPipes
-pub mod NumberedGraphs
-mod WorkedRows

@@ -14,7 +14,7 @@ use crate::rewriting::{edges_after, pipes_after, verts_after};
 use crate::tables::adjacency;
 use crate::{Board, PartsFault};
 use cp_base::{CycList, Memory};
-use cp_board::{EdgeRows, Kind, NameKind, Names, Pipe, Pipes, Rewrite, Verts};
+use cp_board::{EdgeRow, EdgeRows, Kind, NameKind, Names, Pipe, Pipes, Rewrite, Vert, Verts};
 use std::alloc::Global;
 use std::marker::Model;
 
@@ -95,6 +95,27 @@ impl Instance {
             at,
             piped,
         })
+    }
+
+    /// The vertices, rising by name. Constant time.
+    pub fn vert_rows(&self) -> &[Vert]
+        ensures { result.now ≡ self.now.verts }
+    {
+        self.verts.items()
+    }
+
+    /// The edges, rising by name. Constant time.
+    pub fn edge_rows(&self) -> &[EdgeRow]
+        ensures { result.now ≡ self.now.edges }
+    {
+        self.edges.items()
+    }
+
+    /// The pipes, rising by name. Constant time.
+    pub fn pipe_rows(&self) -> &[Pipe]
+        ensures { result.now ≡ self.now.pipes }
+    {
+        self.pipes.items()
     }
 
     // The instance of parts that are known to keep the rules: nothing is tested. Linear, up to a logarithm.

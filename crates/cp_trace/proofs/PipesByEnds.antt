@@ -79,6 +79,7 @@ module _ (i : Synchronized) (is : IsSynchronized i) where
       (p, found_pipe i v p e, same, cond-true (eqb p.a v) (p.name ∷ []) [] (eq-eqb p.a v same)))
       (λ other. inl (cond-false (eqb p.a v) (p.name ∷ []) [] (ne_eqb p.a v other))) (cases_eq p.a v)
 
+  -- a vertex gives no name, or that of the one pipe whose first end it is
   single : (v : ℕ) → (pipes_from i v ≡ []) ⊎
       ((p : Pipe) × Contains i.pipes p × (p.a ≡ v) × (pipes_from i v ≡ p.name ∷ []))
   single v = single_from v (pipe_at i v) refl
@@ -110,6 +111,7 @@ module _ (i : Synchronized) (is : IsSynchronized i) where
       subst (Has p.name) (sym (ap (name_from p.a) (with_first i.pipes p is.ends_apart c) ∙ cond-true (eqb p.a p.a)
       (p.name ∷ []) [] (eq-eqb p.a p.a refl))) (inl refl)
 
+  -- a pipe whose first end is among some vertices has its name among those that these give
   to_from : (vs : List ℕ) (p : Pipe) → Contains i.pipes p → Has p.a vs → Has p.name (flat_map (pipes_from i) vs)
   to_from [] p c h = absurd h
   to_from (v ∷ vs) p c h =

@@ -35,10 +35,11 @@ rest_greater x xs z up c =
     subst (λ n. x < n) (get_or_default xs c.0 0 z c.1 ∙ c.2)
     (rising_apart (x ∷ xs) up 0 (suc c.0) (omega arith) (omega (arith, c.1)))
 
--- the first item, and those behind it
+-- the first item is in the list
 first_in : (x : ℕ) (xs : List ℕ) → Contains (x ∷ xs) x
 first_in x xs = (0, omega arith, refl)
 
+-- an item of the rest is in the list
 later_in : (x z : ℕ) (xs : List ℕ) → Contains xs z → Contains (x ∷ xs) z
 later_in x z xs c = (suc c.0, omega (arith, c.1), c.2)
 

@@ -16,6 +16,7 @@ worked = record {
   solved = None;
 }
 
+-- the lines of the worked run
 worked_lines : trace_lines worked ≡
     codes "cplan-trace 1"
     ∷ codes "instance"
@@ -72,12 +73,14 @@ worked_lines : trace_lines worked ≡
 unfolding digits
 worked_lines = refl
 
+-- the lines of three reductions
 steps : (step_line (FreePole 1 20 3) ≡ codes "step free 1 20 3")
     × (step_line (FusePoles 1 2 3) ≡ codes "step fuse 1 2 3")
     × (step_line (Toroidal 10) ≡ codes "step torus 10")
 unfolding digits
 steps = (refl, refl, refl)
 
+-- the lines of the four reasons
 reasons : (reason_line (NotPlanar 7) ≡ codes "failed not-planar 7")
     × (reason_line (CyclesDiffer 1 3) ≡ codes "failed cycles 1 3")
     × (reason_line (BlocksCross 0) ≡ codes "failed cross 0")

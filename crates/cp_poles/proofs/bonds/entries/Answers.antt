@@ -7,7 +7,7 @@ use Rattle.std.proofs.lemmas.List.Elements.{Contains-get_or}
 use Rattle.cp_conn.proofs.NamedGraphs.{edges_at-Contains}
 use Rattle.cp_board.specs.Instances.{graph, vert_names}
 use Rattle.cp_poles.specs.Between.{AreEntries, number_of}
-use Rattle.cp_poles.proofs.InstanceDarts.{live_far}
+use Rattle.cp_synclaw.proofs.InstanceDarts.{live_far}
 use Rattle.cp_poles.proofs.TakenEdges.{AreEntries-more, AreEntries-none}
 use Rattle.cp_poles.proofs.bonds.entries.Goals as goal
 

@@ -1,7 +1,7 @@
 -- The numbers of the numbered graph are those of the board.
 use Rattle.std.proofs.Common.{◌∙◌}
 use Rattle.cp_board.specs.Instances.{graph}
-use Rattle.cp_poles.proofs.InstanceDarts.{live_ends}
+use Rattle.cp_synclaw.proofs.InstanceDarts.{live_ends}
 use Rattle.cp_poles.proofs.NumberedParts.{AreNumbersBetween-marked}
 use Rattle.cp_poles.proofs.bonds.parts_between.Goals as goal
 

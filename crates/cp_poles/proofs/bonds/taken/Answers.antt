@@ -7,7 +7,7 @@ use Rattle.cp_conn.specs.NamedGraphs.{NamedGraph, far}
 use Rattle.cp_conn.proofs.NamedGraphs.{edges_at-Contains}
 use Rattle.cp_board.specs.Instances.{graph, vert_names}
 use Rattle.cp_poles.specs.Between.{AreTaken, number_of}
-use Rattle.cp_poles.proofs.InstanceDarts.{edges_once, far_differs, live_far}
+use Rattle.cp_synclaw.proofs.InstanceDarts.{edges_once, far_differs, live_far}
 use Rattle.cp_poles.proofs.TakenEdges.{AreTaken-all, AreTaken-direct, AreTaken-none, AreTaken-stuck, AreTaken-through}
 use Rattle.cp_poles.proofs.bonds.taken.Goals as goal
 use Rattle.cp_poles.proofs.bonds.taken.Goals.{then-far-v+in_ok-push, else-far-v+in-Some+in_ok-push-in-Some}

@@ -7,7 +7,8 @@ use Rattle.cp_board.specs.Names.{has}
 use Rattle.cp_board.specs.Instances.{names_of_edges}
 use Rattle.cp_board.specs.Rewrites.{moved_end}
 use Rattle.cp_store.specs.Exchanges.{entry_names, items_of, IsReserved}
-use Rattle.cp_store.proofs.EdgeMoves.{row_name, names-after_moves, after_moves-more}
+use Rattle.cp_sync.proofs.Moves.{names-after_moves, after_moves-more}
+use Rattle.cp_store.proofs.EdgeMoves.{row_name}
 use Rattle.cp_store.proofs.ManyExchanges.{done-exchanged}
 use Rattle.cp_store.proofs.moves.move_ends.Goals as goal
 

@@ -1,6 +1,6 @@
 use Rattle.std.proofs.Common.{◌<◌, length, sym, ◌∙◌, arith}
 use Rattle.std.proofs.lemmas.List.{length-map}
-use Rattle.cp_store.proofs.Places.{found_place, find-behind_all, find-passed}
+use Rattle.cp_sync.proofs.Places.{found_place, find-behind_all, find-passed}
 use Rattle.cp_store.proofs.named.item_named.Goals as goal
 
 pub returns-then-place-items : goal.returns-then-place-items

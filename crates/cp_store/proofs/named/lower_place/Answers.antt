@@ -1,6 +1,6 @@
 use Rattle.std.proofs.Common.{◌+◌, ◌-◌, ◌/◌, map, length, ◌<◌, arith}
 use Rattle.std.proofs.lemmas.List.{length-map}
-use Rattle.cp_store.proofs.Places.{lower_half, upper_half, name_at}
+use Rattle.cp_sync.proofs.Places.{lower_half, upper_half, name_at}
 use Rattle.cp_store.proofs.named.lower_place.Goals as goal
 
 pub loop-low-preserved-then-name : goal.loop-low-preserved-then-name

@@ -1,0 +1,3 @@
+pub mod InstanceDarts
+pub mod InstanceSystems
+pub mod MirroredBonds
