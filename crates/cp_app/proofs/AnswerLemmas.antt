@@ -1,5 +1,5 @@
--- Words and bytes have at most one end and text.
-use Rattle.std.proofs.Common.{◌≡◌, ℕ, ◌≤◌, List, length, drop, ◌⊎◌, inl, inr, refl, sym, ap, ap₂, subst, ◌∙◌, arith}
+-- Words and bytes have at most one end, and one text but for a layout.
+use Rattle.std.proofs.Common.{◌≡◌, ◌≢◌, ℕ, ◌≤◌, List, [], length, drop, get_or, ◌⊎◌, inl, inr, ⊎_elim, refl, sym, ap, ap₂, subst, ◌∙◌, arith}
 use Rattle.cp_cgraph.specs.Clustered.{Clustered}
 use Rattle.cp_cgraph.specs.GraphFaults as graphs
 use Rattle.cp_cgraph.specs.GraphOf.{graph_of}
@@ -15,6 +15,8 @@ use Rattle.cp_gml.specs.declared.tree.Entry.{Entry}
 use Rattle.cp_gml.proofs.Same.{same_entries}
 use Rattle.cp_gml.proofs.Unique.{one_list, list_or_fault, one_fault}
 use Rattle.cp_report.specs.declared.report.Report.{Report}
+use Rattle.cp_report.specs.declared.report.Report.TheVariants.{Yes, No}
+use Rattle.cp_skel.specs.Skeletons.{left}
 use Rattle.cp_report.specs.Texts.{report_text, BeginsWith}
 use Rattle.cp_report.proofs.LawLemmas as laws
 use Rattle.cp_cgraph.specs.GraphTexts.{IsGraphText, IsGraphFault}
@@ -23,14 +25,16 @@ use Rattle.cp_check.proofs.Verdicts.{good_no_reason, one_reason}
 use Rattle.cp_io.specs.Commands as commands
 use Rattle.cp_io.specs.Commands.Answer.{usage, too_long, told}
 use Rattle.cp_io.specs.Streams.{most_bytes}
-use Rattle.cp_app.specs.Answer.{Answer, Checked, Judged, IsCheck, Asks, Answers, shared_ends}
+use Rattle.cp_app.specs.Answer.{Answer, Checked, Judged, Refusal, Solved, IsCheck, IsSolve, IsCommand, IsSolvedReport, Asks, Answers, end_of, shared_ends}
 use Rattle.cp_app.specs.Answer.Checked.{bad_report, read}
-use Rattle.cp_app.specs.Answer.Judged.{grammar, graph, accepted, rejected}
+use Rattle.cp_app.specs.Answer.Judged.{refused, accepted, rejected}
+use Rattle.cp_app.specs.Answer.Refusal.{grammar, graph}
+use Rattle.cp_app.specs.Answer.Solved.{refused, unsolved, solved}
 use Rattle.cp_app.specs.Texts.{bad_report_line, refused_line, rejected_line}
 use Rattle.cp_check.specs.declared.verdict.Reject.{Reject}
-use Rattle.cp_app.specs.Run.{IsAnswer, IsJudged}
+use Rattle.cp_app.specs.Run.{IsAnswer, IsJudged, IsSolvedEnd}
 use Rattle.cp_app.specs.declared.command.Asked.{Asked}
-use Rattle.cp_app.specs.declared.command.Asked.TheVariants.{Check}
+use Rattle.cp_app.specs.declared.command.Asked.TheVariants.{Check, Solve}
 use Rattle.cp_app.specs.declared.end.End.{End}
 use Rattle.cp_app.specs.declared.end.End.TheVariants as ends
 
@@ -67,6 +71,22 @@ same_refusal : (K : Type 0) (name : K → List ℕ) (number : K → ℕ) (k : K)
 same_refusal K name number k a l b is =
     (ap₂ (λ x y. ends.Refused (number x) y) is.0 is.1, ap₂ (λ x y. refused_line (name x) (number x) y) is.0 is.1)
 
+-- the first fault of a text gives one end and one line
+one_refusal : (text : List ℕ) {e f : End} {s t : List ℕ} → Refusal text e s → Refusal text f t → (e ≡ f) × (s ≡ t)
+one_refusal text (grammar k1 a1 is1) (grammar k2 a2 is2) =
+    same_refusal GrammarKind grammar_name grammar_number k1 a1 k2 a2 (one_fault text k1 a1 k2 a2 is1 is2)
+one_refusal text (grammar k1 a1 is1) (graph k2 a2 is2) =
+    absurd (list_or_fault text (tree is2.entries) k1 a1 is2.list is1)
+one_refusal text (graph k1 a1 is1) (grammar k2 a2 is2) =
+    absurd (list_or_fault text (tree is1.entries) k2 a2 is1.list is2)
+one_refusal text (graph k1 a1 is1) (graph k2 a2 is2) =
+    same_refusal GraphKind graph_name graph_number k1 a1 k2 a2 (one_text_fault text k1 a1 k2 a2 is1 is2)
+
+-- the text of a graph is not refused
+graph_no_refusal : (text : List ℕ) (g : Clustered) → IsGraphText text g → {e : End} {s : List ℕ} → Refusal text e s → ⊥
+graph_no_refusal text g is (grammar kind at fault) = list_or_fault text (tree is.entries) kind at is.list fault
+graph_no_refusal text g is (graph kind at fault) = graph_no_fault text g kind at is fault
+
 -- one reason gives one end and one line
 same_rejection : (r : Report) (text : List ℕ) (g h : Clustered) → IsGraphText text g → IsGraphText text h
     → (a b : Reject) → IsReason g r a → IsReason h r b
@@ -84,29 +104,14 @@ accepted_not_rejected r text g h x y reason good is =
 -- a report and a text have one answer
 one_judgement : (r : Report) (text : List ℕ) {e f : End} {s t : List ℕ} → Judged r text e s → Judged r text f t
     → (e ≡ f) × (s ≡ t)
-one_judgement r text (grammar k1 a1 is1) (grammar k2 a2 is2) =
-    same_refusal GrammarKind grammar_name grammar_number k1 a1 k2 a2 (one_fault text k1 a1 k2 a2 is1 is2)
-one_judgement r text (grammar k1 a1 is1) (graph k2 a2 is2) =
-    absurd (list_or_fault text (tree is2.entries) k1 a1 is2.list is1)
-one_judgement r text (grammar k1 a1 is1) (accepted g2 is2 good2) =
-    absurd (list_or_fault text (tree is2.entries) k1 a1 is2.list is1)
-one_judgement r text (grammar k1 a1 is1) (rejected g2 is2 reason2 why2) =
-    absurd (list_or_fault text (tree is2.entries) k1 a1 is2.list is1)
-one_judgement r text (graph k1 a1 is1) (grammar k2 a2 is2) =
-    absurd (list_or_fault text (tree is1.entries) k2 a2 is1.list is2)
-one_judgement r text (graph k1 a1 is1) (graph k2 a2 is2) =
-    same_refusal GraphKind graph_name graph_number k1 a1 k2 a2 (one_text_fault text k1 a1 k2 a2 is1 is2)
-one_judgement r text (graph k1 a1 is1) (accepted g2 is2 good2) = absurd (graph_no_fault text g2 k1 a1 is2 is1)
-one_judgement r text (graph k1 a1 is1) (rejected g2 is2 reason2 why2) = absurd (graph_no_fault text g2 k1 a1 is2 is1)
-one_judgement r text (accepted g1 is1 good1) (grammar k2 a2 is2) =
-    absurd (list_or_fault text (tree is1.entries) k2 a2 is1.list is2)
-one_judgement r text (accepted g1 is1 good1) (graph k2 a2 is2) = absurd (graph_no_fault text g1 k2 a2 is1 is2)
+one_judgement r text (refused a) (refused b) = one_refusal text a b
+one_judgement r text (refused a) (accepted g2 is2 good2) = absurd (graph_no_refusal text g2 is2 a)
+one_judgement r text (refused a) (rejected g2 is2 reason2 why2) = absurd (graph_no_refusal text g2 is2 a)
+one_judgement r text (accepted g1 is1 good1) (refused b) = absurd (graph_no_refusal text g1 is1 b)
 one_judgement r text (accepted g1 is1 good1) (accepted g2 is2 good2) = (refl, refl)
 one_judgement r text (accepted g1 is1 good1) (rejected g2 is2 reason2 why2) =
     absurd (accepted_not_rejected r text g1 g2 is1 is2 reason2 good1 why2)
-one_judgement r text (rejected g1 is1 reason1 why1) (grammar k2 a2 is2) =
-    absurd (list_or_fault text (tree is1.entries) k2 a2 is1.list is2)
-one_judgement r text (rejected g1 is1 reason1 why1) (graph k2 a2 is2) = absurd (graph_no_fault text g1 k2 a2 is1 is2)
+one_judgement r text (rejected g1 is1 reason1 why1) (refused b) = absurd (graph_no_refusal text g1 is1 b)
 one_judgement r text (rejected g1 is1 reason1 why1) (accepted g2 is2 good2) =
     absurd (accepted_not_rejected r text g2 g1 is2 is1 reason1 good2 why1)
 one_judgement r text (rejected g1 is1 reason1 why1) (rejected g2 is2 reason2 why2) =
@@ -135,39 +140,81 @@ one_check bytes (read {end = e} {text = line} r n begins is) (read r2 m begins2 
     one_judgement r2 (drop m bytes) (subst (λ k. Judged r2 (drop k bytes) e line) same.1
     (subst (λ x. Judged x (drop n bytes) e line) same.0 is)) other
 
--- words that are not `check` ask for nothing
-pub asks_nothing : (words : List (List ℕ)) → ¬ IsCheck words → (a : Asked) → ¬ Asks words a
-asks_nothing words none Check = none
+-- a graph that has a layout is not said to have none
+same_report : (g : Clustered) (r q : Report) → IsSolvedReport g r → IsSolvedReport g q
+    → (end_of r ≡ end_of q) × (end_of r ≢ ends.Yes → report_text r ≡ report_text q)
+same_report g No No a b = (refl, λ other. refl)
+same_report g No (Yes k) a b = absurd (a (k, b.0))
+same_report g (Yes l) No a b = absurd (b (l, a.0))
+same_report g (Yes l) (Yes k) a b = (refl, λ other. absurd (other refl))
 
--- what answers a report and a graph answers what is asked for, since this is `check`
-pub checked_answers : (a : Asked) (bytes : List ℕ) (end : End) (text : List ℕ) → Checked bytes end text
-    → Answers a bytes end text
-checked_answers Check bytes end text is = is
+-- a text has one answer, but for the layout
+one_solution : (text : List ℕ) {e f : End} {s t : List ℕ} → Solved text e s → Solved text f t
+    → (e ≡ f) × (e ≢ ends.Yes → s ≡ t)
+one_solution text (refused a) (refused b) = let same = one_refusal text a b in (same.0, λ other. same.1)
+one_solution text (refused a) (unsolved h is2 left2) = absurd (graph_no_refusal text h is2 a)
+one_solution text (refused a) (solved h is2 left2 q b) = absurd (graph_no_refusal text h is2 a)
+one_solution text (unsolved g is1 left1) (refused b) = absurd (graph_no_refusal text g is1 b)
+one_solution text (unsolved g is1 left1) (unsolved h is2 left2) = (refl, λ other. refl)
+one_solution text (unsolved g is1 left1) (solved h is2 left2 q b) =
+    absurd (left1 (ap left (one_graph_text text g h is1 is2) ∙ left2))
+one_solution text (solved g is1 left1 r a) (refused b) = absurd (graph_no_refusal text g is1 b)
+one_solution text (solved g is1 left1 r a) (unsolved h is2 left2) =
+    absurd (left2 (ap left (one_graph_text text h g is2 is1) ∙ left1))
+one_solution text (solved g is1 left1 r a) (solved h is2 left2 q b) =
+    same_report h r q (subst (λ x. IsSolvedReport x r) (one_graph_text text g h is1 is2) a) b
 
--- words and bytes allow one end and one text
+-- words that are no command ask for nothing
+pub asks_nothing : (words : List (List ℕ)) → ¬ IsCommand words → (a : Asked) → ¬ Asks words a
+asks_nothing words none Check asks = none (inl asks)
+asks_nothing words none Solve asks = none (inr asks)
+
+-- words that are a command ask for it
+pub asks_something : (words : List (List ℕ)) → IsCommand words → (a : Asked) × Asks words a
+asks_something words is = ⊎_elim (λ check. (Check, check)) (λ solve. (Solve, solve)) is
+
+-- no words are both commands
+not_both : (words : List (List ℕ)) → IsCheck words → IsSolve words → ⊥
+not_both words check solve =
+    let first : 99 ≡ 115 = ap (λ ws. get_or (get_or ws 0 []) 0 0) (sym check ∙ solve) in omega (arith, first)
+
+-- words and bytes allow one end, and one text but for a layout
 pub one_end : (words : List (List ℕ)) (bytes : List ℕ) {e f : End} {s t : List ℕ} → Answer words bytes e s
-    → Answer words bytes f t → (e ≡ f) × (s ≡ t)
-one_end words bytes (usage n1) (usage n2) = (refl, refl)
+    → Answer words bytes f t → (e ≡ f) × (e ≢ ends.Yes → s ≡ t)
+one_end words bytes (usage n1) (usage n2) = (refl, λ other. refl)
 one_end words bytes (usage n1) (too_long a2 w2 m2) = absurd (n1 a2 w2)
 one_end words bytes (usage n1) (told a2 w2 k2 is2) = absurd (n1 a2 w2)
 one_end words bytes (too_long a1 w1 m1) (usage n2) = absurd (n2 a1 w1)
-one_end words bytes (too_long a1 w1 m1) (too_long a2 w2 m2) = (refl, refl)
+one_end words bytes (too_long a1 w1 m1) (too_long a2 w2 m2) = (refl, λ other. refl)
 one_end words bytes (too_long a1 w1 m1) (told a2 w2 k2 is2) = absurd (omega (arith, m1, k2))
 one_end words bytes (told a1 w1 k1 is1) (usage n2) = absurd (n2 a1 w1)
 one_end words bytes (told a1 w1 k1 is1) (too_long a2 w2 m2) = absurd (omega (arith, m2, k1))
-one_end words bytes (told Check w1 k1 is1) (told Check w2 k2 is2) = one_check bytes is1 is2
+one_end words bytes (told Check w1 k1 is1) (told Check w2 k2 is2) =
+    let same = one_check bytes is1 is2 in (same.0, λ other. same.1)
+one_end words bytes (told Check w1 k1 is1) (told Solve w2 k2 is2) = absurd (not_both words w1 w2)
+one_end words bytes (told Solve w1 k1 is1) (told Check w2 k2 is2) = absurd (not_both words w2 w1)
+one_end words bytes (told Solve w1 k1 is1) (told Solve w2 k2 is2) = one_solution bytes is1 is2
 
--- what is judged behind a report ends in none of the ends that all commands share
+-- a refusal is none of the ends that all commands share
+own_refusal : (text : List ℕ) {end : End} {line : List ℕ} → Refusal text end line → commands.IsOwn shared_ends end
+own_refusal text (grammar kind at is) =
+    record { usage = λ e. cc; too_long = λ e. cc; read = λ e. cc; write = λ e. cc; memory = λ e. cc }
+own_refusal text (graph kind at is) =
+    record { usage = λ e. cc; too_long = λ e. cc; read = λ e. cc; write = λ e. cc; memory = λ e. cc }
+
+-- nor is what is judged behind a report
 own_judged : (r : Report) (text : List ℕ) {end : End} {line : List ℕ} → Judged r text end line
     → commands.IsOwn shared_ends end
-own_judged r text (grammar kind at is) =
-    record { usage = λ e. cc; too_long = λ e. cc; read = λ e. cc; write = λ e. cc; memory = λ e. cc }
-own_judged r text (graph kind at is) =
-    record { usage = λ e. cc; too_long = λ e. cc; read = λ e. cc; write = λ e. cc; memory = λ e. cc }
+own_judged r text (refused is) = own_refusal text is
 own_judged r text (accepted g is good) =
     record { usage = λ e. cc; too_long = λ e. cc; read = λ e. cc; write = λ e. cc; memory = λ e. cc }
 own_judged r text (rejected g is reason why) =
     record { usage = λ e. cc; too_long = λ e. cc; read = λ e. cc; write = λ e. cc; memory = λ e. cc }
+
+-- nor is the end of a report
+own_report : (r : Report) → commands.IsOwn shared_ends (end_of r)
+own_report No = record { usage = λ e. cc; too_long = λ e. cc; read = λ e. cc; write = λ e. cc; memory = λ e. cc }
+own_report (Yes l) = record { usage = λ e. cc; too_long = λ e. cc; read = λ e. cc; write = λ e. cc; memory = λ e. cc }
 
 -- no command answers with an end that all commands share
 pub own_answers : (a : Asked) (bytes : List ℕ) (end : End) (text : List ℕ) → Answers a bytes end text
@@ -175,6 +222,10 @@ pub own_answers : (a : Asked) (bytes : List ℕ) (end : End) (text : List ℕ) �
 own_answers Check bytes end text (bad_report kind number is) =
     record { usage = λ e. cc; too_long = λ e. cc; read = λ e. cc; write = λ e. cc; memory = λ e. cc }
 own_answers Check bytes end text (read r n begins is) = own_judged r (drop n bytes) is
+own_answers Solve bytes end text (refused is) = own_refusal bytes is
+own_answers Solve bytes end text (unsolved g is some) =
+    record { usage = λ e. cc; too_long = λ e. cc; read = λ e. cc; write = λ e. cc; memory = λ e. cc }
+own_answers Solve bytes end text (solved g is none r a) = own_report r
 
 -- the ends that all commands share differ
 pub shared_apart : commands.AreApart shared_ends
@@ -190,8 +241,7 @@ shared_apart = record {
 -- a report and the text of a graph are judged
 judged_graph : (r : Report) (text : List ℕ) (g : Clustered) → IsGraphText text g → {end : End} {line : List ℕ}
     → Judged r text end line → IsJudged end
-judged_graph r text g is (grammar kind at fault) = absurd (list_or_fault text (tree is.entries) kind at is.list fault)
-judged_graph r text g is (graph kind at fault) = absurd (graph_no_fault text g kind at is fault)
+judged_graph r text g is (refused fault) = absurd (graph_no_refusal text g is fault)
 judged_graph r text g is (accepted h other good) = inl refl
 judged_graph r text g is (rejected h other reason why) = inr (reason, refl)
 
@@ -214,6 +264,28 @@ judged_answer words bytes r n g check short begins is (usage none) = absurd (non
 judged_answer words bytes r n g check short begins is (too_long a asks long) = absurd (omega (arith, short, long))
 judged_answer words bytes r n g check short begins is (told Check asks k checked) =
     judged_bytes bytes r n g begins is checked
+judged_answer words bytes r n g check short begins is (told Solve asks k other) = absurd (not_both words check asks)
+
+-- the end of a report tells whether there is a layout
+solved_report : (r : Report) → IsSolvedEnd (end_of r)
+solved_report No = inr refl
+solved_report (Yes l) = inl refl
+
+-- the text of a graph of which no edge leaves a cluster is solved
+solved_graph : (text : List ℕ) (g : Clustered) → IsGraphText text g → left g ≡ [] → {end : End} {line : List ℕ}
+    → Solved text end line → IsSolvedEnd end
+solved_graph text g is none (refused fault) = absurd (graph_no_refusal text g is fault)
+solved_graph text g is none (unsolved h other some) = absurd (some (ap left (one_graph_text text h g other is) ∙ none))
+solved_graph text g is none (solved h other left2 r a) = solved_report r
+
+-- `solve` solves it
+pub solved_answer : (words : List (List ℕ)) (bytes : List ℕ) (g : Clustered) → IsSolve words
+    → length bytes ≤ most_bytes → IsGraphText bytes g → left g ≡ [] → {end : End} {text : List ℕ}
+    → Answer words bytes end text → IsSolvedEnd end
+solved_answer words bytes g solve short is none (usage nothing) = absurd (nothing Solve solve)
+solved_answer words bytes g solve short is none (too_long a asks long) = absurd (omega (arith, short, long))
+solved_answer words bytes g solve short is none (told Check asks k checked) = absurd (not_both words asks solve)
+solved_answer words bytes g solve short is none (told Solve asks k answer) = solved_graph bytes g is none answer
 
 -- an end that no device caused is an answer or want of memory
 pub answer_or_memory : (P : End → Type 0) (end : End) → ¬ (end ≡ ends.ReadFault) → ¬ (end ≡ ends.WriteFault)

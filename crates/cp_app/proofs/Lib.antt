@@ -1,4 +1,5 @@
 mod AnswerLemmas
 mod JudgeLemmas
+mod LeastLayouts
 mod SomeAnswer
 mod WordLemmas

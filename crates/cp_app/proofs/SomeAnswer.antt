@@ -1,5 +1,5 @@
 -- No words and bytes are without an end and a text.
-use Rattle.std.proofs.Common.{ℕ, List, length, drop, ⊎_elim}
+use Rattle.std.proofs.Common.{ℕ, List, length, drop, ◌⊎◌, inl, inr, ⊎_elim}
 use Rattle.std.proofs.lemmas.Bool.{cases_lt}
 use Rattle.cp_cgraph.specs.Clustered.{Clustered}
 use Rattle.cp_cgraph.specs.GraphTexts.{IsGraphText}
@@ -11,16 +11,44 @@ use Rattle.cp_report.specs.Kinds.{report_number}
 use Rattle.cp_io.specs.Commands.Answer.{usage, too_long, told}
 use Rattle.cp_io.specs.Streams.{most_bytes}
 use Rattle.cp_report.specs.declared.report.Report.{Report}
+use Rattle.cp_report.specs.declared.report.Report.TheVariants.{Yes, No}
+use Rattle.cp_report.specs.Texts.{report_text}
+use Rattle.cp_skel.specs.Skeletons.{left}
+use Rattle.cp_skel.specs.SolutionLayouts.{from_least}
 use Rattle.cp_report.proofs.Outcomes.{some_reading}
 use Rattle.cp_check.proofs.Outcomes.{some_verdict}
-use Rattle.cp_app.specs.Answer.{Answer, Checked, Judged}
+use Rattle.cp_app.specs.Answer.{Answer, Checked, Judged, Refusal, Solved}
 use Rattle.cp_app.specs.Answer.Checked.{bad_report, read}
-use Rattle.cp_app.specs.Answer.Judged.{grammar, graph, accepted, rejected}
-use Rattle.cp_app.specs.Texts.{usage_line, bad_report_line, refused_line, accepted_line, rejected_line}
-use Rattle.cp_app.specs.declared.command.Asked.TheVariants.{Check}
+use Rattle.cp_app.specs.Answer.Judged.{refused, accepted, rejected}
+use Rattle.cp_app.specs.Answer.Refusal.{grammar, graph}
+use Rattle.cp_app.specs.Answer.Solved.{refused, unsolved, solved}
+use Rattle.cp_app.specs.Texts.{usage_line, bad_report_line, refused_line, unsolved_line, accepted_line, rejected_line}
+use Rattle.cp_app.specs.declared.command.Asked.TheVariants.{Check, Solve}
 use Rattle.cp_app.specs.declared.end.End.{End}
 use Rattle.cp_app.specs.declared.end.End.TheVariants as ends
-use Rattle.cp_app.proofs.AnswerLemmas.{asks_nothing}
+use Rattle.cp_app.proofs.AnswerLemmas.{asks_nothing, asks_something}
+use Rattle.cp_app.proofs.LeastLayouts.{IsClustered-text, from_least-AllBeginLeast, least-IsGood, none_or_some}
+
+-- a text is a graph or refused
+graph_or_refusal : (text : List ℕ) → ((g : Clustered) × IsGraphText text g)
+    ⊎ ((end : End) × (line : List ℕ) × Refusal text end line)
+graph_or_refusal text =
+    ⊎_elim
+    (λ list.
+    ⊎_elim
+    (λ says. inl (says.0, record { entries = list.0; list = list.1; graph = says.1 }))
+    (λ fault. inr (
+      ends.Refused (graph_number fault.0) fault.1,
+      refused_line (graph_name fault.0) (graph_number fault.0) fault.1,
+      graph fault.0 fault.1 record { entries = list.0; list = list.1; fault = fault.2 },
+    ))
+    (graph_or_fault (length text) list.0))
+    (λ fault. inr (
+      ends.Refused (grammar_number fault.0) fault.1,
+      refused_line (grammar_name fault.0) (grammar_number fault.0) fault.1,
+      grammar fault.0 fault.1 fault.2,
+    ))
+    (some_entries text)
 
 -- a report and the text of a graph are judged
 some_graph_judgement : (r : Report) (text : List ℕ) (g : Clustered) → IsGraphText text g
@@ -34,19 +62,29 @@ some_graph_judgement r text g is none =
 some_judgement : (r : Report) (text : List ℕ) → ((end : End) (line : List ℕ) → Judged r text end line → ⊥) → ⊥
 some_judgement r text none =
     ⊎_elim
-    (λ list.
+    (λ says. some_graph_judgement r text says.0 says.1 none)
+    (λ fault. none fault.0 fault.1 (refused fault.2))
+    (graph_or_refusal text)
+
+-- the text of a graph is answered
+some_graph_answer : (text : List ℕ) (g : Clustered) → IsGraphText text g
+    → ((end : End) (line : List ℕ) → Solved text end line → ⊥) → ⊥
+some_graph_answer text g is none =
     ⊎_elim
-    (λ says. some_graph_judgement r text says.0 record { entries = list.0; list = list.1; graph = says.1 } none)
-    (λ fault.
-    none (ends.Refused (graph_number fault.0) fault.1) (refused_line (graph_name fault.0) (graph_number fault.0)
-    fault.1)
-    (graph fault.0 fault.1 record { entries = list.0; list = list.1; fault = fault.2 }))
-    (graph_or_fault (length text) list.0))
-    (λ fault.
-    none (ends.Refused (grammar_number fault.0) fault.1) (refused_line (grammar_name fault.0) (grammar_number fault.0)
-    fault.1)
-    (grammar fault.0 fault.1 fault.2))
-    (some_entries text)
+    (λ unleft. none ends.No (report_text No) (solved g is unleft No (λ planar.
+    none ends.Yes (report_text (Yes (from_least planar.0)))
+    (solved g is unleft (Yes (from_least planar.0))
+    (least-IsGood g planar.0 (IsClustered-text text g is) planar.1, from_least-AllBeginLeast planar.0)))))
+    (λ some. none (ends.Refused 31 0) unsolved_line (unsolved g is some))
+    (none_or_some (left g))
+
+-- `solve` answers all bytes
+some_solution : (text : List ℕ) → ((end : End) (line : List ℕ) → Solved text end line → ⊥) → ⊥
+some_solution text none =
+    ⊎_elim
+    (λ says. some_graph_answer text says.0 says.1 none)
+    (λ fault. none fault.0 fault.1 (refused fault.2))
+    (graph_or_refusal text)
 
 -- `check` answers all bytes
 some_check : (bytes : List ℕ) → ((end : End) (text : List ℕ) → Checked bytes end text → ⊥) → ⊥
@@ -64,8 +102,11 @@ some_check bytes none =
 pub some_answer : (words : List (List ℕ)) (bytes : List ℕ)
     → ((end : End) (text : List ℕ) → Answer words bytes end text → ⊥) → ⊥
 some_answer words bytes none =
-    none ends.Usage usage_line (usage (asks_nothing words (λ check.
+    none ends.Usage usage_line (usage (asks_nothing words (λ command.
     ⊎_elim
-    (λ long. none ends.TooLong _ (too_long Check check long))
-    (λ short. some_check bytes (λ end text is. none end text (told Check check short is)))
+    (λ long. let asked = asks_something words command in none ends.TooLong _ (too_long asked.0 asked.1 long))
+    (λ short. ⊎_elim
+    (λ check. some_check bytes (λ end text is. none end text (told Check check short is)))
+    (λ solve. some_solution bytes (λ end text is. none end text (told Solve solve short is)))
+    command)
     (cases_lt most_bytes (length bytes)))))

@@ -1,6 +1,9 @@
 -- What a run may end with, and the text that it then writes.
-use Rattle.std.specs.Prelude.{◌≡◌, ℕ, List, [], ◌∷◌, drop, codes}
+use Rattle.std.specs.Prelude.{◌≡◌, ◌≢◌, ◌⊎◌, ◌≤◌, ℕ, List, [], ◌∷◌, drop, codes, get_or}
+use Rattle.std.specs.List.{All}
+use Rattle.cp_lists.specs.CyclicLists.{Has}
 use Rattle.cp_cgraph.specs.Clustered.{Clustered}
+use Rattle.cp_cgraph.specs.declared.layout.Layout.{Layout}
 use Rattle.cp_gml.specs.Kinds.{grammar_name, grammar_number}
 use Rattle.cp_gml.specs.Lists as lists
 use Rattle.cp_gml.specs.declared.kind.GrammarKind.{GrammarKind}
@@ -11,14 +14,17 @@ use Rattle.cp_report.specs.declared.kind.ReportKind.{ReportKind}
 use Rattle.cp_io.specs.Commands as commands
 use Rattle.cp_io.specs.declared.command.Ends.{Ends}
 use Rattle.cp_report.specs.declared.report.Report.{Report}
-use Rattle.cp_report.specs.Texts.{BeginsWith}
+use Rattle.cp_report.specs.declared.report.Report.TheVariants.{Yes, No}
+use Rattle.cp_report.specs.Texts.{BeginsWith, report_text}
 use Rattle.cp_report.specs.Faults as reports
 use Rattle.cp_cgraph.specs.GraphTexts.{IsGraphText, IsGraphFault}
+use Rattle.cp_border.specs.Good.{IsGood, IsCPlanar}
 use Rattle.cp_check.specs.Judging.{IsReason, IsGoodReport}
-use Rattle.cp_app.specs.Texts.{usage_line, bad_report_line, refused_line, accepted_line, rejected_line}
+use Rattle.cp_skel.specs.Skeletons.{left}
+use Rattle.cp_app.specs.Texts.{usage_line, bad_report_line, refused_line, unsolved_line, accepted_line, rejected_line}
 use Rattle.cp_check.specs.declared.verdict.Reject.{Reject}
 use Rattle.cp_app.specs.declared.command.Asked.{Asked}
-use Rattle.cp_app.specs.declared.command.Asked.TheVariants.{Check}
+use Rattle.cp_app.specs.declared.command.Asked.TheVariants.{Check, Solve}
 use Rattle.cp_app.specs.declared.end.End.{End}
 use Rattle.cp_app.specs.declared.end.End.TheVariants as ends
 
@@ -26,13 +32,24 @@ use Rattle.cp_app.specs.declared.end.End.TheVariants as ends
 abbrev pub IsCheck : List (List ℕ) → Type 0
 IsCheck words = words ≡ codes "check" ∷ []
 
+-- or the one command `solve`
+abbrev pub IsSolve : List (List ℕ) → Type 0
+IsSolve words = words ≡ codes "solve" ∷ []
+
+-- they are a command
+abbrev pub IsCommand : List (List ℕ) → Type 0
+IsCommand words = IsCheck words ⊎ IsSolve words
+
+-- the text is no list of keys and values, or says no graph: the end and the line of its first fault
+pub data Refusal (text : List ℕ) : End → List ℕ → Type 0 where
+  grammar : (kind : GrammarKind) (at : ℕ) → lists.IsFaultOf text kind at
+      → Refusal text (ends.Refused (grammar_number kind) at) (refused_line (grammar_name kind) (grammar_number kind) at)
+  graph : (kind : GraphKind) (at : ℕ) → IsGraphFault text kind at
+      → Refusal text (ends.Refused (graph_number kind) at) (refused_line (graph_name kind) (graph_number kind) at)
+
 -- what `check` answers to a report and the text behind it, by the first row that applies
 pub data Judged (r : Report) (text : List ℕ) : End → List ℕ → Type 0 where
-  grammar : (kind : GrammarKind) (at : ℕ) → lists.IsFaultOf text kind at
-      → Judged r text (ends.Refused (grammar_number kind) at) (refused_line (grammar_name kind) (grammar_number kind)
-      at)
-  graph : (kind : GraphKind) (at : ℕ) → IsGraphFault text kind at
-      → Judged r text (ends.Refused (graph_number kind) at) (refused_line (graph_name kind) (graph_number kind) at)
+  refused : {end : End} {line : List ℕ} → Refusal text end line → Judged r text end line
   accepted : (g : Clustered) → IsGraphText text g → IsGoodReport g r → Judged r text ends.Accepted accepted_line
   rejected : (g : Clustered) → IsGraphText text g → (reason : Reject) → IsReason g r reason
       → Judged r text (ends.Rejected reason) (rejected_line reason)
@@ -44,13 +61,42 @@ pub data Checked (bytes : List ℕ) : End → List ℕ → Type 0 where
   read : {end : End} {text : List ℕ} → (r : Report) (n : ℕ) → BeginsWith bytes r n → Judged r (drop n bytes) end text
       → Checked bytes end text
 
+-- the list begins with its least item
+abbrev pub BeginsLeast : List ℕ → Type 0
+BeginsLeast xs = (x : ℕ) → Has x xs → get_or xs 0 x ≤ x
+
+-- each list of the layout does
+pub record AllBeginLeast (l : Layout) : Type 0 where
+  pub nodes : All BeginsLeast l.nodes
+  pub clusters : All BeginsLeast l.clusters
+
+-- the report has a good layout whose lists begin with their least items, or it says no and there is no good layout
+abbrev pub IsSolvedReport : Clustered → Report → Type 0
+IsSolvedReport g No = ¬ IsCPlanar g
+IsSolvedReport g (Yes l) = IsGood g l × AllBeginLeast l
+
+-- the end that tells whether a report has a layout
+abbrev pub end_of : Report → End
+end_of No = ends.No
+end_of (Yes l) = ends.Yes
+
+-- what `solve` answers to the text of a graph, by the first row that applies; graphs of which an edge leaves a cluster
+-- are not solved yet
+pub data Solved (text : List ℕ) : End → List ℕ → Type 0 where
+  refused : {end : End} {line : List ℕ} → Refusal text end line → Solved text end line
+  unsolved : (g : Clustered) → IsGraphText text g → left g ≢ [] → Solved text (ends.Refused 31 0) unsolved_line
+  solved : (g : Clustered) → IsGraphText text g → left g ≡ [] → (r : Report) → IsSolvedReport g r
+      → Solved text (end_of r) (report_text r)
+
 -- the words ask for this
 abbrev pub Asks : List (List ℕ) → Asked → Type 0
 Asks words Check = IsCheck words
+Asks words Solve = IsSolve words
 
 -- the bytes are answered so
 abbrev pub Answers : Asked → List ℕ → End → List ℕ → Type 0
 Answers Check = Checked
+Answers Solve = Solved
 
 -- the ends that all commands share
 abbrev pub shared_ends : Ends End

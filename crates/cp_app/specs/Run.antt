@@ -15,6 +15,10 @@ IsAnswer = commands.IsAnswer shared_ends
 abbrev pub IsJudged : End → Type 0
 IsJudged end = (end ≡ ends.Accepted) ⊎ ((reason : Reject) × (end ≡ ends.Rejected reason))
 
+-- the graph was solved
+abbrev pub IsSolvedEnd : End → Type 0
+IsSolvedEnd end = (end ≡ ends.Yes) ⊎ (end ≡ ends.No)
+
 -- a text was written whole that, where the source told its bytes, answers them with this end
 abbrev pub Wrote : List (List ℕ) → Option (List ℕ) → Option (List ℕ) → Option (List ℕ) → End → Type 0
 Wrote words = WroteAnswer (Answer words)

@@ -4,9 +4,10 @@ ghost use Rattle.cp_app.specs.Answer.{Checked, Judged};
 ghost use Rattle.cp_app.specs.Verdicts.{Tells};
 
 use crate::judge::verdict;
+use crate::refusing::refusal;
 use crate::{End, texts};
 use cp_base::Memory;
-use cp_cgraph::{TextFault, read_graph};
+use cp_cgraph::read_graph;
 use cp_check::Verdict;
 use cp_report::{Report, ReportFault, read_report};
 use std::alloc::Global;
@@ -27,17 +28,7 @@ fn judged(alloc: Global, report: &Report, text: &[u8]) -> Result<(End, Vec<u8>),
 {
     match read_graph(alloc, text) {
         Ok(graph) => told(alloc, verdict(alloc, &graph, report)?),
-        Err(TextFault::Grammar { kind, at }) => {
-            let line = texts::grammar_fault(alloc, kind, at)?;
-            let number = kind.number();
-            Ok((End::Refused { kind: number, at }, line))
-        }
-        Err(TextFault::Graph { kind, at }) => {
-            let line = texts::graph_fault(alloc, kind, at)?;
-            let number = kind.number();
-            Ok((End::Refused { kind: number, at }, line))
-        }
-        Err(TextFault::Memory) => Err(Memory),
+        Err(fault) => refusal(alloc, fault),
     }
 }
 

@@ -1,9 +1,10 @@
-// The command `check`.
+// The commands.
 ghost use Rattle.std.specs.Prelude.{◌↔◌, IsTrue, map, string_bytes};
-ghost use Rattle.cp_app.specs.Answer.{IsCheck};
+ghost use Rattle.cp_app.specs.Answer.{IsCheck, IsSolve};
 
 use crate::End;
 use crate::answering::answer_to;
+use crate::solving::solve_text;
 use cp_base::Memory;
 use cp_io::Command;
 use std::alloc::Global;
@@ -18,11 +19,23 @@ fn is_check(words: &[String]) -> bool
     }
 }
 
+/// Whether the words are the one command `solve`.
+fn is_solve(words: &[String]) -> bool
+    ensures { IsTrue result ↔ IsSolve (map string_bytes words.now) }
+{
+    match words {
+        [word] => word.as_str() == "solve",
+        _ => false,
+    }
+}
+
 /// What the words of the command line may ask for.
 #[derive(Clone, Copy, Debug, PartialEq, Eq)]
 pub(crate) enum Asked {
     /// `check`: a report and a graph are read, and the layout is checked.
     Check,
+    /// `solve`: a graph is read and solved.
+    Solve,
 }
 
 impl Command for Asked {
@@ -36,15 +49,18 @@ impl Command for Asked {
 
     fn asked_of(words: &[String]) -> Option<Asked> {
         if is_check(words) {
-            Some(Asked::Check)
-        } else {
-            None
+            return Some(Asked::Check);
         }
+        if is_solve(words) {
+            return Some(Asked::Solve);
+        }
+        None
     }
 
     fn answer(self, alloc: Global, bytes: &[u8]) -> Result<(End, Vec<u8>), Memory> {
         match self {
             Asked::Check => answer_to(alloc, bytes),
+            Asked::Solve => solve_text(alloc, bytes),
         }
     }
 }

@@ -6,12 +6,15 @@ mod command;
 mod end;
 mod judge;
 mod laws;
+mod refusing;
 mod running;
+mod solving;
 mod texts;
 
 pub use end::End;
 pub use laws::one_answer;
 pub use running::run;
+pub use solving::solve_graph;
 
 #[cfg(test)]
 mod tests;

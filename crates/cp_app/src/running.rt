@@ -1,5 +1,5 @@
 // The whole of a run.
-ghost use Rattle.std.specs.Prelude.{◌≡◌, ◌≢◌, ◌<◌, ◌≤◌, ◌⊎◌, ℕ, List, Some, IsTrue, drop, length, map, string_bytes};
+ghost use Rattle.std.specs.Prelude.{◌≡◌, ◌≢◌, ◌<◌, ◌≤◌, ◌⊎◌, [], ℕ, List, Some, IsTrue, drop, length, map, string_bytes};
 ghost use Rattle.std.specs.Io.KnownBytes.{Appends, IsAtEnd};
 ghost use Rattle.cp_cgraph.specs.Clustered.{Clustered};
 ghost use Rattle.cp_cgraph.specs.GraphTexts.{IsGraphText};
@@ -9,8 +9,9 @@ ghost use Rattle.cp_io.specs.Commands.{read_fault_line};
 ghost use Rattle.cp_io.specs.Streams.{Took, most_bytes};
 ghost use Rattle.cp_report.specs.Texts.{BeginsWith};
 ghost use Rattle.cp_report.specs.declared.report.Report.{Report};
-ghost use Rattle.cp_app.specs.Answer.{IsCheck};
-ghost use Rattle.cp_app.specs.Run.{IsAnswer, IsJudged, Wrote, WroteFront};
+ghost use Rattle.cp_skel.specs.Skeletons.{left};
+ghost use Rattle.cp_app.specs.Answer.{IsCheck, IsCommand, IsSolve};
+ghost use Rattle.cp_app.specs.Run.{IsAnswer, IsJudged, IsSolvedEnd, Wrote, WroteFront};
 
 use crate::command::Asked;
 use crate::{End, texts};
@@ -18,15 +19,17 @@ use cp_io::{Ends, Sink, Source, run_command};
 use std::alloc::Global;
 
 /// Runs the program: `words` are the words of the command line without the program's name. All
-/// texts go to the sink, those of refusals too. `check` reads a report and behind it a graph, and
-/// tells whether the report's layout is good for the graph. Linear on average in the number of bytes
-/// and of places where edges cross borders.
+/// texts go to the sink, those of refusals too. `solve` reads a graph and writes a report: a good
+/// layout, or that there is none; it refuses graphs of which an edge leaves a cluster. `check` reads a
+/// report and behind it a graph, and tells whether the report's layout is good for the graph. `check`
+/// is linear on average in the number of bytes and of places where edges cross borders; `solve` costs
+/// what `solve_free` costs.
 pub fn run<S: Source, K: Sink>(alloc: Global, words: &[String], source: &mut S, sink: &mut K) -> End
     ensures answer { IsAnswer result → Wrote (map string_bytes words.now) (S.left source.old) (K.taken sink.old) (K.taken sink.new) result }
-    ensures unread { ¬ IsCheck (map string_bytes words.now) → source.new ≡ source.old }
-    ensures usage { ¬ IsCheck (map string_bytes words.now) → (result ≡ End.Usage) ⊎ (result ≡ End.WriteFault) }
+    ensures unread { ¬ IsCommand (map string_bytes words.now) → source.new ≡ source.old }
+    ensures usage { ¬ IsCommand (map string_bytes words.now) → (result ≡ End.Usage) ⊎ (result ≡ End.WriteFault) }
     ensures too_long { result ≡ End.TooLong → Took (S.left source.old) (S.left source.new) (λ bytes. most_bytes < length bytes) }
-    ensures read_whole { IsCheck (map string_bytes words.now) → IsAnswer result → result ≢ End.TooLong → IsAtEnd (S.left source.new) }
+    ensures read_whole { IsCommand (map string_bytes words.now) → IsAnswer result → result ≢ End.TooLong → IsAtEnd (S.left source.new) }
     ensures finished { result ≢ End.WriteFault → result ≢ End.Memory → IsTrue (K.finished sink.new) }
     ensures read_fault { result ≡ End.ReadFault → FailedReading (S.left source.old) (S.left source.new) (S.faults source.old) (S.faults source.new)
         × Appends (K.taken sink.old) (K.taken sink.new) read_fault_line }
@@ -38,6 +41,10 @@ pub fn run<S: Source, K: Sink>(alloc: Global, words: &[String], source: &mut S, 
         → length bytes ≤ most_bytes → BeginsWith bytes r n → IsGraphText (drop n bytes) g
         → ¬ Rose (S.faults source.old) (S.faults source.new) → ¬ Rose (K.faults sink.old) (K.faults sink.new)
         → IsJudged result ⊎ (result ≡ End.Memory) }
+    ensures solved { (bytes : List ℕ) (g : Clustered) → IsSolve (map string_bytes words.now) → S.left source.old ≡ Some bytes
+        → length bytes ≤ most_bytes → IsGraphText bytes g → left g ≡ []
+        → ¬ Rose (S.faults source.old) (S.faults source.new) → ¬ Rose (K.faults sink.old) (K.faults sink.new)
+        → IsSolvedEnd result ⊎ (result ≡ End.Memory) }
 {
     let ends = Ends {
         usage: End::Usage,

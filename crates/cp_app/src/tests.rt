@@ -158,6 +158,43 @@ const GRAPHS: [(&str, &str); 22] = [
     ("\u{feff}graph [ ] ;", "refused 1 BadByte at 13\n"),
 ];
 
+// K5, its nodes and edges, with what stands behind the last edge.
+const FIVE: &str =
+    "node [ id 1 ] node [ id 2 ] node [ id 3 ] node [ id 4 ] node [ id 5 ] edge [ source 1 target 3 ] edge [ source 1 target 4 ] edge [ source 1 target 5 ] edge [ source 2 target 3 ] edge [ source 2 target 4 ] edge [ source 2 target 5 ] edge [ source 3 target 4 ] edge [ source 3 target 5 ] edge [ source 4 target 5 ]";
+
+// Graphs that have one answer, each with its status and its text.
+const SOLVED: [(&str, u8, &str); 7] = [
+    ("graph [ ]", 0, "cplan-report 1\nyes\nend\n"),
+    (
+        "graph [\nnode [ id 1 ] node [ id 2 ] node [ id 3 ]\nedge [ source 1 target 2 ]\nedge [ source 2 target 3 ]\nedge [ source 3 target 1 ]\n]\n",
+        0,
+        "cplan-report 1\nyes\nnode 0: 0s 2t\nnode 1: 0t 1s\nnode 2: 1t 2s\nend\n",
+    ),
+    // clusters that no edge leaves, one of them empty
+    (
+        "graph [ node [ id 1 ] node [ id 2 ] node [ id 3 ] edge [ source 1 target 2 ] ] rootcluster [ cluster [ vertex 1 vertex 2 vertex 3 ] ]",
+        0,
+        "cplan-report 1\nyes\nnode 0: 0s\nnode 1: 0t\nnode 2:\ncluster 1:\nend\n",
+    ),
+    (
+        "graph [ node [ id 1 ] node [ id 2 ] edge [ source 1 target 2 ] ] rootcluster [ cluster [ cluster [ cluster [ vertex 1 vertex 2 ] ] ] ]",
+        0,
+        "cplan-report 1\nyes\nnode 0: 0s\nnode 1: 0t\ncluster 1:\ncluster 2:\ncluster 3:\nend\n",
+    ),
+    // a loop stands behind the other edges, its source before its target
+    (
+        "graph [ node [ id 1 ] node [ id 2 ] edge [ source 1 target 1 ] edge [ source 2 target 1 ] ]",
+        0,
+        "cplan-report 1\nyes\nnode 0: 0s 0t 1t\nnode 1: 1s\nend\n",
+    ),
+    (
+        "graph [ node [ id 1 ] node [ id 2 ] edge [ source 1 target 2 ] rootcluster [ cluster [ vertex 1 ] ] ]",
+        2,
+        "refused 31 Unsolved at 0\n",
+    ),
+    ("graph [ ] ]", 2, "refused 7 StrayClose at 10\n"),
+];
+
 // The words of a command line.
 fn words_of(alloc: Global, words: &[&str]) -> Result<Vec<String>, Memory> {
     let mut row = Vec::new(alloc);
@@ -167,13 +204,45 @@ fn words_of(alloc: Global, words: &[&str]) -> Result<Vec<String>, Memory> {
     Ok(row)
 }
 
-// Checks an input, and gives the status and what was written.
-fn checked(alloc: Global, input: &[u8]) -> Result<(u8, MemSink), Memory> {
-    let words = words_of(alloc, &["check"])?;
+// Runs a command on an input, and gives the status and what was written.
+fn ran(alloc: Global, word: &str, input: &[u8]) -> Result<(u8, MemSink), Memory> {
+    let words = words_of(alloc, &[word])?;
     let mut source = MemSource::new(alloc, input, 8, &[])?;
-    let mut sink = MemSink::new(alloc, 100, 100, &[])?;
+    let mut sink = MemSink::new(alloc, 1000, 1000, &[])?;
     let end = run(alloc, words.as_slice(), &mut source, &mut sink);
     Ok((end.code(), sink))
+}
+
+// Checks an input, and gives the status and what was written.
+fn checked(alloc: Global, input: &[u8]) -> Result<(u8, MemSink), Memory> {
+    ran(alloc, "check", input)
+}
+
+#[test]
+fn graphs_are_solved(rt: HostRuntime) -> Result<(), Fail> {
+    for (graph, code, text) in SOLVED {
+        let (got, sink) = ran(rt.alloc(), "solve", graph.as_bytes())?;
+        assert_eq!(rt; sink.bytes(), text.as_bytes(), "{graph}");
+        assert_eq!(rt; got, code, "{graph}");
+    }
+    Ok(())
+}
+
+#[test]
+fn an_edge_more_is_too_many(rt: HostRuntime) -> Result<(), Fail> {
+    let graph = format!(in rt.alloc(); "graph [ {FIVE} ]")?;
+    let (code, report) = ran(rt.alloc(), "solve", graph.as_bytes())?;
+    assert_eq!(rt; code, 0);
+    let mut both = Vec::from_slice(rt.alloc(), report.bytes())?;
+    both.extend_from_slice(graph.as_bytes())?;
+    let (_, sink) = checked(rt.alloc(), both.as_slice())?;
+    assert_eq!(rt; sink.bytes(), b"accepted\n".as_slice());
+
+    let graph = format!(in rt.alloc(); "graph [ {FIVE} edge [ source 1 target 2 ] ]")?;
+    let (code, report) = ran(rt.alloc(), "solve", graph.as_bytes())?;
+    assert_eq!(rt; code, 1);
+    assert_eq!(rt; report.bytes(), b"cplan-report 1\nno\nend\n".as_slice());
+    Ok(())
 }
 
 #[test]
@@ -233,7 +302,13 @@ fn failing_devices_are_told(rt: HostRuntime) -> Result<(), Fail> {
 
 #[test]
 fn other_words_are_no_command(rt: HostRuntime) -> Result<(), Fail> {
-    let rows: [&[&str]; 5] = [&[], &["solve"], &["check", "check"], &["checks"], &[""]];
+    let rows: [&[&str]; 5] = [
+        &[],
+        &["solve", "solve"],
+        &["check", "check"],
+        &["checks"],
+        &[""],
+    ];
     for row in rows {
         let words = words_of(rt.alloc(), row)?;
         let mut source = MemSource::new(rt.alloc(), TRIANGLE.as_bytes(), 100, &[1])?;

@@ -1,6 +1,6 @@
 -- Lists of the vertices of blocks, appended to their rows, and the lists of all vertices in the end.
-use Rattle.std.proofs.Common.{◌≡◌, ◌≢◌, ℕ, zero, suc, ◌+◌, ◌<◌, ◌≤◌, Bool, true, false, cond, eqb, List, [], ◌∷◌, ◌++◌, length, filter, get_or, map, replicate, set, slice_index, take, sym, refl, ap, ap₂, ◌∙◌, subst, inl, inr, ⊎_elim, arith, append-nil, append_assoc, length-set}
-use Rattle.std.specs.Prelude.{Some, None, slice_index_or}
+use Rattle.std.proofs.Common.{◌≡◌, ◌≢◌, ℕ, ◌+◌, ◌<◌, Bool, true, false, cond, eqb, List, [], ◌∷◌, ◌++◌, length, get_or, map, replicate, set, slice_index, take, sym, refl, ap, ap₂, ◌∙◌, subst, inl, ⊎_elim, arith, append-nil, length-set}
+use Rattle.std.specs.Prelude.{Some, slice_index_or}
 use Rattle.std.specs.List.{All, Contains, find}
 use Rattle.std.specs.List.Sorted.{IsStrictlyIncreasing}
 use Rattle.std.specs.Option.{option_map_or}
@@ -10,7 +10,7 @@ use Rattle.std.proofs.lemmas.List.Elements.{Contains-get_or}
 use Rattle.std.proofs.lemmas.List.Kept.{AllPairs-from_increasing}
 use Rattle.cp_lists.specs.CyclicLists.{Has}
 use Rattle.cp_lists.specs.Rows.{flat}
-use Rattle.cp_lists.proofs.DistinctLists.{Distinct-once, Has-Contains, Has-append_cases, Has-append_left, Has-append_right, Has-place}
+use Rattle.cp_lists.proofs.DistinctLists.{Distinct-once, Has-append_cases, Has-append_left, Has-append_right, Has-place}
 use Rattle.cp_lists.proofs.FlatLists.{flat-append}
 use Rattle.cp_conn.specs.NamedGraphs.{rank}
 use Rattle.cp_conn.proofs.NamedGraphs.{rank_at, rank_is}

@@ -1,24 +1,23 @@
 -- The lists of a block, as they are read from its tree, are those of a rotation of the block in the directions of the bits.
-use Rattle.std.proofs.Common.{◌≡◌, ◌≢◌, ℕ, zero, suc, ◌<◌, ◌≤◌, Bool, true, false, cond, eqb, List, [], ◌∷◌, length, filter, map, replicate, slice_index, take, sym, refl, ap, ◌∙◌, subst, inl, inr, ⊎_elim, arith}
+use Rattle.std.proofs.Common.{◌≡◌, ◌≢◌, ℕ, zero, suc, ◌<◌, Bool, true, false, cond, List, [], ◌∷◌, length, filter, map, replicate, slice_index, take, sym, refl, ap, ◌∙◌, subst, ⊎_elim, arith}
 use Rattle.std.specs.Prelude.{Option, Some, None, slice_index_or}
-use Rattle.std.specs.List.{All, AllByRecursion, Contains, list_any}
+use Rattle.std.specs.List.{All, Contains, list_any}
 use Rattle.std.specs.List.Sorted.{IsStrictlyIncreasing}
 use Rattle.std.proofs.lemmas.Bool.{cases_Bool, cases_eq, cond-false, cond-true, false≢true}
 use Rattle.std.proofs.lemmas.List.{get_or-replicate, get_or-take, get_or_default, length-replicate}
-use Rattle.std.proofs.lemmas.List.Elements.{Contains-get_or}
 use Rattle.cp_lists.specs.CyclicLists.{Has}
 use Rattle.cp_lists.specs.Turns.{IsTurn}
-use Rattle.cp_lists.proofs.DistinctLists.{Has-Contains, Has_at}
+use Rattle.cp_lists.proofs.DistinctLists.{Has-Contains}
 use Rattle.cp_lists.proofs.FilteredLists.{Has-filter, filter-Has, filter_yes}
 use Rattle.cp_lists.proofs.TurnedLists.{turn-Has, turn-refl}
-use Rattle.cp_base.specs.Bits.{IsMet, bit_of}
+use Rattle.cp_base.specs.Bits.{bit_of}
 use Rattle.cp_conn.specs.Blocks.{AreInOneBlock}
-use Rattle.cp_conn.specs.NamedGraphs.{NamedGraph, edges_at, ends_at, rank}
+use Rattle.cp_conn.specs.NamedGraphs.{ends_at, rank}
 use Rattle.cp_conn.specs.Numbering.{AreNumbered}
 use Rattle.cp_conn.proofs.NamedGraphs.{rank_at, rank_is}
 use Rattle.cp_sync.specs.Numbering.{numbered}
 use Rattle.cp_pq.specs.Trees.{PQTree, IsPair}
-use Rattle.cp_board.specs.Instances.{IsSynchronized, Synchronized, edge_names, graph, is_q, psi_at, vert_names}
+use Rattle.cp_board.specs.Instances.{IsSynchronized, Synchronized, graph, is_q, psi_at, vert_names}
 use Rattle.cp_board.specs.Names.{has}
 use Rattle.cp_board.specs.Solutions.{directed}
 use Rattle.cp_embed.specs.BoardBlocks.{AreBlockEdges, ends_some, listed_part, part_with}
@@ -26,11 +25,11 @@ use Rattle.cp_embed.specs.Directions as embed
 use Rattle.cp_embed.specs.ListedBlocks.{IsListedBlock, ListedGraph, list_given}
 use Rattle.cp_embed.specs.Realisations.{edges_round}
 use Rattle.cp_embed.specs.Unwound.{AreUnwound, IsTurnedPair}
-use Rattle.cp_embed.proofs.BoardBlocks.{any_of, edges_rise, has-true, listed_part-IsListedBlock, of_any, rising_distinct, size, true-has, verts_in, verts_rise}
+use Rattle.cp_embed.proofs.BoardBlocks.{any_of, has-true, listed_part-IsListedBlock, of_any, rising_distinct, size, true-has, verts_in, verts_rise}
 use Rattle.cp_embed.proofs.TurnedPairs.{pair-IsTurnedPair}
 use Rattle.cp_flip.specs.BlockTrees.{IsEmbeddedBlock}
 use Rattle.cp_flip.specs.CellEquations.{HasDirections}
-use Rattle.cp_flip.specs.DirectedBlocks.{Directions, IsDirectedBy, IsDirectedTree}
+use Rattle.cp_flip.specs.DirectedBlocks.{Directions, IsDirectedTree}
 use Rattle.cp_flip.specs.DirectedRotations.{IsDirectedRotation}
 use Rattle.cp_flip.specs.GluedLists.{AreBlockLists, AreDirectedLists, AreListsWithin, IsPart, MeetsTree, named_list}
 use Rattle.cp_flip.proofs.BlockRotations.{directed-IsDirectedRotation, named_lists}

@@ -1,7 +1,6 @@
 -- One block after the other: its bits among all bits, and its lists behind those of the blocks before it.
-use Rattle.std.proofs.Common.{◌≡◌, ℕ, ◌+◌, ◌-◌, ◌<◌, ◌≤◌, Bool, List, [], ◌∷◌, ◌++◌, length, drop, get_or, map, replicate, take, sym, ap, ◌∙◌, subst, arith}
-use Rattle.std.specs.Prelude.{slice_index_or}
-use Rattle.std.specs.List.{All, AllByRecursion}
+use Rattle.std.proofs.Common.{◌≡◌, ℕ, ◌+◌, ◌-◌, ◌<◌, ◌≤◌, Bool, List, [], ◌∷◌, ◌++◌, length, drop, get_or, replicate, take, sym, ap, ◌∙◌, subst, arith}
+use Rattle.std.specs.List.{AllByRecursion}
 use Rattle.std.proofs.lemmas.List.{take_all, take_more}
 use Rattle.cp_base.specs.Bits.{IsMet}
 use Rattle.cp_board.specs.Instances.{Synchronized, vert_names}
@@ -10,7 +9,7 @@ use Rattle.cp_flip.specs.declared.block_trees.BlockTree.{BlockTree}
 use Rattle.cp_flip.specs.BlockTrees.{AreAllBlocks, IsEmbeddedBlock}
 use Rattle.cp_flip.specs.CellEquations.{AreBitsOf, AreCells, HasDirections, HasOwnVars, block_equations, equations_from, vars_behind, vars_of}
 use Rattle.cp_flip.specs.FreeFaults.{IsFree}
-use Rattle.cp_flip.specs.GluedLists.{AreAppended, AreBlockLists, AreGlued, AreListsWithin, IsPart, MeetsTree, back_by, final_lists, named_list}
+use Rattle.cp_flip.specs.GluedLists.{AreAppended, AreBlockLists, AreGlued, AreListsWithin, MeetsTree, back_by, final_lists}
 use Rattle.cp_flip.proofs.AppendedLists.{AreGlued-more, AreGlued-none}
 use Rattle.cp_flip.proofs.BlockParts.{directions-MeetsTree, lists-AreListsWithin, lists-IsPart}
 use Rattle.cp_flip.proofs.CellEquations.{equations-at, met-HasDirections, room-at, vars_behind-le, vars_behind-push}

@@ -1,5 +1,5 @@
 -- The equations of the cells and the blocks of an instance: over which vars they are, and which bits meet them.
-use Rattle.std.proofs.Common.{◌≡◌, ℕ, zero, suc, ◌+◌, ◌-◌, ◌<◌, ◌≤◌, Bool, true, false, not, cond, List, [], ◌∷◌, ◌++◌, length, drop, filter, get_or, map, slice_index, take, sym, refl, ap, ap₂, ◌∙◌, subst, ⊎_elim, arith, append-nil, append_assoc, length-append}
+use Rattle.std.proofs.Common.{◌≡◌, ℕ, zero, suc, ◌+◌, ◌<◌, ◌≤◌, Bool, true, false, List, [], ◌∷◌, ◌++◌, length, drop, get_or, map, slice_index, take, sym, refl, ap, ap₂, ◌∙◌, subst, ⊎_elim, arith, append-nil, append_assoc, length-append}
 use Rattle.std.specs.Prelude.{Option, Some, None, slice_index_or}
 use Rattle.std.specs.List.{All, AllByRecursion, Contains}
 use Rattle.std.proofs.lemmas.Bool.{cases_Bool, cond-false, cond-true}
@@ -10,13 +10,13 @@ use Rattle.cp_base.specs.Bits.{IsMet, IsOverVars, bit_of, differ}
 use Rattle.cp_base.specs.declared.equation.Equation.{Equation}
 use Rattle.cp_orbits.proofs.ClassLabels.{Contains-head, Contains-tail}
 use Rattle.cp_conn.specs.Blocks.{AreInOneBlock}
-use Rattle.cp_conn.specs.NamedGraphs.{NamedGraph, rank}
+use Rattle.cp_conn.specs.NamedGraphs.{rank}
 use Rattle.cp_conn.specs.Numbering.{AreNumbered}
 use Rattle.cp_conn.proofs.NamedGraphs.{rank_at}
 use Rattle.cp_sync.specs.Numbering.{numbered}
 use Rattle.cp_board.specs.Instances.{IsSynchronized, Synchronized, cell_at, graph, is_q, vert_names}
-use Rattle.cp_board.specs.Solutions.{IsSolvable, Solves}
-use Rattle.cp_embed.specs.BoardBlocks.{AreBlockEdges, AreEdgesOfBlock, listed_part, part_with}
+use Rattle.cp_board.specs.Solutions.{Solves}
+use Rattle.cp_embed.specs.BoardBlocks.{part_with}
 use Rattle.cp_embed.proofs.BoardBlocks.{verts_in}
 use Rattle.cp_flip.specs.declared.block_trees.BlockTree.{BlockTree}
 use Rattle.cp_flip.specs.BlockTrees.{IsEmbeddedBlock}

@@ -1,7 +1,6 @@
 -- Blocks of an instance that are embedded, and the first one that is not.
-use Rattle.std.proofs.Common.{◌≡◌, ◌≢◌, ℕ, ◌+◌, ◌<◌, ◌≤◌, Bool, true, false, eqb, List, [], ◌∷◌, ◌++◌, length, filter, get_or, map, slice_index, take, sym, refl, ap, ◌∙◌, subst, arith, append-nil, below_more}
+use Rattle.std.proofs.Common.{◌≡◌, ◌≢◌, ℕ, ◌+◌, ◌<◌, ◌≤◌, Bool, false, eqb, List, [], ◌∷◌, ◌++◌, length, filter, get_or, map, slice_index, take, sym, refl, ap, ◌∙◌, subst, arith, append-nil, below_more}
 use Rattle.std.specs.Prelude.{Option, Some, None, slice_index_or}
-use Rattle.std.specs.List.{All, Contains}
 use Rattle.std.proofs.lemmas.Bool.{eq-eqb, ne_eqb}
 use Rattle.std.proofs.lemmas.List.{get_or_read, map-append, take_all, take_more}
 use Rattle.std.proofs.lemmas.List.Elements.{All-push, Contains-get_or, filter-append}
@@ -12,14 +11,14 @@ use Rattle.cp_conn.specs.Numbering.{AreNumbered}
 use Rattle.cp_conn.proofs.NamedGraphs.{rank_is}
 use Rattle.cp_sync.specs.Numbering.{numbered}
 use Rattle.cp_pq.specs.Bits.{bit_of}
-use Rattle.cp_board.specs.Blocks.{HasNoRotation, IsUnembeddable}
+use Rattle.cp_board.specs.Blocks.{HasNoRotation}
 use Rattle.cp_board.specs.Instances.{IsSynchronized, Synchronized, edge_names, graph}
 use Rattle.cp_embed.specs.BoardBlocks.{AreBlockEdges, AreEdgesOfBlock, listed_part}
 use Rattle.cp_embed.proofs.BoardBlocks.{rising_distinct}
 use Rattle.cp_flip.specs.declared.block_trees.BlockTree.{BlockTree}
 use Rattle.cp_flip.specs.declared.fault.BlockFault.{BlockFault}
 use Rattle.cp_flip.specs.declared.fault.BlockFault.TheVariants.{NotPlanar, Memory}
-use Rattle.cp_flip.specs.BlockTrees.{AreBlocksNumbered, AreEmbeddedBlocks, AreEmbeddedUpTo, AreRowsByNumber, IsEmbeddedBlock, IsFirstUnembeddable, IsWithoutRotation, is_first, row_with, rows_by_first}
+use Rattle.cp_flip.specs.BlockTrees.{AreBlocksNumbered, AreEmbeddedBlocks, AreEmbeddedUpTo, AreRowsByNumber, IsEmbeddedBlock, IsFirstUnembeddable, IsWithoutRotation, is_first, row_with}
 use Rattle.cp_flip.specs.DirectedBlocks.{CanBeDirected, Directions}
 use Rattle.cp_flip.proofs.CutBlocks.{some}
 use Rattle.cp_flip.proofs.FirstBlocks.{first-IsFirstReason, none-IsEmbeddable, other-AreBlockEdges, other-embeddable, row-AreBlockEdges}

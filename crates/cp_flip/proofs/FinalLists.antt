@@ -1,5 +1,5 @@
 -- The lists of all vertices, put together, are a solution.
-use Rattle.std.proofs.Common.{◌≡◌, ℕ, ◌<◌, Bool, true, false, cond, List, [], ◌∷◌, length, map, slice_index, sym, refl, ap, ◌∙◌, subst, arith}
+use Rattle.std.proofs.Common.{◌≡◌, ℕ, Bool, true, false, List, [], map, sym, ap, ◌∙◌, subst, arith}
 use Rattle.std.specs.Prelude.{Some, slice_index_or}
 use Rattle.std.specs.List.{All, Contains}
 use Rattle.std.specs.Option.{option_map_or}
@@ -14,7 +14,7 @@ use Rattle.cp_board.specs.declared.parts.Kind.{Kind}
 use Rattle.cp_board.specs.declared.parts.Kind.TheVariants.{P, Q}
 use Rattle.cp_board.specs.declared.parts.Pipe.{Pipe}
 use Rattle.cp_board.specs.declared.parts.Vert.{Vert}
-use Rattle.cp_board.specs.Instances.{IsSynchronized, Synchronized, cell_at, edge_names, is_q, is_q_kind, kind_cell, kind_of, kind_psi, psi_at, vert_names}
+use Rattle.cp_board.specs.Instances.{IsSynchronized, Synchronized, is_q, is_q_kind, kind_cell, kind_of, kind_psi, psi_at, vert_names}
 use Rattle.cp_board.specs.Solutions.{IsInDirection, IsMirror, IsSolution, directed, list_in, second_of}
 use Rattle.cp_flip.specs.declared.block_trees.BlockTree.{BlockTree}
 use Rattle.cp_flip.specs.BlockTrees.{AreAllBlocks}

@@ -1,18 +1,21 @@
 -- Faults of the parts are the first reasons, and come only where the instance has no solution.
-use Rattle.std.proofs.Common.{◌≡◌, ℕ, ◌<◌, List, [], length, sym, ap, ◌∙◌, subst}
+use Rattle.std.proofs.Common.{◌≡◌, ℕ, List, [], length, sym, ap, ◌∙◌, subst}
+use Rattle.std.proofs.lemmas.List.{length-map}
+use Rattle.cp_base.specs.Graphs.{PlainGraph}
 use Rattle.cp_conn.specs.Blocks.{AreInOneBlock}
 use Rattle.cp_conn.specs.Numbering.{AreNumbered}
-use Rattle.cp_sync.specs.Numbering.{numbered}
+use Rattle.cp_sync.specs.Numbering.{numbered, numbered_ends}
 use Rattle.cp_parity.specs.declared.fault.ParityFault.{ParityFault}
 use Rattle.cp_parity.specs.declared.fault.ParityFault.TheVariants as parity
 use Rattle.cp_board.specs.Blocks.{HaveCrossing}
 use Rattle.cp_board.specs.Instances.{IsSynchronized, Synchronized, edge_names, graph}
 use Rattle.cp_board.specs.Reasons.{HasNoCrossing, IsEmbeddable}
 use Rattle.cp_board.specs.Solutions.{IsSolvable}
+use Rattle.cp_flip.specs.declared.block_trees.BlockTree.{BlockTree}
 use Rattle.cp_flip.specs.declared.fault.BlockFault.{BlockFault}
 use Rattle.cp_flip.specs.declared.fault.BlockFault.TheVariants as block
 use Rattle.cp_flip.specs.declared.fault.FreeFault.{FreeFault}
-use Rattle.cp_flip.specs.BlockTrees.{AreBlocksNumbered, IsFirstUnembeddable}
+use Rattle.cp_flip.specs.BlockTrees.{AreAllBlocks, AreBlocksNumbered, AreEmbeddedBlocks, IsFirstUnembeddable}
 use Rattle.cp_flip.specs.CellEquations.{HasNoSolution}
 use Rattle.cp_flip.specs.Faults.{of_block, of_parity}
 use Rattle.cp_flip.specs.FreeFaults.{HasNoFreeSolution, IsFreeReason}
@@ -24,31 +27,35 @@ pub AreBlocksNumbered-own : (i : Synchronized) (names numbers : List ℕ) → Ar
     → AreBlocksNumbered i (edge_names i) numbers
 AreBlocksNumbered-own i names numbers n = subst (λ es. AreBlocksNumbered i es numbers) n.edges_are n
 
--- they are told, in terms of a program
-pub told-AreBlocksNumbered : (i : Synchronized) (names items numbers : List ℕ) (ends : List (ℕ × ℕ)) → IsSynchronized i
-    → names ≡ edge_names i → items ≡ names → ends ≡ (numbered (graph i)).ends
-    → AreNumbered (AreInOneBlock ends) (length ends) numbers
-    → length ends ≡ length (edge_names i)
-    → AreBlocksNumbered i items numbers
-told-AreBlocksNumbered i names items numbers ends is names_are items_are ends_are are size = record {
+-- the numbers of the blocks of the numbered graph, in terms of a program
+pub told-AreBlocksNumbered : (i : Synchronized) (h : PlainGraph) (names items numbers own : List ℕ) → IsSynchronized i
+    → h ≡ numbered (graph i) → names ≡ edge_names i → items ≡ names → own ≡ numbers
+    → AreNumbered (AreInOneBlock h.ends) (length h.ends) numbers
+    → AreBlocksNumbered i items own
+told-AreBlocksNumbered i h names items numbers own is graph_is names_are items_are own_are are = record {
   rules = is;
   edges_are = items_are ∙ names_are;
-  by_least = subst (λ es. AreNumbered (AreInOneBlock es) (length items) numbers) ends_are
-      (subst (λ n. AreNumbered (AreInOneBlock ends) n numbers) (size ∙ sym (ap length (items_are ∙ names_are))) are);
+  by_least = subst (AreNumbered (AreInOneBlock ends) (length items)) (sym own_are)
+      (subst (λ n. AreNumbered (AreInOneBlock ends) n numbers)
+      (length-map (edge_names i) (numbered_ends (graph i)) ∙ sym (ap length (items_are ∙ names_are)))
+      (subst (λ (g : PlainGraph). AreNumbered (AreInOneBlock g.ends) (length g.ends) numbers) graph_is are));
+}
+  where
+    -- the ends of the edges by the numbers of the vertices
+    ends : List (ℕ × ℕ)
+    ends = (numbered (graph i)).ends
+
+-- embedded blocks are all blocks, in terms of a program
+pub told-AreAllBlocks : {T : Type 0} (i : Synchronized) (names numbers : List ℕ) (found blocks : List (BlockTree T))
+    → AreBlocksNumbered i names numbers → AreEmbeddedBlocks i numbers found → blocks ≡ found
+    → AreAllBlocks i blocks
+told-AreAllBlocks i names numbers found blocks n h same = record {
+  numbers = numbers;
+  numbered = AreBlocksNumbered-own i names numbers n;
+  embedded = subst (AreEmbeddedBlocks i numbers) (sym same) h;
 }
 
--- a block without a rotation is the first reason
-pub block-IsFreeReason : (i : Synchronized) (fault : BlockFault) (free : FreeFault) → free ≡ of_block fault
-    → IsFirstUnembeddable i fault
-    → IsFreeReason i free
-block-IsFreeReason i fault free same u = subst (IsFreeReason i) (sym same) (by_fault fault u)
-  where
-    -- by the two faults
-    by_fault : (f : BlockFault) → IsFirstUnembeddable i f → IsFreeReason i (of_block f)
-    by_fault (block.NotPlanar edge) h = h
-    by_fault block.Memory h = tt
-
--- the directions of cells are the last one
+-- that no directions of the cells serve is the last reason
 pub parity-IsFreeReason : (i : Synchronized) (fault : ParityFault) (free : FreeFault) → free ≡ of_parity fault
     → i.pipes ≡ [] → IsEmbeddable i → HasNoCrossing i → HasNoSolution i fault
     → IsFreeReason i free
@@ -60,19 +67,8 @@ parity-IsFreeReason i fault free same no_pipe embeddable none h = subst (IsFreeR
         record { no_pipe = no_pipe; embeddable = embeddable; no_crossing = none; unsolvable = k }
     by_fault parity.Memory k = tt
 
--- then there is no solution
-pub parity-HasNoFreeSolution : (i : Synchronized) (fault : ParityFault) (free : FreeFault) → free ≡ of_parity fault
-    → HasNoSolution i fault
-    → HasNoFreeSolution i free
-parity-HasNoFreeSolution i fault free same h = subst (HasNoFreeSolution i) (sym same) (by_fault fault h)
-  where
-    -- by the two faults
-    by_fault : (f : ParityFault) → HasNoSolution i f → HasNoFreeSolution i (of_parity f)
-    by_fault (parity.Conflict cycle) k = k
-    by_fault parity.Memory k = tt
-
 module _ (i : Synchronized) (names numbers : List ℕ) (n : AreBlocksNumbered i names numbers) where
-  -- nor is there one where a block has no rotation
+  -- there is no solution where a block has no rotation
   pub block-HasNoFreeSolution : (fault : BlockFault) (free : FreeFault) → free ≡ of_block fault
       → IsFirstUnembeddable i fault
       → HasNoFreeSolution i free

@@ -1,5 +1,5 @@
 -- Lists of all blocks of an instance, put together at each vertex, are a solution of it.
-use Rattle.std.proofs.Common.{◌≡◌, ◌≢◌, ℕ, zero, suc, ◌*◌, ◌<◌, ◌≤◌, Bool, true, false, cond, eqb, List, [], ◌∷◌, ◌++◌, length, drop, filter, map, slice_index, sym, refl, ap, ◌∙◌, subst, ⊎_elim, arith}
+use Rattle.std.proofs.Common.{◌≡◌, ℕ, zero, suc, ◌<◌, Bool, true, false, eqb, List, [], ◌∷◌, length, drop, filter, map, slice_index, sym, refl, ap, ◌∙◌, subst, ⊎_elim, arith}
 use Rattle.std.specs.Prelude.{slice_index_or}
 use Rattle.std.specs.List.{All, AllByRecursion, Contains}
 use Rattle.std.specs.List.Sorted.{IsPermutation, IsStrictlyIncreasing}
@@ -23,14 +23,13 @@ use Rattle.cp_conn.specs.NamedGraphs.{NamedGraph, edges_at, ends_at, only, rank}
 use Rattle.cp_conn.specs.Numbering.{AreNumbered}
 use Rattle.cp_conn.proofs.NamedGraphs.{Contains-edges_at, edges_at-Contains}
 use Rattle.cp_sync.specs.Numbering.{numbered}
-use Rattle.cp_board.specs.Instances.{IsSynchronized, Synchronized, edge_names, graph, is_q, psi_at, vert_names}
+use Rattle.cp_board.specs.Instances.{IsSynchronized, Synchronized, edge_names, graph, is_q, psi_at}
 use Rattle.cp_board.specs.Reasons.{HasNoCrossing}
 use Rattle.cp_board.specs.Rotations.{ArrangesEdges, IsRotationOf}
 use Rattle.cp_board.specs.Solutions.{directed}
-use Rattle.cp_embed.proofs.BoardBlocks.{live_ends, psi-ArrangesEdges, rising_distinct}
+use Rattle.cp_embed.proofs.BoardBlocks.{psi-ArrangesEdges, rising_distinct}
 use Rattle.cp_flip.specs.declared.block_trees.BlockTree.{BlockTree}
 use Rattle.cp_flip.specs.BlockTrees.{is_first, row_with}
-use Rattle.cp_flip.specs.DirectedRotations.{IsDirectedRotation}
 use Rattle.cp_flip.specs.GluedLists.{AreParts, IsPart}
 use Rattle.cp_flip.proofs.EqualTests.{not_true}
 use Rattle.cp_flip.proofs.GluedBlocks.{glued-IsRotationOf}

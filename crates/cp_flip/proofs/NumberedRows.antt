@@ -1,5 +1,5 @@
 -- Rows of edges by numbers, as they are gathered.
-use Rattle.std.proofs.Common.{◌≡◌, ◌≢◌, ℕ, ◌+◌, ◌<◌, Bool, eqb, List, [], ◌∷◌, ◌++◌, length, filter, get_or, replicate, set, slice_index, take, sym, refl, ap, ◌∙◌, subst, ⊎_elim, arith, append-nil, length-set}
+use Rattle.std.proofs.Common.{◌≡◌, ◌≢◌, ℕ, ◌+◌, ◌<◌, Bool, eqb, List, [], ◌∷◌, ◌++◌, length, filter, get_or, replicate, set, slice_index, take, sym, refl, ap, ◌∙◌, ⊎_elim, arith, append-nil, length-set}
 use Rattle.std.specs.Prelude.{slice_index_or}
 use Rattle.std.specs.List.{All}
 use Rattle.std.specs.List.Sorted.{IsStrictlyIncreasing}

@@ -1,7 +1,7 @@
 -- What a solution of an instance tells of its blocks: each has a rotation in the directions of the cells, and no two cross.
-use Rattle.std.proofs.Common.{◌≡◌, ◌≢◌, ℕ, suc, zero, ◌+◌, ◌-◌, ◌*◌, ◌/◌, ◌<◌, ◌≤◌, Bool, true, false, eqb, List, [], ◌∷◌, length, drop, filter, map, reverse, slice_index, sym, refl, ap, ◌∙◌, subst, inl, inr, ⊎_elim, arith}
+use Rattle.std.proofs.Common.{◌≡◌, ℕ, suc, zero, ◌+◌, ◌-◌, ◌*◌, ◌/◌, ◌<◌, Bool, true, false, eqb, List, [], ◌∷◌, length, drop, filter, map, reverse, slice_index, sym, refl, ap, ◌∙◌, subst, inl, inr, ⊎_elim, arith}
 use Rattle.std.specs.Prelude.{Some, slice_index_or}
-use Rattle.std.specs.List.{All, Contains}
+use Rattle.std.specs.List.{Contains}
 use Rattle.std.specs.Option.{option_map_or}
 use Rattle.std.proofs.lemmas.Bool.{eq-eqb, eqb-true, false≢true}
 use Rattle.std.proofs.lemmas.List.{drop-drop, get_or-drop, get_or-map, length-drop, length-map, reverse-reverse}
@@ -24,7 +24,7 @@ use Rattle.cp_sync.specs.Numbering.{numbered}
 use Rattle.cp_board.specs.declared.parts.Kind.{Kind}
 use Rattle.cp_board.specs.declared.parts.Kind.TheVariants.{P, Q}
 use Rattle.cp_board.specs.declared.parts.Vert.{Vert}
-use Rattle.cp_board.specs.Instances.{IsSynchronized, Synchronized, cell_at, edge_names, graph, is_q, is_q_kind, kind_cell, kind_of, kind_psi, psi_at, vert_names}
+use Rattle.cp_board.specs.Instances.{IsSynchronized, Synchronized, cell_at, graph, is_q, is_q_kind, kind_cell, kind_of, kind_psi, psi_at, vert_names}
 use Rattle.cp_board.specs.Reasons.{HasNoCrossing, IsEmbeddable}
 use Rattle.cp_board.specs.Rotations.{dart}
 use Rattle.cp_board.specs.Solutions.{IsInDirection, Solves, directed}

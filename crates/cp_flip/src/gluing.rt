@@ -3,15 +3,19 @@ ghost use Rattle.std.specs.Prelude.{◌≡◌, ◌++◌, ◌∷◌, ◌<◌, ◌
 ghost use Rattle.std.specs.List.{All, AllByRecursion, Contains};
 ghost use Rattle.cp_base.specs.Bits.{IsMet};
 ghost use Rattle.cp_board.specs.Instances.{vert_names};
-ghost use Rattle.cp_flip.specs.CellEquations.{AreCells};
-ghost use Rattle.cp_flip.specs.GluedLists.{AreAppended, AreBlockLists, AreDirectedLists, AreListsWithin, MeetsTree, final_list};
+ghost use Rattle.cp_board.specs.Solutions.{IsSolution};
+ghost use Rattle.cp_flip.specs.BlockTrees.{AreAllBlocks};
+ghost use Rattle.cp_flip.specs.CellEquations.{AreBitsOf, AreCells};
+ghost use Rattle.cp_flip.specs.FreeFaults.{IsFree};
+ghost use Rattle.cp_flip.specs.GluedLists.{AreAppended, AreBlockLists, AreDirectedLists, AreListsWithin, MeetsTree, final_list, final_lists};
 
+use crate::block_rows::empty_rows;
 use crate::block_trees::BlockTree;
 use crate::directions::DirectedBlock;
 use cp_base::{CycList, Items, Memory};
 use cp_embed::{rank_among, unwind};
 use cp_force::OrderTree;
-use cp_sync::Board;
+use cp_sync::{Board, Solution};
 use std::alloc::Global;
 
 // Lists of a rotation system of the block in the plane, in the directions that the bits tell.
@@ -110,4 +114,62 @@ fn final_list<B: Board>(
     } else {
         CycList::from_slice(alloc, board.psi(v).items())
     }
+}
+
+// The lists of all vertices. Linear in them, up to a logarithm.
+fn solution_of<B: Board>(
+    alloc: Global,
+    board: &B,
+    cells: &[usize],
+    bits: &[bool],
+    verts: &[usize],
+    rows: &[Items<usize>],
+) -> Result<Solution, Memory>
+    requires cells { AreCells (B.instance board.now) cells.now }
+    requires bits { length cells.now ≤ length bits.now }
+    requires verts { verts.now ≡ vert_names (B.instance board.now) }
+    requires row_each { length rows.now ≡ length verts.now }
+    ensures { IfOk result (λ s. s ≡ final_lists (B.instance board.now) cells.now bits.now rows.now) }
+{
+    let mut solution = Solution::new(alloc);
+    for k in 0..verts.len() {
+        let list = final_list(alloc, board, cells, bits, verts[k], rows[k].items())?;
+        solution.push(verts[k], list)?;
+    }
+    Ok(solution)
+}
+
+// The solution that the bits tell: at each vertex stand its lists in the blocks one behind the other, and a Q-vertex
+// has its list in the direction of its cell. Linear in the blocks, up to a logarithm.
+pub(crate) fn put_together<B: Board, T: OrderTree>(
+    alloc: Global,
+    board: &B,
+    cells: &[usize],
+    verts: &[usize],
+    blocks: &[BlockTree<T>],
+    bits: &[bool],
+) -> Result<Solution, Memory>
+    requires cells { AreCells (B.instance board.now) cells.now }
+    requires verts { verts.now ≡ vert_names (B.instance board.now) }
+    requires blocks { AreAllBlocks (B.instance board.now) blocks.now }
+    requires bits { AreBitsOf (B.instance board.now) cells.now blocks.now bits.now }
+    requires free { IsFree (B.instance board.now) }
+    ensures { IfOk result (IsSolution (B.instance board.now)) }
+{
+    let mut rows = empty_rows(alloc, verts.len())?;
+    let mut first = cells.len();
+    for block in blocks {
+        let end = first + block.vars();
+        let lists = block_lists(alloc, block, &bits[first..end])?;
+        rows = appended(
+            rows,
+            verts,
+            block.verts.items(),
+            block.edges.items(),
+            lists.as_slice(),
+        )?;
+        first = end;
+    }
+    let solution = solution_of(alloc, board, cells, bits, verts, rows.as_slice())?;
+    Ok(solution)
 }

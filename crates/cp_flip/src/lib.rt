@@ -8,6 +8,7 @@ mod cell_equations;
 mod crossing;
 mod directions;
 mod fault;
+mod free;
 mod gluing;
 mod turns;
 
@@ -15,6 +16,7 @@ pub use block_trees::{BlockTree, embed_block, embed_blocks};
 pub use crossing::first_crossing;
 pub use directions::{DirectedBlock, directed};
 pub use fault::{BlockFault, FreeFault};
+pub use free::solve_free;
 
 #[cfg(test)]
 mod tests;

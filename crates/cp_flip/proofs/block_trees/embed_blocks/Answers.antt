@@ -1,10 +1,10 @@
 -- Each row is that of the block of its edge, and the blocks so far are one more where the edge is the first of its row.
-use Rattle.std.proofs.Common.{◌≡◌, ◌<◌, ◌+◌, List, ℕ, length, slice_index, sym, ap, ◌∙◌, subst, arith}
+use Rattle.std.proofs.Common.{◌<◌, ◌+◌, length, slice_index, sym, ap, ◌∙◌, subst, arith}
 use Rattle.std.proofs.lemmas.Result.{err_from_is_err_and}
 use Rattle.cp_board.specs.Instances.{edge_names, graph}
 use Rattle.cp_sync.specs.Numbering.{numbered}
 use Rattle.cp_embed.specs.BoardBlocks.{AreBlockEdges}
-use Rattle.cp_flip.specs.BlockTrees.{AreEmbeddedUpTo, IsEmbeddedBlock, IsWithoutRotation, row_with}
+use Rattle.cp_flip.specs.BlockTrees.{AreEmbeddedUpTo, IsEmbeddedBlock, IsWithoutRotation}
 use Rattle.cp_flip.proofs.EmbeddedBlocks.{AreEmbeddedUpTo-all, AreEmbeddedUpTo-first, AreEmbeddedUpTo-other, fault-IsFirstUnembeddable, numbered-own, row-read, row-within}
 use Rattle.cp_flip.proofs.FirstBlocks.{row-AreBlockEdges, row-some}
 use Rattle.cp_flip.proofs.NumberedRows.{numbers-below}

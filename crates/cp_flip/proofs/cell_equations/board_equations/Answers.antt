@@ -1,5 +1,4 @@
 -- The system is that of one block more.
-use Rattle.std.proofs.Common.{sym, subst}
 use Rattle.cp_flip.proofs.CellEquations.{item-IsEmbeddedBlock, own-all, system-more}
 use Rattle.cp_flip.proofs.cell_equations.board_equations.Goals as goal
 

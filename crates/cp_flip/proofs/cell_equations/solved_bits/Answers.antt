@@ -1,9 +1,8 @@
 -- The system of all blocks is met by bits exactly where the board has a solution.
-use Rattle.std.proofs.Common.{length, sym, ◌∙◌, subst}
+use Rattle.std.proofs.Common.{sym, ◌∙◌, subst}
 use Rattle.std.proofs.lemmas.Result.{err_from_is_err_and}
 use Rattle.std.specs.List.{All}
 use Rattle.cp_base.specs.Bits.{IsMet, IsOverVars}
-use Rattle.cp_base.specs.declared.equation.Equation.{Equation}
 use Rattle.cp_parity.specs.Equations.{HaveNoBits}
 use Rattle.cp_flip.proofs.CellEquations.{system-HasNoSolution, system-over}
 use Rattle.cp_flip.proofs.cell_equations.solved_bits.Goals as goal

@@ -1,8 +1,17 @@
--- There is one command, `check`.
+-- Each command has its answer.
+use Rattle.std.proofs.Common.{sym, subst}
 use Rattle.std.proofs.lemmas.Result.{IfOk-weaker}
-use Rattle.cp_app.proofs.AnswerLemmas.{checked_answers}
+use Rattle.cp_app.specs.Answer.{Answers}
 use Rattle.cp_app.proofs.command.AskedCommand.answer.Goals as goal
 
-pub returns : goal.returns
-returns c = IfOk-weaker c.answer_to.result _ _ (λ a is. checked_answers c.args.self c.args.bytes.now a.0 a.1.items is)
+pub returns-in-Check : goal.returns-in-Check
+returns-in-Check c =
+    IfOk-weaker c.answer_to.result _ _
+    (λ a is. subst (λ x. Answers x c.args.bytes.now a.0 a.1.items) (sym c.in-Check.is) is)
     c.answer_to.ensures
+
+pub returns-in-Solve : goal.returns-in-Solve
+returns-in-Solve c =
+    IfOk-weaker c.solve_text.result _ _
+    (λ a is. subst (λ x. Answers x c.args.bytes.now a.0 a.1.items) (sym c.in-Solve.is) is)
+    c.solve_text.ensures
