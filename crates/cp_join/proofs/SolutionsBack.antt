@@ -238,7 +238,8 @@ module _ (i : Synchronized) (pipe : ℕ) (is : IsSynchronized i) (allowed : Allo
           (vert_names i))
       told-IsSolution =
           subst (λ (x : ℕ × ℕ). IsSolution i (map (λ v.
-          (v, with_orders x.0 x.1 (first_back pairs order) (second_back pairs order) (list_in after) v)) (vert_names i)))
+          (v, with_orders x.0 x.1 (first_back pairs order) (second_back pairs order) (list_in after) v))
+          (vert_names i)))
           (sym (same_ends ∙ ap (λ o. option_map_or (λ (x : Pipe). (x.a, x.b)) o (0, 0)) live))
           (subst (λ xs. IsSolution i (map (λ v.
           (v, with_orders p.a p.b (first_back xs order) (second_back xs order) (list_in after) v)) (vert_names i)))

@@ -32,9 +32,10 @@ inner_system pairs hats s t lists = system_of (inner_at pairs s t) (inner_lists 
 abbrev pub first_marks : Parting → Parting → List Bool
 first_marks s t = replicate (length s.inner) true ++ replicate (length t.inner) false
 
--- a solution after the step has lists of new edges at the inner vertices, which make a rotation system of genus zero, and
--- there are not too many parts for their numbers
-pub record HasInnerLists (pairs : List (ℕ × ℕ)) (hats : List ℕ) (s t : Parting) (after : List (ℕ × List ℕ)) : Type 0 where
+-- a solution after the step has lists of new edges at the inner vertices, which make a rotation system of genus zero,
+-- and there are not too many parts for their numbers
+pub record HasInnerLists (pairs : List (ℕ × ℕ)) (hats : List ℕ) (s t : Parting) (after : List (ℕ × List ℕ))
+    : Type 0 where
   pub few_first : length s.parts < 2 ^ 60
   pub few_second : length t.parts < 2 ^ 60
   pub rising : IsStrictlyIncreasing hats

@@ -4,8 +4,7 @@ ghost use Rattle.std.specs.List.{All, Contains};
 ghost use Rattle.std.specs.List.Sorted.{IsStrictlyIncreasing};
 ghost use Rattle.cp_board.specs.Solutions.{list_in};
 ghost use Rattle.cp_rotlaw.specs.SideOrders.{IsSideOrder};
-ghost use Rattle.cp_join.specs.Partings.{FitPairs};
-ghost use Rattle.cp_join.specs.InnerSystems.{HasInnerLists, first_marks, hat_darts, inner_at, inner_lists, inner_system};
+ghost use Rattle.cp_join.specs.InnerSystems.{HasInnerLists, first_marks, hat_darts, inner_at, inner_system};
 
 use crate::parted_ends::{Parting, part_place};
 use crate::vertex_parts::place_of;
@@ -68,7 +67,8 @@ fn push_lists(
     requires names { All (Contains (map (λ row. row.0) after.now)) verts.now }
     requires live { All (λ v. All (Contains hats.now) (list_in after.now v)) verts.now }
     requires end { end < 2 }
-    ensures { OnOk result (lists.new.items ≡ lists.old.items ++ map (λ v. hat_darts hats.now end (list_in after.now v)) verts.now) }
+    ensures { OnOk result (lists.new.items
+        ≡ lists.old.items ++ map (λ v. hat_darts hats.now end (list_in after.now v)) verts.now) }
 {
     for v in verts {
         lists.push(darts_of_hats(alloc, hats, end, after.list_of(*v).items())?)?;
@@ -118,7 +118,9 @@ pub(crate) fn common_order(
     after: &Solution,
 ) -> Result<CycList, Memory>
     requires { HasInnerLists pairs.now hats.now first.now second.now after.now }
-    ensures { IfOk result (λ order. IsSideOrder (inner_system pairs.now hats.now first.now second.now (list_in after.now)) (first_marks first.now second.now) order) }
+    ensures { IfOk result (λ order.
+        IsSideOrder (inner_system pairs.now hats.now first.now second.now (list_in after.now))
+        (first_marks first.now second.now) order) }
 {
     let rot = inner_rot(alloc, pairs, hats, first, second, after)?;
     let marks = marks_of(alloc, first.inner.len(), second.inner.len())?;

@@ -91,7 +91,8 @@ fn earlier_solution(
 ) -> Result<Solution, Memory>
     requires rising { IsStrictlyIncreasing verts.now }
     requires names { All (λ v. v ≢ ends.0 → v ≢ ends.1 → Contains (map (λ row. row.0) after.now) v) verts.now }
-    ensures { IfOk result (λ s. s ≡ map (λ v. (v, with_orders ends.0 ends.1 first.now second.now (list_in after.now) v)) verts.now) }
+    ensures { IfOk result (λ s.
+        s ≡ map (λ v. (v, with_orders ends.0 ends.1 first.now second.now (list_in after.now) v)) verts.now) }
 {
     let mut solution = Solution::new(alloc);
     for v in verts {

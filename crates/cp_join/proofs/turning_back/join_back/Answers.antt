@@ -65,7 +65,8 @@ first_order-requires g c =
     c.requires.solved.1 c.in_ok-first.ensures.few_verts c.in_ok-first.ensures.few_edges c.pipe_ends-ends.result
     c.pairs-pairs.result.now c.pipe_ends-ends.ensures.value c.pairs-pairs.ensures c.in_ok-first.first
     c.in_ok-second.second c.in_ok-both.both.0 c.in_ok-both.both.1 c.in_ok-hats.hats.items c.in_ok-first.ensures.parts
-    c.in_ok-second.ensures.parts c.in_ok-both.ensures c.in_ok-hats.ensures c.args.after c.requires.solved.2 c.in_ok-order.order
+    c.in_ok-second.ensures.parts c.in_ok-both.ensures c.in_ok-hats.ensures c.args.after c.requires.solved.2
+    c.in_ok-order.order
     (subst (λ hs. IsSideOrder (inner_system c.pairs-pairs.result.now hs c.in_ok-both.both.0 c.in_ok-both.both.1
     (list_in c.args.after)) (first_marks c.in_ok-both.both.0 c.in_ok-both.both.1) c.in_ok-order.order)
     c.as_slice.ensures.value c.in_ok-order.ensures))
@@ -78,7 +79,8 @@ second_order-requires g c =
     c.requires.solved.1 c.in_ok-first.ensures.few_verts c.in_ok-first.ensures.few_edges c.pipe_ends-ends.result
     c.pairs-pairs.result.now c.pipe_ends-ends.ensures.value c.pairs-pairs.ensures c.in_ok-first.first
     c.in_ok-second.second c.in_ok-both.both.0 c.in_ok-both.both.1 c.in_ok-hats.hats.items c.in_ok-first.ensures.parts
-    c.in_ok-second.ensures.parts c.in_ok-both.ensures c.in_ok-hats.ensures c.args.after c.requires.solved.2 c.in_ok-order.order
+    c.in_ok-second.ensures.parts c.in_ok-both.ensures c.in_ok-hats.ensures c.args.after c.requires.solved.2
+    c.in_ok-order.order
     (subst (λ hs. IsSideOrder (inner_system c.pairs-pairs.result.now hs c.in_ok-both.both.0 c.in_ok-both.both.1
     (list_in c.args.after)) (first_marks c.in_ok-both.both.0 c.in_ok-both.both.1) c.in_ok-order.order)
     c.as_slice.ensures.value c.in_ok-order.ensures))
@@ -119,7 +121,8 @@ returns g c =
     c.requires.solved.1 c.in_ok-first.ensures.few_verts c.in_ok-first.ensures.few_edges c.pipe_ends-ends.result
     c.pairs-pairs.result.now c.pipe_ends-ends.ensures.value c.pairs-pairs.ensures c.in_ok-first.first
     c.in_ok-second.second c.in_ok-both.both.0 c.in_ok-both.both.1 c.in_ok-hats.hats.items c.in_ok-first.ensures.parts
-    c.in_ok-second.ensures.parts c.in_ok-both.ensures c.in_ok-hats.ensures c.args.after c.requires.solved.2 c.in_ok-order.order
+    c.in_ok-second.ensures.parts c.in_ok-both.ensures c.in_ok-hats.ensures c.args.after c.requires.solved.2
+    c.in_ok-order.order
     (subst (λ hs. IsSideOrder (inner_system c.pairs-pairs.result.now hs c.in_ok-both.both.0 c.in_ok-both.both.1
     (list_in c.args.after)) (first_marks c.in_ok-both.both.0 c.in_ok-both.both.1) c.in_ok-order.order)
     c.as_slice.ensures.value c.in_ok-order.ensures))
