@@ -33,6 +33,9 @@ pub(crate) struct Change {
     // What stood under the names of the new edges.
     pub(crate) edges: Vec<Entry<EdgeRow>>,
     pub(crate) pipes: Vec<Entry<Pipe>>,
+    // The tree of the links of the edges, and the number of nodes of the trees.
+    pub(crate) ends: usize,
+    pub(crate) mark: usize,
 }
 
 // Takes a change back. Logarithmic for each entry, without memory.
@@ -91,6 +94,8 @@ pub(crate) fn empty_for(alloc: Global, plan: &Change, moves: usize) -> Result<Ch
         moved,
         edges,
         pipes,
+        ends: 0,
+        mark: 0,
     })
 }
 
