@@ -1,9 +1,11 @@
-use Rattle.std.proofs.Common.{◌≡◌, ◌∙◌, sym, subst}
+use Rattle.std.proofs.Common.{◌≡◌, ◌++◌, ap, ◌∙◌, sym, subst}
 use Rattle.cp_board.specs.Instances.{edges_of}
 use Rattle.cp_board.proofs.EdgesOfVertices.{edges_of-rows}
+use Rattle.cp_store.specs.Forests.{items_at}
 use Rattle.cp_store.specs.Parts.{told}
 use Rattle.cp_store.proofs.StoredStates.{told-present, IsStore-rules}
 use Rattle.cp_store.proofs.LinkChanges.{IsLinkTree-links}
+use Rattle.cp_store.proofs.KeyNames.{names_under}
 use Rattle.cp_store.proofs.Indexes.{names_under-edges}
 use Rattle.cp_store.proofs.store.StoreBoard.edges_at.Goals as goal
 
@@ -15,4 +17,6 @@ returns-clause-names c =
     let i = told c.self.inside.parts in
     let rules = IsStore-rules c.self.inside.parts c.self.inside.log.items c.self.invariant.0 in
     subst (λ j. c.push_names.new.to.items ≡ edges_of j c.args.v) (told-present c.self.inside.parts c.self.inside.log.items c.args.self.now c.self.view_is)
-    (c.in_ok-push_names.ensures ∙ names_under-edges i c.self.inside.links c.self.inside.ends c.args.v rules c.self.invariant.1.now ∙ sym (edges_of-rows i c.args.v rules))
+    (c.in_ok-push_names.ensures
+    ∙ ap (λ xs. xs ++ names_under c.args.v (items_at c.self.inside.links c.self.inside.ends)) c.new-names.ensures.items
+    ∙ names_under-edges i c.self.inside.links c.self.inside.ends c.args.v rules c.self.invariant.1.now ∙ sym (edges_of-rows i c.args.v rules))
