@@ -154,7 +154,8 @@ length-nodes rows = length-filter_both (λ (r : Planted). not r.fixed) (λ (r : 
     twice false = refl
 
 -- two lists of items in the order of names
-length-named_append : {A : Type 0} (name : A → ℕ) (xs ys : List A) → length (by_name name (xs ++ ys)) ≡ length xs + length ys
+length-named_append : {A : Type 0} (name : A → ℕ) (xs ys : List A)
+    → length (by_name name (xs ++ ys)) ≡ length xs + length ys
 length-named_append name xs ys = length-by_name name (xs ++ ys) ∙ length-append xs ys
 
 -- edges that move are as many as before
@@ -256,7 +257,8 @@ module _ (i j : Synchronized) (is : IsSynchronized i) (n : ℕ) (p : Pipe) (foun
       )
 
   -- two vertices, two edges and a pipe at most for each inner node of the shape
-  slots-propagated : (u : ℕ) (shape : Shape) → IsFitting i p u shape → IsPropagated i p u shape j → slots j ≤ slots i + 8 * degree p
+  slots-propagated : (u : ℕ) (shape : Shape) → IsFitting i p u shape → IsPropagated i p u shape j
+      → slots j ≤ slots i + 8 * degree p
   slots-propagated u shape fits w =
       let d = length-end i is n p found u fits.end in
       let l = ap length fits.leaves ∙ refl in
@@ -310,7 +312,8 @@ module _ (i j : Synchronized) (is : IsSynchronized i) (n : ℕ) (p : Pipe) (foun
   slots-small false w = slots-without p.name w
 
 -- the bound for all steps
-pub slots-after : (step : Step) (p : Pipe) (i j : Synchronized) → IsSynchronized i → pipe_named i (pipe_of step) ≡ Some p
+pub slots-after : (step : Step) (p : Pipe) (i j : Synchronized) → IsSynchronized i
+    → pipe_named i (pipe_of step) ≡ Some p
     → Allowed i step → After i step j
     → slots j ≤ slots i + 8 * degree p
 slots-after (Small n) p i j is found allowed after =
