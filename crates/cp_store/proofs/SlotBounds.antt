@@ -1,8 +1,7 @@
 -- An allowed step raises the number of vertices, edges and pipes by at most 8 times the degree of its pipe.
-use Rattle.std.proofs.Common.{◌≡◌, ◌≢◌, ℕ, zero, suc, ◌+◌, ◌*◌, ◌<◌, ◌≤◌, Bool, true, false, not, ◌||◌, cond, eqb, leb, List, [], ◌∷◌, ◌++◌, length, map, reverse, sym, refl, ap, ◌∙◌, subst, arith, ⊎_elim}
-use Rattle.std.specs.Prelude.{filter, Option, Some, None, find, ◌&&◌}
+use Rattle.std.proofs.Common.{◌≡◌, ℕ, ◌+◌, ◌*◌, ◌<◌, ◌≤◌, Bool, true, false, not, ◌||◌, cond, eqb, leb, List, [], ◌∷◌, ◌++◌, length, map, reverse, sym, refl, ap, ◌∙◌, subst, arith, ⊎_elim}
+use Rattle.std.specs.Prelude.{filter, Some, ◌&&◌}
 use Rattle.std.specs.List.{All, flat_map, list_all, zip}
-use Rattle.std.specs.List.Sorted.{IsPermutation}
 use Rattle.std.proofs.lemmas.Bool.{cond_both, cond-false, and_parts, eqb-true, eq-eqb, leb-true}
 use Rattle.std.proofs.lemmas.List.{length-append, length-map}
 use Rattle.std.proofs.lemmas.List.Elements.{All-head, All-tail}
@@ -20,7 +19,7 @@ use Rattle.cp_board.specs.declared.parts.EdgeRow.{EdgeRow}
 use Rattle.cp_board.specs.declared.parts.Pipe.{Pipe}
 use Rattle.cp_board.specs.declared.steps.Step.{Step}
 use Rattle.cp_board.specs.declared.steps.Step.TheVariants.{Small, FreePole, FusePoles, Toroidal, Join, Propagate}
-use Rattle.cp_board.specs.Names.{has, by_name, rising}
+use Rattle.cp_board.specs.Names.{has, by_name}
 use Rattle.cp_board.specs.Instances.{Synchronized, IsSynchronized, HasRightPairs, graph, edges_of, pipe_in, pipe_named}
 use Rattle.cp_board.specs.Steps.{degree, opposite, partner, IsEnd, Allowed, IsFitting}
 use Rattle.cp_board.specs.Plantings.{Planted, Plants, PlantsAll, holder, lower_end, tree_edges, free_nodes, fixed_nodes}

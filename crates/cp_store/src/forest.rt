@@ -1,8 +1,8 @@
 // Search trees that share what they have in common, each named by its root.
 ghost use Rattle.std.specs.Prelude.{◌≡◌, ◌+◌, ◌<◌, ◌≤◌, ◌∷◌, ◌++◌, [], length, IfOk};
 
-use crate::ranked::Ranked;
 use crate::nodes::Node;
+use crate::ranked::Ranked;
 use cp_base::Memory;
 use std::alloc::Global;
 use std::marker::Model;
@@ -61,11 +61,7 @@ impl<T> Forest<T> {
         ensures value { result ≡ length (items_at self.now root) }
         ensures small { result ≤ 1152921504606846976 }
     {
-        if root == 0 {
-            0
-        } else {
-            self.node(root).count
-        }
+        if root == 0 { 0 } else { self.node(root).count }
     }
 
     // The tree before the item of this root, the item, and the tree behind it. Constant time.

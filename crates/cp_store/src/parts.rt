@@ -119,3 +119,17 @@ pub(crate) fn make_change(parts: &mut Parts, plan: Change, moves: &[EdgeMove], d
     exchange_all(&mut parts.edges, plan.edges, &mut done.edges);
     exchange_all(&mut parts.pipes, plan.pipes, &mut done.pipes);
 }
+
+// The change with the tree of the links before it, and the number of nodes.
+pub(crate) fn with_links(change: Change, ends: usize, mark: usize) -> Change
+    ensures { result ≡ record change { ends = ends; mark = mark } }
+{
+    Change {
+        verts: change.verts,
+        moved: change.moved,
+        edges: change.edges,
+        pipes: change.pipes,
+        ends,
+        mark,
+    }
+}

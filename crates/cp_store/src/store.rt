@@ -13,7 +13,9 @@ use crate::links::Link;
 use crate::lists::table_of;
 use crate::lookups::{cell_under, ends_under, has_list, pairs_under, pipe_ends_under, psi_under};
 use crate::names::live_names;
-use crate::parts::{Change, Parts, empty_for, make_change, reserve_change, undo_change};
+use crate::parts::{
+    Change, Parts, empty_for, make_change, reserve_change, undo_change, with_links,
+};
 use crate::plan::plan_of;
 use crate::reading::{copied_table, pipe_ending_at, slots_of};
 use cp_base::{CycList, Memory};
@@ -135,14 +137,7 @@ impl Store {
         let mark = self.links.len();
         let ends = with_rewrite(&mut self.links, self.ends, w)?;
         make_change(&mut self.parts, plan, w.moves.items(), &mut done);
-        self.log.push_reserved(Change {
-            verts: done.verts,
-            moved: done.moved,
-            edges: done.edges,
-            pipes: done.pipes,
-            ends: self.ends,
-            mark,
-        });
+        self.log.push_reserved(with_links(done, self.ends, mark));
         self.ends = ends;
         Ok(())
     }

@@ -1,4 +1,4 @@
-use Rattle.std.proofs.Common.{◌≡◌, true, List, ◌∷◌, ◌++◌, [], reverse, sym, refl, ap, ◌∙◌, subst}
+use Rattle.std.proofs.Common.{◌≡◌, true, List, ◌∷◌, ◌++◌, [], reverse, sym, ap, ◌∙◌, subst}
 use Rattle.std.specs.List.{All}
 use Rattle.cp_board.specs.declared.rewrite.EdgeMove.{EdgeMove}
 use Rattle.cp_board.specs.declared.rewrite.Rewrite.{Rewrite}
@@ -9,7 +9,7 @@ use Rattle.cp_store.specs.declared.parts.Change.{Change}
 use Rattle.cp_store.specs.declared.parts.Parts.{Parts}
 use Rattle.cp_store.specs.Exchanges.{taken_back}
 use Rattle.cp_store.specs.Histories.{present_of}
-use Rattle.cp_store.specs.Parts.{told, states, IsStore, IsPlanOf}
+use Rattle.cp_store.specs.Parts.{told, states, undone, HasRoom, IsStore, IsPlanOf}
 use Rattle.cp_store.proofs.StoredStates.{present-states, states-pushed, IsStore-rules, IsStore-more, IsStore-pushed, HasMoreRoom-next}
 use Rattle.cp_store.proofs.StoredRewrites.{told-rewritten, moves-live, plan-named}
 use Rattle.cp_store.specs.Links.{HasLinks}
@@ -42,8 +42,8 @@ invariant_of-self-in_err-reserve_change c =
 pub with_rewrite-requires : goal.with_rewrite-requires
 with_rewrite-requires c = IsLinkTree-links c.self.inside.links c.self.inside.ends _ c.self.invariant.1.now
 
-pub invariant_of-self-in_err-with_rewrite : goal.invariant_of-self-in_err-with_rewrite
-invariant_of-self-in_err-with_rewrite c =
+pub invariant_of-self-in_err-ends : goal.invariant_of-self-in_err-ends
+invariant_of-self-in_err-ends c =
     let links = c.self.inside.links in
     let ends = c.self.inside.ends in
     subst (λ l. IsStore c.reserve_change.new.parts l × IsLinked c.with_rewrite.new.forest ends l (told c.reserve_change.new.parts)) (sym c.reserve.ensures.items) (
@@ -86,14 +86,17 @@ invariant_of-self-2 c =
     let now = made c.args.w.now c.in_ok-plan.plan c.items.result.now p q r log c.self.invariant.0 fits c.in_ok-plan.ensures c.items.ensures c.reserve_change.ensures.told
     c.make_change.ensures.verts c.make_change.ensures.edges c.make_change.ensures.pipes in
     let done = c.make_change.new.done in
-    let kept : Change = record { verts = done.verts; moved = done.moved; edges = done.edges; pipes = done.pipes; ends = c.self.inside.ends; mark = c.len.result } in
+    let kept : Change = c.with_links.result in
+    let is = c.with_links.ensures in
+    let back : undone kept (told r) ≡ told p = ap (λ k. undone k (told r)) is ∙ c.make_change.ensures.back ∙ c.reserve_change.ensures.told in
+    let room = c.make_change.ensures.room in
     let links = c.self.inside.links in
     subst (λ l. IsStore r l × IsLinked c.with_rewrite.new.forest c.in_ok-ends.ends l (told r)) (sym (c.push_reserved.ensures.items ∙ ap (λ l. l ++ kept ∷ []) c.reserve.ensures.items)) (
-      IsStore-pushed p r log kept c.self.invariant.0 c.make_change.ensures.tables (HasMoreRoom-next p q r c.reserve_change.ensures.more c.make_change.ensures.more) c.make_change.ensures.room
-          (c.make_change.ensures.back ∙ c.reserve_change.ensures.told)
+      IsStore-pushed p r log kept c.self.invariant.0 c.make_change.ensures.tables (HasMoreRoom-next p q r c.reserve_change.ensures.more c.make_change.ensures.more) (subst (HasRoom r) (sym is) (record { verts = room.verts; moved = room.moved; edges = room.edges; pipes = room.pipes }))
+          back
           (subst IsSynchronized (sym now) fits.rules),
-      IsLinked-pushed links c.with_rewrite.new.forest c.self.inside.ends c.in_ok-ends.ends log kept (told p) (told r) c.with_rewrite.ensures.keeps c.len.ensures refl
-          (c.make_change.ensures.back ∙ c.reserve_change.ensures.told)
+      IsLinked-pushed links c.with_rewrite.new.forest c.self.inside.ends c.in_ok-ends.ends log kept (told p) (told r) c.with_rewrite.ensures.keeps (ap (λ k. k.mark) is ∙ c.len-mark.ensures) (ap (λ k. k.ends) is)
+          back
           (subst (λ i. HasLinks c.with_rewrite.new.forest c.in_ok-ends.ends (joins i.edges)) (sym now)
           (HasLinks-same c.with_rewrite.new.forest c.in_ok-ends.ends _ (joins (rewritten c.args.w.now (told p)).edges) (links-rewritten (told p) c.args.w.now (IsStore-rules p log c.self.invariant.0) fits)
           (c.in_ok-ends.ensures.links (joins (told p).edges) c.self.invariant.1.now)))
@@ -110,8 +113,10 @@ returns-clause-ok c =
     let now = made c.args.w.now c.in_ok-plan.plan c.items.result.now p q r log c.self.invariant.0 fits c.in_ok-plan.ensures c.items.ensures c.reserve_change.ensures.told
     c.make_change.ensures.verts c.make_change.ensures.edges c.make_change.ensures.pipes in
     let done = c.make_change.new.done in
-    let kept : Change = record { verts = done.verts; moved = done.moved; edges = done.edges; pipes = done.pipes; ends = c.self.inside.ends; mark = c.len.result } in
+    let kept : Change = c.with_links.result in
+    let is = c.with_links.ensures in
+    let back : undone kept (told r) ≡ told p = ap (λ k. undone k (told r)) is ∙ c.make_change.ensures.back ∙ c.reserve_change.ensures.told in
     ap (λ l. states (reverse l) (told r)) (c.push_reserved.ensures.items ∙ ap (λ l. l ++ kept ∷ []) c.reserve.ensures.items)
-    ∙ states-pushed log kept (told r) (told p) (c.make_change.ensures.back ∙ c.reserve_change.ensures.told)
+    ∙ states-pushed log kept (told r) (told p) back
     ∙ ap (λ i. i ∷ states (reverse log) (told p)) (now ∙ ap (rewritten c.args.w.now) (sym (present-states (reverse log) (told p)) ∙ ap present_of c.self.view_is))
     ∙ ap (λ s. rewritten c.args.w.now (present_of c.args.self.now) ∷ s) c.self.view_is
