@@ -1,16 +1,20 @@
 -- Moves of ends of edges, as exchanges under the names of the edges.
-use Rattle.std.proofs.Common.{◌≡◌, ℕ, true, cond, eqb, List, [], ◌∷◌, map, sym, refl, ap, ◌∙◌, subst}
+use Rattle.std.proofs.Common.{◌≡◌, ℕ, zero, suc, ◌+◌, ◌<◌, Bool, true, false, ◌||◌, cond, eqb, List, [], ◌∷◌, ◌++◌, length, map, take, slice_index_or, sym, refl, ap, ◌∙◌, subst, arith}
 use Rattle.std.specs.Prelude.{Some, None}
+use Rattle.std.specs.List.{All}
 use Rattle.std.proofs.lemmas.Bool.{cond-true, cond-false, cond_both}
+use Rattle.std.proofs.lemmas.List.{take_more}
+use Rattle.std.proofs.lemmas.List.Elements.{All-nil, All-cons}
 use Rattle.cp_board.specs.declared.parts.EdgeRow.{EdgeRow}
 use Rattle.cp_board.specs.declared.rewrite.EdgeMove.{EdgeMove}
+use Rattle.cp_board.specs.Names.{has}
 use Rattle.cp_board.specs.Instances.{names_of_edges}
-use Rattle.cp_board.specs.Rewrites.{moved_end}
+use Rattle.cp_board.specs.Rewrites.{moved_end, after_moves, AreMoves}
 use Rattle.cp_board.proofs.ListTests.{rises}
 use Rattle.cp_board.proofs.NamedLists.{under_all-rises, rises_after}
 use Rattle.cp_store.specs.Exchanges.{under, exchanged}
 use Rattle.cp_store.proofs.ExchangedItems.{Some-same, None-Some, under-named, under-below, exchanged-one}
-use Rattle.std.proofs.lemmas.Bool.{eqb-true}
+use Rattle.std.proofs.lemmas.Bool.{eqb-true, eq-eqb}
 
 -- the name of an edge
 abbrev pub row_name : EdgeRow → ℕ

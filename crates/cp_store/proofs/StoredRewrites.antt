@@ -52,7 +52,7 @@ new_names-distinct : {A : Type 0} (name : A → ℕ) (live : List ℕ) (xs : Lis
 new_names-distinct name live xs new = distinct_from_rises name xs (rises_from (map name xs) (new_names-rise live (map name xs) new))
 
 -- a number of a list is in it
-has-Contains : (xs : List ℕ) (x : ℕ) → Contains xs x → has xs x ≡ true
+pub has-Contains : (xs : List ℕ) (x : ℕ) → Contains xs x → has xs x ≡ true
 has-Contains xs x c = subst (λ n. has xs n ≡ true) c.2 (has-at xs c.0 x c.1)
 
 module _ (i : Synchronized) (w : Rewrite) (is : IsSynchronized i) (fits : IsRewriteOf i w) where

@@ -1,9 +1,11 @@
 -- The two Small of the worked run whose pipes have three pairs are rewrites of the instances before them.
 use Rattle.std.proofs.Common.{◌≡◌, ℕ, [], ◌∷◌, refl, arith}
-use Rattle.std.specs.List.{Contains}
+use Rattle.std.specs.List.{All, Contains}
 use Rattle.std.proofs.lemmas.List.Elements.{All-nil}
+use Rattle.cp_board.specs.declared.parts.Vert.{Vert}
+use Rattle.cp_board.specs.declared.rewrite.Rewrite.{Rewrite}
 use Rattle.cp_board.specs.Names.{has}
-use Rattle.cp_board.specs.Instances.{IsSynchronized, pipe_names}
+use Rattle.cp_board.specs.Instances.{Synchronized, IsSynchronized, pipe_names}
 use Rattle.cp_board.specs.Rewrites.{IsRewriteOf, rewritten, verts_with}
 use Rattle.cp_board.specs.Rows as rows
 use Rattle.cp_board.proofs.ListTests.{All-from_test, Contains-from_has, Distinct-from_test}

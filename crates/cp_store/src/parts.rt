@@ -33,6 +33,9 @@ pub(crate) struct Change {
     // What stood under the names of the new edges.
     pub(crate) edges: Vec<Entry<EdgeRow>>,
     pub(crate) pipes: Vec<Entry<Pipe>>,
+    // The tree of the links of the edges, and the number of nodes of the trees.
+    pub(crate) ends: usize,
+    pub(crate) mark: usize,
 }
 
 // Takes a change back. Logarithmic for each entry, without memory.
@@ -91,6 +94,8 @@ pub(crate) fn empty_for(alloc: Global, plan: &Change, moves: usize) -> Result<Ch
         moved,
         edges,
         pipes,
+        ends: 0,
+        mark: 0,
     })
 }
 
@@ -113,4 +118,18 @@ pub(crate) fn make_change(parts: &mut Parts, plan: Change, moves: &[EdgeMove], d
     move_ends(&mut parts.edges, moves, &mut done.moved);
     exchange_all(&mut parts.edges, plan.edges, &mut done.edges);
     exchange_all(&mut parts.pipes, plan.pipes, &mut done.pipes);
+}
+
+// The change with the tree of the links before it, and the number of nodes.
+pub(crate) fn with_links(change: Change, ends: usize, mark: usize) -> Change
+    ensures { result ≡ record change { ends = ends; mark = mark } }
+{
+    Change {
+        verts: change.verts,
+        moved: change.moved,
+        edges: change.edges,
+        pipes: change.pipes,
+        ends,
+        mark,
+    }
 }

@@ -1,4 +1,5 @@
 use Rattle.std.proofs.Common.{◌≡◌, ◌++◌, [], length, map, slice_index_or, ◌<◌, sym, ap, ◌∙◌, subst}
+use Rattle.cp_board.specs.Instances.{names_at}
 use Rattle.cp_store.specs.Exchanges.{with_item}
 use Rattle.cp_store.proofs.ReadItems.{names-more}
 use Rattle.cp_store.proofs.names.live_names.Goals as goal

@@ -4,7 +4,7 @@ use Rattle.cp_board.specs.Instances.{Synchronized}
 use Rattle.cp_board.specs.Rewrites.{rewritten, IsRewriteOf}
 use Rattle.cp_board.specs.Rows as rows
 use Rattle.cp_store.specs.Histories.{present_of}
-use Rattle.cp_store.specs.WorkedSteps.{first_small}
+use Rattle.cp_store.specs.WorkedSteps.{first_small, second_small}
 use Rattle.cp_store.proofs.WorkedSteps.{first_small-rewritten, second_small-rewritten, IsRewriteOf-first_small, IsRewriteOf-second_small}
 use Rattle.cp_store.proofs.tests.make_small.Goals as goal
 

@@ -1,4 +1,4 @@
-use Rattle.std.proofs.Common.{◌∙◌, subst}
+use Rattle.std.proofs.Common.{◌≡◌, ◌∙◌, subst}
 use Rattle.cp_board.specs.Instances.{IsSynchronized}
 use Rattle.cp_board.specs.Rows as rows
 use Rattle.cp_sync.specs.Faults.{with_parts}

@@ -12,4 +12,4 @@ returns-in-None-clause-none c =
 pub returns-in-Some-clause-some : goal.returns-in-Some-clause-some
 returns-in-Some-clause-some c =
     subst (λ i. IsGreatestName i c.in-Some.name) (told-present c.self.inside.parts c.self.inside.log.items c.args.self.now c.self.view_is)
-    (IsGreatestName-best (told c.self.inside.parts) _ c.in-Some.name (IsStore-rules c.self.inside.parts c.self.inside.log.items c.self.invariant) c.in-Some.ensures)
+    (IsGreatestName-best (told c.self.inside.parts) _ c.in-Some.name (IsStore-rules c.self.inside.parts c.self.inside.log.items c.self.invariant.0) c.in-Some.ensures)
