@@ -1,9 +1,9 @@
 -- The trees of a list of nodes, when nodes are added and taken away.
-use Rattle.std.proofs.Common.{◌≡◌, ℕ, zero, suc, ◌+◌, ◌-◌, ◌<◌, ◌≤◌, List, [], ◌∷◌, ◌++◌, length, take, drop, slice_index_or, sym, refl, ap, ◌∙◌, subst, arith}
+use Rattle.std.proofs.Common.{◌≡◌, ℕ, zero, suc, ◌+◌, ◌-◌, ◌<◌, ◌≤◌, List, [], ◌∷◌, ◌++◌, length, take, slice_index_or, sym, refl, ap, ◌∙◌, subst, arith}
 use Rattle.std.proofs.lemmas.List.{get_or_append_left, length-append, length-take}
 use Rattle.std.proofs.Math.Seq.{get_or-append_seam}
 use Rattle.cp_store.specs.declared.nodes.Node.{Node}
-use Rattle.cp_store.specs.Forests.{items_at, node_items, grown, IsNode, AreNodes, IsNodeOf, Keeps, IsTree}
+use Rattle.cp_store.specs.Forests.{items_at, node_items, grown, AreNodes, IsNodeOf, Keeps, IsTree}
 
 -- lists behind the others leave the trees of those
 pub items_at-append : {T : Type 0} (ls ms : List (List T)) (root : ℕ) → root ≤ length ls
@@ -32,12 +32,15 @@ items_at-grown ls (n ∷ ns) root le =
     items_at-grown (ls ++ node_items ls n ∷ []) ns root (omega (arith, le, length-append ls (node_items ls n ∷ [])))
     ∙ items_at-append ls (node_items ls n ∷ []) root le
 
-pub grown-append : {T : Type 0} (ls : List (List T)) (ns ms : List (Node T)) → grown ls (ns ++ ms) ≡ grown (grown ls ns) ms
+-- the lists of some nodes and more are those of the first, and behind them those of the others
+pub grown-append : {T : Type 0} (ls : List (List T)) (ns ms : List (Node T))
+    → grown ls (ns ++ ms) ≡ grown (grown ls ns) ms
 grown-append ls [] ms = refl
 grown-append ls (n ∷ ns) ms = grown-append (ls ++ node_items ls n ∷ []) ns ms
 
 -- right nodes, and behind them right ones
-pub AreNodes-append : {T : Type 0} (ls : List (List T)) (ns ms : List (Node T)) → AreNodes ls ns → AreNodes (grown ls ns) ms
+pub AreNodes-append : {T : Type 0} (ls : List (List T)) (ns ms : List (Node T)) → AreNodes ls ns
+    → AreNodes (grown ls ns) ms
     → AreNodes ls (ns ++ ms)
 AreNodes-append ls [] ms a b = b
 AreNodes-append ls (n ∷ ns) ms a b = (a.0, AreNodes-append (ls ++ node_items ls n ∷ []) ns ms a.1 b)
@@ -47,7 +50,9 @@ AreNodes-first : {T : Type 0} (ls : List (List T)) (ns ms : List (Node T)) → A
 AreNodes-first ls [] ms a = tt
 AreNodes-first ls (n ∷ ns) ms a = (a.0, AreNodes-first (ls ++ node_items ls n ∷ []) ns ms a.1)
 
-pub AreNodes-take : {T : Type 0} (ls : List (List T)) (ns : List (Node T)) (k : ℕ) → AreNodes ls ns → AreNodes ls (take k ns)
+-- the first k of right nodes are right
+pub AreNodes-take : {T : Type 0} (ls : List (List T)) (ns : List (Node T)) (k : ℕ) → AreNodes ls ns
+    → AreNodes ls (take k ns)
 AreNodes-take ls [] zero a = tt
 AreNodes-take ls [] (suc k) a = tt
 AreNodes-take ls (n ∷ ns) zero a = tt
@@ -64,10 +69,12 @@ items_at-take {T} ls ns zero root le within = items_at-grown ls ns root (omega (
     none (m ∷ ms) = refl
 items_at-take ls [] (suc k) root le within = refl
 items_at-take ls (n ∷ ns) (suc k) root le within =
-    items_at-take (ls ++ node_items ls n ∷ []) ns k root (omega (arith, le, length-append ls (node_items ls n ∷ []))) (omega (arith, within))
+    items_at-take (ls ++ node_items ls n ∷ []) ns k root (omega (arith, le, length-append ls (node_items ls n ∷ [])))
+    (omega (arith, within))
 
 -- what a node tells of its tree
-pub node-told : {T : Type 0} (ls : List (List T)) (ns : List (Node T)) (k : ℕ) (n : Node T) → AreNodes ls ns → k < length ns
+pub node-told : {T : Type 0} (ls : List (List T)) (ns : List (Node T)) (k : ℕ) (n : Node T) → AreNodes ls ns
+    → k < length ns
     → n ≡ slice_index_or ns k n
     → IsNodeOf (grown ls ns) (length ls + k + 1) n
 node-told ls [] k n a lt is = absurd (omega (arith, lt))
@@ -79,14 +86,18 @@ node-told {T} ls (m ∷ ns) zero n a lt is =
     ∙ items_at-grown more ns (length ls + 1) (omega (arith, size))
     ∙ items_at-last ls (node_items ls m) in
     let front : items_at (grown more ns) m.before ≡ items_at ls m.before =
-    items_at-grown more ns m.before (omega (arith, size, a.0.before)) ∙ items_at-append ls (node_items ls m ∷ []) m.before a.0.before in
+    items_at-grown more ns m.before (omega (arith, size, a.0.before))
+    ∙ items_at-append ls (node_items ls m ∷ []) m.before a.0.before in
     let back : items_at (grown more ns) m.behind ≡ items_at ls m.behind =
-    items_at-grown more ns m.behind (omega (arith, size, a.0.behind)) ∙ items_at-append ls (node_items ls m ∷ []) m.behind a.0.behind in
+    items_at-grown more ns m.behind (omega (arith, size, a.0.behind))
+    ∙ items_at-append ls (node_items ls m ∷ []) m.behind a.0.behind in
     let whole : IsNodeOf (grown more ns) (length ls + 0 + 1) m = record {
-      items = there ∙ ap (λ xs. xs ++ m.item ∷ items_at ls m.behind) (sym front) ∙ ap (λ xs. items_at (grown more ns) m.before ++ m.item ∷ xs) (sym back);
+      items = there ∙ ap (λ xs. xs ++ m.item ∷ items_at ls m.behind) (sym front)
+          ∙ ap (λ xs. items_at (grown more ns) m.before ++ m.item ∷ xs) (sym back);
       before = omega (arith, a.0.before);
       behind = omega (arith, a.0.behind);
-      count = omega (arith, a.0.count, length-append (items_at ls m.before) (m.item ∷ items_at ls m.behind)) ∙ ap length (sym there);
+      count = omega (arith, a.0.count, length-append (items_at ls m.before) (m.item ∷ items_at ls m.behind))
+          ∙ ap length (sym there);
       small = a.0.small;
     } in
     subst (IsNodeOf (grown more ns) (length ls + 0 + 1)) (sym is) whole
@@ -96,19 +107,22 @@ node-told {T} ls (m ∷ ns) (suc k) n a lt is =
     subst (λ r. IsNodeOf (grown more ns) r n) e (node-told more ns k n a.1 (omega (arith, lt)) is)
 
 -- the node of a root that is not 0
-pub node-of : {T : Type 0} (ns : List (Node T)) (root : ℕ) (n : Node T) (v : List (List T)) → grown [] ns ≡ v → AreNodes [] ns
+pub node-of : {T : Type 0} (ns : List (Node T)) (root : ℕ) (n : Node T) (v : List (List T)) → grown [] ns ≡ v
+    → AreNodes [] ns
     → 0 < root → root ≤ length v → n ≡ slice_index_or ns (root - 1) n
     → IsNodeOf v root n
 node-of ns root n v view a live within is =
     let size = length-grown [] ns in
     let lt : root - 1 < length ns = omega (arith, within, ap length view, size) in
     let e : 0 + (root - 1) + 1 ≡ root = omega (arith, live) in
-    subst (λ ls. IsNodeOf ls root n) view (subst (λ r. IsNodeOf (grown [] ns) r n) e (node-told [] ns (root - 1) n a lt is))
+    subst (λ ls. IsNodeOf ls root n) view
+    (subst (λ r. IsNodeOf (grown [] ns) r n) e (node-told [] ns (root - 1) n a lt is))
 
--- nothing more keeps all trees, and so do two steps that do
+-- nothing more keeps all trees
 pub Keeps-same : {T : Type 0} (ls : List (List T)) → Keeps ls ls
 Keeps-same ls = record { longer = omega arith; same = λ r le. refl }
 
+-- what keeps the trees of lists that keep all trees keeps all trees
 pub Keeps-next : {T : Type 0} (ls ms ns : List (List T)) → Keeps ls ms → Keeps ms ns → Keeps ls ns
 Keeps-next ls ms ns a b = record {
   longer = omega (arith, a.longer, b.longer);
@@ -116,16 +130,19 @@ Keeps-next ls ms ns a b = record {
 }
 
 -- a tree by its root and its items
-pub IsTree-at : {T : Type 0} (ls : List (List T)) (root other : ℕ) (xs : List T) → other ≡ root → IsTree ls root xs → IsTree ls other xs
+pub IsTree-at : {T : Type 0} (ls : List (List T)) (root other : ℕ) (xs : List T) → other ≡ root → IsTree ls root xs
+    → IsTree ls other xs
 IsTree-at ls root other xs e t = subst (λ r. IsTree ls r xs) (sym e) t
 
--- one node more
+-- what is known after one node more: the nodes are right, keep the trees and have the new tree
 pub record IsForked {T : Type 0} (ms : List (Node T)) (v w : List (List T)) (n : Node T) : Type 0 where
   pub good : AreNodes [] ms
   pub keeps : Keeps v w
   pub tree : IsTree w (length ms) (node_items v n)
 
-pub node-pushed : {T : Type 0} (ns ms : List (Node T)) (v : List (List T)) (n : Node T) → grown [] ns ≡ v → AreNodes [] ns
+-- one node more, with children that stand there and the count of its items, is such a fork
+pub node-pushed : {T : Type 0} (ns ms : List (Node T)) (v : List (List T)) (n : Node T) → grown [] ns ≡ v
+    → AreNodes [] ns
     → ms ≡ ns ++ n ∷ []
     → n.before ≤ length v → n.behind ≤ length v
     → n.count ≡ length (items_at v n.before) + length (items_at v n.behind) + 1
@@ -135,32 +152,46 @@ node-pushed {T} ns ms v n view a is before behind count small =
     let size = length-grown [] ns in
     let all : List (Node T) = ns ++ n ∷ [] in
     let whole : IsForked all v (v ++ node_items v n ∷ []) n = record {
-      good = AreNodes-append [] ns (n ∷ []) a (subst (λ ls. AreNodes ls (n ∷ [])) (sym view) (record { before = before; behind = behind; count = count; small = small }, tt));
-      keeps = record { longer = omega (arith, length-append v (node_items v n ∷ [])); same = λ r le. items_at-append v (node_items v n ∷ []) r le };
+      good = AreNodes-append [] ns (n ∷ []) a
+          (subst (λ ls. AreNodes ls (n ∷ [])) (sym view)
+          (record { before = before; behind = behind; count = count; small = small }, tt));
+      keeps = record {
+        longer = omega (arith, length-append v (node_items v n ∷ []));
+        same =
+            λ r le. items_at-append v (node_items v n ∷ []) r le;
+      };
       tree = record {
         within = omega (arith, size, ap length view, length-append v (node_items v n ∷ []), length-append ns (n ∷ []));
-        items = ap (items_at (v ++ node_items v n ∷ [])) (let e : length all ≡ length v + 1 = omega (arith, size, ap length view, length-append ns (n ∷ [])) in e) ∙ items_at-last v (node_items v n);
+        items = ap (items_at (v ++ node_items v n ∷ []))
+            (let e : length all ≡ length v + 1 = omega (arith, size, ap length view, length-append ns (n ∷ [])) in e)
+            ∙ items_at-last v (node_items v n);
       };
     } in
     let e : v ++ node_items v n ∷ [] ≡ grown [] all =
     sym (grown-append [] ns (n ∷ []) ∙ ap (λ ls. ls ++ node_items ls n ∷ []) view) in
     subst (λ xs. IsForked xs v (grown [] xs) n) (sym is) (subst (λ w. IsForked all v w n) e whole)
 
--- the first nodes alone
+-- what is known of the first nodes alone: they are right, and their trees are those of all nodes
 pub record IsCut {T : Type 0} (v w : List (List T)) (k : ℕ) (ns : List (Node T)) : Type 0 where
   pub good : AreNodes [] ns
   pub size : length w ≡ k
   pub keeps : Keeps w v
 
+-- the first k of right nodes are cut off so
 pub nodes-cut : {T : Type 0} (ns ms : List (Node T)) (v : List (List T)) (k : ℕ) → grown [] ns ≡ v → AreNodes [] ns
     → ms ≡ take k ns → k ≤ length v
     → IsCut v (grown [] ms) k ms
 nodes-cut {T} ns ms v k view a is le =
     let within : k ≤ length ns = omega (arith, le, ap length view, length-grown [] ns) in
-    let size : length (grown [] (take k ns)) ≡ k = omega (arith, length-grown [] (take k ns), length-take k ns, within) in
+    let size : length (grown [] (take k ns)) ≡ k =
+    omega (arith, length-grown [] (take k ns), length-take k ns, within) in
     let whole : IsCut v (grown [] (take k ns)) k (take k ns) = record {
       good = AreNodes-take [] ns k a;
       size = size;
-      keeps = record { longer = omega (arith, size, le); same = λ r h. ap (λ ls. items_at ls r) (sym view) ∙ items_at-take [] ns k r (omega (arith, h, size)) within };
+      keeps = record {
+        longer = omega (arith, size, le);
+        same = λ r h. ap (λ ls. items_at ls r) (sym view)
+            ∙ items_at-take [] ns k r (omega (arith, h, size)) within;
+      };
     } in
     subst (λ xs. IsCut v (grown [] xs) k xs) (sym is) whole

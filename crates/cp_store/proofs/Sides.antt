@@ -1,5 +1,5 @@
 -- Items in the order of their names, by those before one of them, it, and those behind it.
-use Rattle.std.proofs.Common.{◌≡◌, ◌≢◌, ℕ, ◌<◌, Bool, true, false, not, ◌&&◌, cond, eqb, ltb, List, [], ◌∷◌, ◌++◌, length, map, sym, refl, ap, ◌∙◌, subst, arith}
+use Rattle.std.proofs.Common.{◌≡◌, ℕ, ◌<◌, Bool, true, false, not, cond, eqb, ltb, List, [], ◌∷◌, ◌++◌, map, sym, refl, ap, ◌∙◌, subst, arith}
 use Rattle.std.specs.Prelude.{filter, Option, Some, None}
 use Rattle.std.specs.List.{list_all}
 use Rattle.std.proofs.lemmas.Bool.{and_parts, and_from, cond-true, cond-false, eq-eqb, ne_eqb, ltb-true, lt-ltb}
@@ -89,12 +89,14 @@ module _ {A : Type 0} (name : A → ℕ) where
       ap (λ zs. cond (ltb (name x) (name z)) (x ∷ z ∷ xs ++ y ∷ ys) (z ∷ zs)) (put-before x y xs ys lt)
       ∙ either (ltb (name x) (name z))
     where
-      either : (b : Bool) → cond b (x ∷ z ∷ (xs ++ y ∷ ys)) (z ∷ (put name x xs ++ y ∷ ys)) ≡ cond b (x ∷ z ∷ xs) (z ∷ put name x xs) ++ y ∷ ys
+      either : (b : Bool) → cond b (x ∷ z ∷ (xs ++ y ∷ ys)) (z ∷ (put name x xs ++ y ∷ ys))
+          ≡ cond b (x ∷ z ∷ xs) (z ∷ put name x xs) ++ y ∷ ys
       either true = refl
       either false = refl
 
   -- what is found: before an item, it, or behind it
   module _ (xs : List A) (y : A) (zs : List A) (s : HasSides xs y zs) (n : ℕ) where
+    -- what stands under a lesser name than that of y stands there before y
     pub under-first : n < name y → under name n (xs ++ y ∷ zs) ≡ under name n xs
     under-first lt = front xs
       where
@@ -104,38 +106,48 @@ module _ {A : Type 0} (name : A → ℕ) where
             ∙ under-below name n zs (under_all-lower name n (name y) lt zs s.above_item)
         front (w ∷ ws) = ap (cond (eqb (name w) n) (Some w)) (front ws)
 
+    -- what stands under a greater name stands there behind y
     pub under-last : name y < n → under name n (xs ++ y ∷ zs) ≡ under name n zs
     under-last lt =
         under-past n xs (y ∷ zs) (below-more (name y) n xs lt s.below_item)
         ∙ cond-false (eqb (name y) n) (Some y) (under name n zs) (ne_eqb (name y) n (λ e. omega (arith, e, lt)))
 
+    -- under the name of y stands y
     pub under-here : name y ≡ n → under name n (xs ++ y ∷ zs) ≡ Some y
     under-here e =
         under-past n xs (y ∷ zs) (subst (λ m. below name m xs ≡ true) e s.below_item)
         ∙ cond-true (eqb (name y) n) (Some y) (under name n zs) (eq-eqb (name y) n e)
 
-    -- the items of other names
-    others-first : n < name y → filter (λ x. not (eqb (name x) n)) (xs ++ y ∷ zs) ≡ filter (λ x. not (eqb (name x) n)) xs ++ y ∷ zs
+    -- the items of other names than a lesser one, of which only those before y can have it
+    others-first : n < name y → filter (λ x. not (eqb (name x) n)) (xs ++ y ∷ zs)
+        ≡ filter (λ x. not (eqb (name x) n)) xs ++ y ∷ zs
     others-first lt =
         filter-append (λ x. not (eqb (name x) n)) xs (y ∷ zs)
         ∙ ap (λ ws. filter (λ x. not (eqb (name x) n)) xs ++ ws)
         (cond-true (not (eqb (name y) n)) _ _ (ap not (ne_eqb (name y) n (λ e. omega (arith, e, lt))))
-        ∙ ap (λ ws. y ∷ ws) (others-all name n zs (under-below name n zs (under_all-lower name n (name y) lt zs s.above_item))))
+        ∙ ap (λ ws. y ∷ ws) (others-all name n zs
+        (under-below name n zs (under_all-lower name n (name y) lt zs s.above_item))))
 
-    others-last : name y < n → filter (λ x. not (eqb (name x) n)) (xs ++ y ∷ zs) ≡ xs ++ y ∷ filter (λ x. not (eqb (name x) n)) zs
+    -- the items of other names than a greater one, of which only those behind y can have it
+    others-last : name y < n → filter (λ x. not (eqb (name x) n)) (xs ++ y ∷ zs) ≡ xs ++ y
+        ∷ filter (λ x. not (eqb (name x) n)) zs
     others-last lt =
         filter-append (λ x. not (eqb (name x) n)) xs (y ∷ zs)
-        ∙ ap (λ ws. ws ++ filter (λ x. not (eqb (name x) n)) (y ∷ zs)) (others-below n xs (below-more (name y) n xs lt s.below_item))
-        ∙ ap (λ ws. xs ++ ws) (cond-true (not (eqb (name y) n)) _ _ (ap not (ne_eqb (name y) n (λ e. omega (arith, e, lt)))))
+        ∙ ap (λ ws. ws ++ filter (λ x. not (eqb (name x) n)) (y ∷ zs))
+        (others-below n xs (below-more (name y) n xs lt s.below_item))
+        ∙ ap (λ ws. xs ++ ws) (cond-true (not (eqb (name y) n)) _ _
+        (ap not (ne_eqb (name y) n (λ e. omega (arith, e, lt)))))
 
+    -- the items of other names than that of y are those on both sides
     pub others-here : name y ≡ n → filter (λ x. not (eqb (name x) n)) (xs ++ y ∷ zs) ≡ xs ++ zs
     others-here e =
         filter-append (λ x. not (eqb (name x) n)) xs (y ∷ zs)
-        ∙ ap (λ ws. ws ++ filter (λ x. not (eqb (name x) n)) (y ∷ zs)) (others-below n xs (subst (λ m. below name m xs ≡ true) e s.below_item))
+        ∙ ap (λ ws. ws ++ filter (λ x. not (eqb (name x) n)) (y ∷ zs))
+        (others-below n xs (subst (λ m. below name m xs ≡ true) e s.below_item))
         ∙ ap (λ ws. xs ++ ws) (cond-false (not (eqb (name y) n)) _ _ (ap not (eq-eqb (name y) n e))
         ∙ others-all name n zs (under-below name n zs (subst (λ m. under_all name m zs ≡ true) e s.above_item)))
 
-    -- an exchange before an item, behind it, or of it
+    -- an exchange under a lesser name is one before y
     pub exchanged-first : (o : Option A) → ((x : A) → o ≡ Some x → name x ≡ n) → n < name y
         → exchanged name n o (xs ++ y ∷ zs) ≡ exchanged name n o xs ++ y ∷ zs
     exchanged-first None its lt = others-first lt
@@ -143,16 +155,20 @@ module _ {A : Type 0} (name : A → ℕ) where
         ap (put name x) (others-first lt)
         ∙ put-before x y (filter (λ w. not (eqb (name w) n)) xs) zs (subst (λ m. m < name y) (sym (its x refl)) lt)
 
+    -- an exchange under a greater name is one behind y
     pub exchanged-last : (o : Option A) → ((x : A) → o ≡ Some x → name x ≡ n) → name y < n
         → exchanged name n o (xs ++ y ∷ zs) ≡ xs ++ y ∷ exchanged name n o zs
     exchanged-last None its lt = others-last lt
     exchanged-last (Some x) its lt =
         let same = its x refl in
-        let low : below name (name x) xs ≡ true = subst (λ m. below name m xs ≡ true) (sym same) (below-more (name y) n xs lt s.below_item) in
+        let low : below name (name x) xs ≡ true =
+        subst (λ m. below name m xs ≡ true) (sym same) (below-more (name y) n xs lt s.below_item) in
         ap (put name x) (others-last lt)
         ∙ put-past x xs (y ∷ filter (λ w. not (eqb (name w) n)) zs) low
-        ∙ ap (λ ws. xs ++ ws) (put-behind name x y (filter (λ w. not (eqb (name w) n)) zs) (subst (λ m. name y < m) (sym same) lt))
+        ∙ ap (λ ws. xs ++ ws) (put-behind name x y (filter (λ w. not (eqb (name w) n)) zs)
+        (subst (λ m. name y < m) (sym same) lt))
 
+    -- another item under the name of y stands in its place
     pub exchanged-here : (x : A) → name x ≡ n → name y ≡ n → exchanged name n (Some x) (xs ++ y ∷ zs) ≡ xs ++ x ∷ zs
     exchanged-here x same e =
         let at : name y ≡ name x = e ∙ sym same in

@@ -12,7 +12,8 @@ use Rattle.cp_store.specs.Parts.{undone}
 abbrev pub AreLinkedBefore : List (List Link) → ℕ → List Change → Synchronized → Type 0
 AreLinkedBefore ls mark [] i = Unit {0}
 AreLinkedBefore ls mark (c ∷ cs) i =
-    (c.mark ≤ mark) × (c.ends ≤ c.mark) × HasLinks ls c.ends (joins (undone c i).edges) × AreLinkedBefore ls c.mark cs (undone c i)
+    (c.mark ≤ mark) × (c.ends ≤ c.mark) × HasLinks ls c.ends (joins (undone c i).edges)
+    × AreLinkedBefore ls c.mark cs (undone c i)
 
 -- the present tree has the links of the present edges, and those before it the links of theirs
 pub record IsLinked (ls : List (List Link)) (ends : ℕ) (log : List Change) (i : Synchronized) : Type 0 where

@@ -16,7 +16,8 @@ fn lean_behind<T: Ranked + Drop>(
     requires before { before ≤ length forest.old }
     requires behind { behind ≤ length forest.old }
     ensures keeps { Keeps forest.old forest.new }
-    ensures tree { IfOk result (λ root. IsTree forest.new root (items_at forest.old before ++ item ∷ items_at forest.old behind)) }
+    ensures tree { IfOk result (λ root. IsTree forest.new root
+        (items_at forest.old before ++ item ∷ items_at forest.old behind)) }
 {
     if before == 0 {
         return forest.fork(before, item, behind);
@@ -42,7 +43,8 @@ fn lean_before<T: Ranked + Drop>(
     requires before { before ≤ length forest.old }
     requires behind { behind ≤ length forest.old }
     ensures keeps { Keeps forest.old forest.new }
-    ensures tree { IfOk result (λ root. IsTree forest.new root (items_at forest.old before ++ item ∷ items_at forest.old behind)) }
+    ensures tree { IfOk result (λ root. IsTree forest.new root
+        (items_at forest.old before ++ item ∷ items_at forest.old behind)) }
 {
     if behind == 0 {
         return forest.fork(before, item, behind);
@@ -69,7 +71,8 @@ pub(crate) fn balanced<T: Ranked + Drop>(
     requires before { before ≤ length forest.old }
     requires behind { behind ≤ length forest.old }
     ensures keeps { Keeps forest.old forest.new }
-    ensures tree { IfOk result (λ root. IsTree forest.new root (items_at forest.old before ++ item ∷ items_at forest.old behind)) }
+    ensures tree { IfOk result (λ root. IsTree forest.new root
+        (items_at forest.old before ++ item ∷ items_at forest.old behind)) }
 {
     let (first, second) = (forest.count(before), forest.count(behind));
     if first > 3 * second + 2 {

@@ -84,7 +84,8 @@ impl<T> Forest<T> {
         requires before { before ≤ length self.old }
         requires behind { behind ≤ length self.old }
         ensures keeps { Keeps self.old self.new }
-        ensures tree { IfOk result (λ root. IsTree self.new root (items_at self.old before ++ item ∷ items_at self.old behind)) }
+        ensures tree { IfOk result
+            (λ root. IsTree self.new root (items_at self.old before ++ item ∷ items_at self.old behind)) }
     {
         let count = self.count(before) + self.count(behind) + 1;
         if count > MOST_ITEMS {

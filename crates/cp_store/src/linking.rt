@@ -19,7 +19,8 @@ pub(crate) fn linked(
     requires { IsLinkTree forest.old root }
     ensures keeps { Keeps forest.old forest.new }
     ensures tree { IfOk result (IsLinkTree forest.new) }
-    ensures links { IfOk result (λ new. (test : ℕ → ℕ → Bool) → HasLinks forest.old root test → HasLinks forest.new new (with_link test key name)) }
+    ensures links { IfOk result (λ new. (test : ℕ → ℕ → Bool) → HasLinks forest.old root test
+        → HasLinks forest.new new (with_link test key name)) }
 {
     with_item(forest, root, Link { key, name })
 }
@@ -34,7 +35,8 @@ pub(crate) fn unlinked(
     requires { IsLinkTree forest.old root }
     ensures keeps { Keeps forest.old forest.new }
     ensures tree { IfOk result (IsLinkTree forest.new) }
-    ensures links { IfOk result (λ new. (test : ℕ → ℕ → Bool) → HasLinks forest.old root test → HasLinks forest.new new (without_link test key name)) }
+    ensures links { IfOk result (λ new. (test : ℕ → ℕ → Bool) → HasLinks forest.old root test
+        → HasLinks forest.new new (without_link test key name)) }
 {
     without_item(forest, root, (key, name))
 }
@@ -47,7 +49,8 @@ pub(crate) fn push_names(
     to: &mut Vec<usize>,
 ) -> Result<(), Memory>
     requires { IsLinkTree forest.now root }
-    ensures { OnOk result (to.new.items ≡ to.old.items ++ map (λ x. x.name) (filter (λ x. eqb x.key key) (items_at forest.now root))) }
+    ensures { OnOk result (to.new.items ≡ to.old.items
+        ++ map (λ x. x.name) (filter (λ x. eqb x.key key) (items_at forest.now root))) }
 {
     if root == 0 {
         return Ok(());

@@ -107,7 +107,8 @@ pub(crate) fn make_change(parts: &mut Parts, plan: Change, moves: &[EdgeMove], d
     requires live { All (λ m. has (names_of_edges (told parts.old).edges) m.edge ≡ true) moves.now }
     requires empty { IsEmptyFor plan (length moves.now) done.old }
     ensures verts { (told parts.new).verts ≡ taken_back (λ v. v.name) plan.verts.items (told parts.old).verts }
-    ensures edges { (told parts.new).edges ≡ taken_back (λ e. e.name) plan.edges.items (after_moves moves.now (told parts.old).edges) }
+    ensures edges { (told parts.new).edges
+        ≡ taken_back (λ e. e.name) plan.edges.items (after_moves moves.now (told parts.old).edges) }
     ensures pipes { (told parts.new).pipes ≡ taken_back (λ p. p.name) plan.pipes.items (told parts.old).pipes }
     ensures back { undone done.new (told parts.new) ≡ told parts.old }
     ensures tables { AreTables parts.new }

@@ -19,7 +19,8 @@ pub(crate) fn with_item<T: Ranked + Drop>(
     requires within { root ≤ length forest.old }
     requires rise { IsStrictlyIncreasing (map T.number (items_at forest.old root)) }
     ensures keeps { Keeps forest.old forest.new }
-    ensures tree { IfOk result (λ new. IsTree forest.new new (exchanged T.number (T.number item) (Some item) (items_at forest.old root))) }
+    ensures tree { IfOk result (λ new. IsTree forest.new new
+        (exchanged T.number (T.number item) (Some item) (items_at forest.old root))) }
 {
     if root == 0 {
         return forest.fork(0, item, 0);
@@ -65,7 +66,8 @@ fn joined<T: Ranked + Drop>(
     requires before { before ≤ length forest.old }
     requires behind { behind ≤ length forest.old }
     ensures keeps { Keeps forest.old forest.new }
-    ensures tree { IfOk result (λ root. IsTree forest.new root (items_at forest.old before ++ items_at forest.old behind)) }
+    ensures tree { IfOk result (λ root. IsTree forest.new root
+        (items_at forest.old before ++ items_at forest.old behind)) }
 {
     if behind == 0 {
         return Ok(before);
@@ -83,7 +85,8 @@ pub(crate) fn without_item<T: Ranked + Drop>(
     requires within { root ≤ length forest.old }
     requires rise { IsStrictlyIncreasing (map T.number (items_at forest.old root)) }
     ensures keeps { Keeps forest.old forest.new }
-    ensures tree { IfOk result (λ new. IsTree forest.new new (exchanged T.number (rank gone) None (items_at forest.old root))) }
+    ensures tree { IfOk result (λ new. IsTree forest.new new
+        (exchanged T.number (rank gone) None (items_at forest.old root))) }
 {
     if root == 0 {
         return Ok(0);

@@ -49,7 +49,7 @@ impl Model for Store {
 }
 
 impl Store {
-    /// A store of an instance, in memory of its own, with no rewrite to undo. Linear in the instance.
+    /// A store of an instance, in memory of its own, with no rewrite to undo. Linear in the instance up to a logarithm.
     pub fn from_instance(alloc: Global, i: &Instance) -> Result<Store, Memory>
         ensures { IfOk result (λ s. s ≡ i.now ∷ []) }
     {
@@ -143,10 +143,10 @@ impl Store {
     }
 }
 
-/// `is_q`, `cell`, `psi`, `ends`, `pipe_ends` and `pairs` take logarithmic time, beside the length of a list that they
-/// give, `pipe_at` and `max_pipe` linear time in the names of pipes, and `verts`, `edges` and `edges_at` in those of
-/// vertices, edges and edges. `rewrite` takes logarithmic time for each part
-/// that it drops, adds or changes, beside copies of what it brings, and time linear in the names of a kind for each new
+/// `is_q`, `cell`, `psi`, `ends`, `pipe_ends`, `pairs` and `edges_at` take logarithmic time, beside the length of a list
+/// that they give, `pipe_at` and `max_pipe` linear time in the names of pipes, and `verts` and `edges` in those of
+/// vertices and edges. `rewrite` takes logarithmic time for each part that it drops, adds or changes and for each end of
+/// an edge that moves or comes, beside copies of what it brings, and time linear in the names of a kind for each new
 /// name that lies below others and was never live. `free_names` copies the present instance.
 impl Board for Store {
     ghost instance = { λ s. present_of s };

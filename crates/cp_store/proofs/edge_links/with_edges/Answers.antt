@@ -1,4 +1,4 @@
-use Rattle.std.proofs.Common.{◌≡◌, ℕ, ◌+◌, length, take, slice_index_or, ap, subst, arith}
+use Rattle.std.proofs.Common.{◌≡◌, take, slice_index_or, subst, arith}
 use Rattle.std.proofs.lemmas.List.{get_or_default, take_all}
 use Rattle.cp_board.specs.declared.parts.EdgeRow.{EdgeRow}
 use Rattle.cp_store.specs.Links.{HasLinks}
@@ -17,9 +17,11 @@ loop-e-preserved c =
     let held = c.loop-e.invariant in
     let out = c.in_ok-first.ensures in
     let back = c.in_ok-tree.ensures in (
-      Keeps-next c.args.forest.now c.loop-e.forest c.linked-in-loop-e.new.forest held.0 (Keeps-next c.loop-e.forest c.linked.new.forest c.linked-in-loop-e.new.forest out.keeps back.keeps),
+      Keeps-next c.args.forest.now c.loop-e.forest c.linked-in-loop-e.new.forest held.0
+          (Keeps-next c.loop-e.forest c.linked.new.forest c.linked-in-loop-e.new.forest out.keeps back.keeps),
       back.tree,
-      λ test has. subst (HasLinks c.linked-in-loop-e.new.forest c.in_ok-tree.tree) (added_links-more ms k m test c.loop-e-test.true is)
+      λ test has. subst (HasLinks c.linked-in-loop-e.new.forest c.in_ok-tree.tree)
+          (added_links-more ms k m test c.loop-e-test.true is)
           (back.links _ (out.links _ (held.2 test has))),
     )
 

@@ -1,4 +1,4 @@
-use Rattle.std.proofs.Common.{◌≡◌, ℕ, ◌+◌, length, take, slice_index_or, ap, subst, arith}
+use Rattle.std.proofs.Common.{◌≡◌, take, slice_index_or, subst, arith}
 use Rattle.std.proofs.lemmas.List.{get_or_default, take_all}
 use Rattle.cp_board.specs.declared.rewrite.EdgeMove.{EdgeMove}
 use Rattle.cp_store.specs.Links.{HasLinks}
@@ -17,9 +17,11 @@ loop-m-preserved c =
     let held = c.loop-m.invariant in
     let out = c.in_ok-without.ensures in
     let back = c.in_ok-tree.ensures in (
-      Keeps-next c.args.forest.now c.loop-m.forest c.linked.new.forest held.0 (Keeps-next c.loop-m.forest c.unlinked.new.forest c.linked.new.forest out.keeps back.keeps),
+      Keeps-next c.args.forest.now c.loop-m.forest c.linked.new.forest held.0
+          (Keeps-next c.loop-m.forest c.unlinked.new.forest c.linked.new.forest out.keeps back.keeps),
       back.tree,
-      λ test has. subst (HasLinks c.linked.new.forest c.in_ok-tree.tree) (moved_links-more ms k m test c.loop-m-test.true is)
+      λ test has. subst (HasLinks c.linked.new.forest c.in_ok-tree.tree)
+          (moved_links-more ms k m test c.loop-m-test.true is)
           (back.links _ (out.links _ (held.2 test has))),
     )
 

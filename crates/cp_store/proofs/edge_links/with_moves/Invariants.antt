@@ -7,4 +7,5 @@ use Rattle.cp_store.proofs.edge_links.with_moves.Given as goal
 abbrev pub invariant-loop-m : goal.invariant-loop-m
 invariant-loop-m l =
     Keeps l.initial.forest l.forest × IsLinkTree l.forest l.tree
-    × ((test : ℕ → ℕ → Bool) → HasLinks l.initial.forest l.root test → HasLinks l.forest l.tree (moved_links (take l.m-index l.moves) test))
+    × ((test : ℕ → ℕ → Bool) → HasLinks l.initial.forest l.root test
+    → HasLinks l.forest l.tree (moved_links (take l.m-index l.moves) test))

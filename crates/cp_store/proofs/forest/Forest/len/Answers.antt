@@ -1,4 +1,4 @@
-use Rattle.std.proofs.Common.{◌≡◌, [], length, ap, arith}
+use Rattle.std.proofs.Common.{[], length, ap, arith}
 use Rattle.cp_store.proofs.Grown.{length-grown}
 use Rattle.cp_store.proofs.forest.Forest.len.Goals as goal
 

@@ -18,17 +18,28 @@ pub invariant_of-result : goal.invariant_of-result
 invariant_of-result c =
     let i = told record { verts = c.in_ok-verts.verts; edges = c.in_ok-edges.edges; pipes = c.in_ok-pipes.pipes } in
     let now = c.args.i.now in
-    let same : i ≡ now = same_parts i now (c.in_ok-verts.ensures.items ∙ c.vert_rows.ensures) (c.in_ok-edges.ensures.items ∙ c.edge_rows.ensures) (c.in_ok-pipes.ensures.items ∙ c.pipe_rows.ensures) in
+    let same : i ≡ now = same_parts i now (c.in_ok-verts.ensures.items ∙ c.vert_rows.ensures)
+    (c.in_ok-edges.ensures.items ∙ c.edge_rows.ensures) (c.in_ok-pipes.ensures.items ∙ c.pipe_rows.ensures) in
     let links = c.with_edges.new.forest in
-    let has = c.in_ok-ends.ensures.links (λ v n. false) (subst (λ ls. HasLinks ls 0 (λ v n. false)) (sym c.new-links.ensures) HasLinks-none) in
-    subst (λ l. IsStore record { verts = c.in_ok-verts.verts; edges = c.in_ok-edges.edges; pipes = c.in_ok-pipes.pipes } l × IsLinked links c.in_ok-ends.ends l i) (sym c.new.ensures.items) (
+    let has = c.in_ok-ends.ensures.links (λ v n. false)
+    (subst (λ ls. HasLinks ls 0 (λ v n. false)) (sym c.new-links.ensures) HasLinks-none) in
+    subst (λ l. IsStore record { verts = c.in_ok-verts.verts; edges = c.in_ok-edges.edges; pipes = c.in_ok-pipes.pipes }
+    l × IsLinked links c.in_ok-ends.ends l i) (sym c.new.ensures.items) (
       record {
-        tables = record { verts = c.in_ok-verts.ensures.table; edges = c.in_ok-edges.ensures.table; pipes = c.in_ok-pipes.ensures.table };
+        tables = record {
+          verts = c.in_ok-verts.ensures.table;
+          edges = c.in_ok-edges.ensures.table;
+          pipes =
+              c.in_ok-pipes.ensures.table;
+        };
         room = All-nil _;
-        rules = subst (λ j. All IsSynchronized (j ∷ [])) (sym same) (All-cons IsSynchronized now [] c.follows_rules.ensures (All-nil IsSynchronized));
+        rules = subst (λ j. All IsSynchronized (j ∷ [])) (sym same)
+            (All-cons IsSynchronized now [] c.follows_rules.ensures (All-nil IsSynchronized));
       },
       record {
-        now = subst (λ j. HasLinks links c.in_ok-ends.ends (joins j.edges)) (sym same) (HasLinks-edges links c.in_ok-ends.ends now.edges (subst (λ es. HasLinks links c.in_ok-ends.ends (added_links es (λ v n. false))) c.edge_rows-2.ensures has));
+        now = subst (λ j. HasLinks links c.in_ok-ends.ends (joins j.edges)) (sym same)
+            (HasLinks-edges links c.in_ok-ends.ends now.edges
+            (subst (λ es. HasLinks links c.in_ok-ends.ends (added_links es (λ v n. false))) c.edge_rows-2.ensures has));
         before = tt;
       },
     )

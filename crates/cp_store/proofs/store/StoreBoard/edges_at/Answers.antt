@@ -16,7 +16,9 @@ pub returns-clause-names : goal.returns-clause-names
 returns-clause-names c =
     let i = told c.self.inside.parts in
     let rules = IsStore-rules c.self.inside.parts c.self.inside.log.items c.self.invariant.0 in
-    subst (λ j. c.push_names.new.to.items ≡ edges_of j c.args.v) (told-present c.self.inside.parts c.self.inside.log.items c.args.self.now c.self.view_is)
+    subst (λ j. c.push_names.new.to.items ≡ edges_of j c.args.v)
+    (told-present c.self.inside.parts c.self.inside.log.items c.args.self.now c.self.view_is)
     (c.in_ok-push_names.ensures
     ∙ ap (λ xs. xs ++ names_under c.args.v (items_at c.self.inside.links c.self.inside.ends)) c.new-names.ensures.items
-    ∙ names_under-edges i c.self.inside.links c.self.inside.ends c.args.v rules c.self.invariant.1.now ∙ sym (edges_of-rows i c.args.v rules))
+    ∙ names_under-edges i c.self.inside.links c.self.inside.ends c.args.v rules c.self.invariant.1.now
+    ∙ sym (edges_of-rows i c.args.v rules))
