@@ -11,3 +11,10 @@ mod StoredRewrites
 mod DroppedPipes
 mod SlotBounds
 mod WorkedSteps
+mod Grown
+mod Sides
+mod Openings
+mod LinkChanges
+mod KeyNames
+mod EdgeTests
+mod Indexes

@@ -48,11 +48,13 @@ new_names-rise live names new =
     (range_rises (length live + length names))))
 
 -- items of new names have different ones
-new_names-distinct : {A : Type 0} (name : A → ℕ) (live : List ℕ) (xs : List A) → AreNew live (map name xs) → distinct (map name xs) ≡ true
-new_names-distinct name live xs new = distinct_from_rises name xs (rises_from (map name xs) (new_names-rise live (map name xs) new))
+new_names-distinct : {A : Type 0} (name : A → ℕ) (live : List ℕ) (xs : List A) → AreNew live (map name xs)
+    → distinct (map name xs) ≡ true
+new_names-distinct name live xs new =
+    distinct_from_rises name xs (rises_from (map name xs) (new_names-rise live (map name xs) new))
 
 -- a number of a list is in it
-has-Contains : (xs : List ℕ) (x : ℕ) → Contains xs x → has xs x ≡ true
+pub has-Contains : (xs : List ℕ) (x : ℕ) → Contains xs x → has xs x ≡ true
 has-Contains xs x c = subst (λ n. has xs n ≡ true) c.2 (has-at xs c.0 x c.1)
 
 module _ (i : Synchronized) (w : Rewrite) (is : IsSynchronized i) (fits : IsRewriteOf i w) where
@@ -62,7 +64,8 @@ module _ (i : Synchronized) (w : Rewrite) (is : IsSynchronized i) (fits : IsRewr
       verts-exchanged i.verts w.add_verts w.set_kinds w.drop_verts (rises_from (vert_names i) is.verts_named.rise)
       (new_names-distinct (λ (v : Vert). v.name) (vert_names i) w.add_verts fits.new_verts)
       (new_names-dead (vert_names i) (names_of_verts w.add_verts) fits.new_verts)
-      (λ k d lt. subst (λ ns. has ns (slice_index_or w.set_kinds k d).name ≡ true) (sym (map-append (λ (v : Vert). v.name) i.verts w.add_verts))
+      (λ k d lt. subst (λ ns. has ns (slice_index_or w.set_kinds k d).name ≡ true)
+      (sym (map-append (λ (v : Vert). v.name) i.verts w.add_verts))
       (has-Contains (verts_with w i) (slice_index_or w.set_kinds k d).name (fits.kinds_live k d lt).0))
 
   -- those of edges give its edges, after the moves
@@ -72,7 +75,8 @@ module _ (i : Synchronized) (w : Rewrite) (is : IsSynchronized i) (fits : IsRewr
       (taken_back-new row_name w.add_edges (after_moves w.moves i.edges)
       (subst (λ ns. rises ns ≡ true) (sym same) (rises_from (edge_names i) is.edges_named.rise))
       (new_names-distinct row_name (edge_names i) w.add_edges fits.new_edges)
-      (subst (λ ns. All (λ n. has ns n ≡ false) (names_of_edges w.add_edges)) (sym same) (new_names-dead (edge_names i) (names_of_edges w.add_edges) fits.new_edges))).0
+      (subst (λ ns. All (λ n. has ns n ≡ false) (names_of_edges w.add_edges)) (sym same)
+      (new_names-dead (edge_names i) (names_of_edges w.add_edges) fits.new_edges))).0
 
   -- and those of pipes its pipes
   pipes-rewritten : taken_back (λ p. p.name) (pipe_changes w) i.pipes ≡ (rewritten w i).pipes
@@ -96,20 +100,25 @@ module _ (i : Synchronized) (w : Rewrite) (is : IsSynchronized i) (fits : IsRewr
   -- the moves name live edges
   pub moves-live : All (λ m. has (names_of_edges i.edges) m.edge ≡ true) w.moves
   moves-live k d lt =
-      has-Contains (names_of_edges i.edges) (slice_index_or w.moves k d).edge (moves_live (verts_with w i) i.edges w.moves fits.moves k d lt)
+      has-Contains (names_of_edges i.edges) (slice_index_or w.moves k d).edge
+      (moves_live (verts_with w i) i.edges w.moves fits.moves k d lt)
 
 -- the entries of a plan have the names of their items
 pub plan-named : (w : Rewrite) (plan : Change) → IsPlanOf w plan
-    → All (HasItsName (λ v. v.name)) plan.verts.items × All (HasItsName (λ e. e.name)) plan.moved.items × All (HasItsName (λ e. e.name)) plan.edges.items × All (HasItsName (λ p. p.name)) plan.pipes.items
+    → All (HasItsName (λ v. v.name)) plan.verts.items × All (HasItsName (λ e. e.name)) plan.moved.items
+    × All (HasItsName (λ e. e.name)) plan.edges.items × All (HasItsName (λ p. p.name)) plan.pipes.items
 plan-named w plan is =
     let vert : Vert → ℕ = λ v. v.name in
     let pipe : Pipe → ℕ = λ p. p.name in (
       subst (All (HasItsName vert)) (sym is.verts)
-          (All-append (HasItsName vert) (map gone w.drop_verts ++ map (kept vert) w.set_kinds) (map (kept vert) w.add_verts)
-          (All-append (HasItsName vert) (map gone w.drop_verts) (map (kept vert) w.set_kinds) (All-gone vert w.drop_verts) (All-kept vert w.set_kinds))
+          (All-append (HasItsName vert) (map gone w.drop_verts ++ map (kept vert) w.set_kinds)
+          (map (kept vert) w.add_verts)
+          (All-append (HasItsName vert) (map gone w.drop_verts) (map (kept vert) w.set_kinds)
+          (All-gone vert w.drop_verts) (All-kept vert w.set_kinds))
           (All-kept vert w.add_verts)),
       subst (All (HasItsName row_name)) (sym is.moved) (All-kept row_name []),
       subst (All (HasItsName row_name)) (sym is.edges) (All-kept row_name w.add_edges),
       subst (All (HasItsName pipe)) (sym is.pipes)
-          (All-append (HasItsName pipe) (map (kept pipe) w.add_pipes) (map gone w.drop_pipes) (All-kept pipe w.add_pipes) (All-gone pipe w.drop_pipes)),
+          (All-append (HasItsName pipe) (map (kept pipe) w.add_pipes) (map gone w.drop_pipes)
+          (All-kept pipe w.add_pipes) (All-gone pipe w.drop_pipes)),
     )

@@ -1,18 +1,26 @@
 //! One shared store of an instance of synchronized planarity (Bläsius, Fink, Rutter 2021), whose rewrites can be undone.
 #![tactic(auto)]
 
+mod balance;
 mod changes;
 mod copies;
+mod edge_links;
 mod entry;
+mod forest;
 mod greatest;
 mod laws;
+mod linking;
+mod links;
 mod lists;
 mod lookups;
 mod moves;
 mod named;
 mod names;
+mod nodes;
 mod parts;
 mod plan;
+mod putting;
+mod ranked;
 mod reading;
 mod store;
 mod table;

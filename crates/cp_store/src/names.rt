@@ -1,13 +1,11 @@
 // The live names that a table tells.
 ghost use Rattle.std.specs.Prelude.{◌≡◌, ◌++◌, [], map, IfOk, OnOk};
-ghost use Rattle.cp_board.specs.Instances.{names_at};
 ghost use Rattle.cp_store.specs.Exchanges.{with_item, items_of};
 
 use crate::entry::Entry;
 use crate::named::Named;
 use crate::table::Table;
 use cp_base::Memory;
-use cp_board::EdgeRow;
 use std::alloc::Global;
 
 // Appends the name of the item of the entry, if it has one.
@@ -30,36 +28,6 @@ pub(crate) fn live_names<T: Named>(alloc: Global, table: &Table<T>) -> Result<Ve
     let mut names = Vec::new(alloc);
     for entry in table.entries.as_slice() {
         append_name(entry, &mut names)?;
-    }
-    Ok(names)
-}
-
-// Appends the name of the edge of the entry, if it has one with the end `v`.
-fn append_edge_at(entry: &Entry<EdgeRow>, v: usize, to: &mut Vec<usize>) -> Result<(), Memory>
-    ensures { OnOk result (to.new.items ≡ to.old.items ++ names_at (with_item entry.now.item []) v) }
-{
-    match &entry.item {
-        None => Ok(()),
-        Some(e) => {
-            if e.a == v || e.b == v {
-                to.push(e.name)?;
-            }
-            Ok(())
-        }
-    }
-}
-
-// The names of the edges with the end `v`, rising. Linear in the entries.
-pub(crate) fn edges_ending_at(
-    alloc: Global,
-    table: &Table<EdgeRow>,
-    v: usize,
-) -> Result<Vec<usize>, Memory>
-    ensures { IfOk result (λ names. names.items ≡ names_at (items_of table.now.entries.items) v) }
-{
-    let mut names = Vec::new(alloc);
-    for entry in table.entries.as_slice() {
-        append_edge_at(entry, v, &mut names)?;
     }
     Ok(names)
 }

@@ -33,6 +33,9 @@ pub(crate) struct Change {
     // What stood under the names of the new edges.
     pub(crate) edges: Vec<Entry<EdgeRow>>,
     pub(crate) pipes: Vec<Entry<Pipe>>,
+    // The tree of the links of the edges, and the number of nodes of the trees.
+    pub(crate) ends: usize,
+    pub(crate) mark: usize,
 }
 
 // Takes a change back. Logarithmic for each entry, without memory.
@@ -91,6 +94,8 @@ pub(crate) fn empty_for(alloc: Global, plan: &Change, moves: usize) -> Result<Ch
         moved,
         edges,
         pipes,
+        ends: 0,
+        mark: 0,
     })
 }
 
@@ -102,7 +107,8 @@ pub(crate) fn make_change(parts: &mut Parts, plan: Change, moves: &[EdgeMove], d
     requires live { All (λ m. has (names_of_edges (told parts.old).edges) m.edge ≡ true) moves.now }
     requires empty { IsEmptyFor plan (length moves.now) done.old }
     ensures verts { (told parts.new).verts ≡ taken_back (λ v. v.name) plan.verts.items (told parts.old).verts }
-    ensures edges { (told parts.new).edges ≡ taken_back (λ e. e.name) plan.edges.items (after_moves moves.now (told parts.old).edges) }
+    ensures edges { (told parts.new).edges
+        ≡ taken_back (λ e. e.name) plan.edges.items (after_moves moves.now (told parts.old).edges) }
     ensures pipes { (told parts.new).pipes ≡ taken_back (λ p. p.name) plan.pipes.items (told parts.old).pipes }
     ensures back { undone done.new (told parts.new) ≡ told parts.old }
     ensures tables { AreTables parts.new }
@@ -113,4 +119,18 @@ pub(crate) fn make_change(parts: &mut Parts, plan: Change, moves: &[EdgeMove], d
     move_ends(&mut parts.edges, moves, &mut done.moved);
     exchange_all(&mut parts.edges, plan.edges, &mut done.edges);
     exchange_all(&mut parts.pipes, plan.pipes, &mut done.pipes);
+}
+
+// The change with the tree of the links before it, and the number of nodes.
+pub(crate) fn with_links(change: Change, ends: usize, mark: usize) -> Change
+    ensures { result ≡ record change { ends = ends; mark = mark } }
+{
+    Change {
+        verts: change.verts,
+        moved: change.moved,
+        edges: change.edges,
+        pipes: change.pipes,
+        ends,
+        mark,
+    }
 }

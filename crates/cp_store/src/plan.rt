@@ -59,5 +59,7 @@ pub(crate) fn plan_of(alloc: Global, w: &Rewrite) -> Result<Change, Memory>
         moved: Vec::new(alloc),
         edges,
         pipes,
+        ends: 0,
+        mark: 0,
     })
 }

@@ -5,11 +5,17 @@ ghost use Rattle.cp_board.specs.Rewrites.{rewritten, IsRewriteOf};
 ghost use Rattle.cp_board.specs.Runs.{slots};
 ghost use Rattle.cp_store.specs.Histories.{present_of};
 
+use crate::edge_links::{with_edges, with_rewrite};
+use crate::forest::Forest;
 use crate::greatest::best_pipe;
+use crate::linking::push_names;
+use crate::links::Link;
 use crate::lists::table_of;
 use crate::lookups::{cell_under, ends_under, has_list, pairs_under, pipe_ends_under, psi_under};
-use crate::names::{edges_ending_at, live_names};
-use crate::parts::{Change, Parts, empty_for, make_change, reserve_change, undo_change};
+use crate::names::live_names;
+use crate::parts::{
+    Change, Parts, empty_for, make_change, reserve_change, undo_change, with_links,
+};
 use crate::plan::plan_of;
 use crate::reading::{copied_table, pipe_ending_at, slots_of};
 use cp_base::{CycList, Memory};
@@ -24,22 +30,26 @@ use std::marker::Model;
 pub struct Store {
     parts: Parts,
     log: Vec<Change>,
+    // Links from the ends of edges to the edges: those of the present edges are the tree `ends`.
+    links: Forest<Link>,
+    ends: usize,
 }
 
 impl Model for Store {
     ghost use Rattle.std.specs.Prelude.{List, reverse};
     ghost use Rattle.cp_board.specs.Instances.{Synchronized};
     ghost use Rattle.cp_store.specs.Parts.{told, states, IsStore};
+    ghost use Rattle.cp_store.specs.Indexes.{IsLinked};
 
     ghost Value = { List Synchronized };
 
     ghost view = { λ s. states (reverse s.log.items) (told s.parts) };
 
-    ghost invariant = { λ s. IsStore s.parts s.log.items };
+    ghost invariant = { λ s. IsStore s.parts s.log.items × IsLinked s.links s.ends s.log.items (told s.parts) };
 }
 
 impl Store {
-    /// A store of an instance, in memory of its own, with no rewrite to undo. Linear in the instance.
+    /// A store of an instance, in memory of its own, with no rewrite to undo. Linear in the instance up to a logarithm.
     pub fn from_instance(alloc: Global, i: &Instance) -> Result<Store, Memory>
         ensures { IfOk result (λ s. s ≡ i.now ∷ []) }
     {
@@ -47,6 +57,8 @@ impl Store {
         let verts = table_of(alloc, i.vert_rows())?;
         let edges = table_of(alloc, i.edge_rows())?;
         let pipes = table_of(alloc, i.pipe_rows())?;
+        let mut links = Forest::new(alloc);
+        let ends = with_edges(&mut links, 0, i.edge_rows())?;
         Ok(Store {
             parts: Parts {
                 verts,
@@ -54,6 +66,8 @@ impl Store {
                 pipes,
             },
             log: Vec::new(alloc),
+            links,
+            ends,
         })
     }
 
@@ -102,6 +116,8 @@ impl Store {
         match self.log.pop() {
             None => false,
             Some(change) => {
+                self.links.cut(change.mark);
+                self.ends = change.ends;
                 undo_change(&mut self.parts, change);
                 true
             }
@@ -118,16 +134,19 @@ impl Store {
         let mut done = empty_for(alloc, &plan, w.moves.len())?;
         self.log.reserve(1)?;
         reserve_change(&mut self.parts, &plan)?;
+        let mark = self.links.len();
+        let ends = with_rewrite(&mut self.links, self.ends, w)?;
         make_change(&mut self.parts, plan, w.moves.items(), &mut done);
-        self.log.push_reserved(done);
+        self.log.push_reserved(with_links(done, self.ends, mark));
+        self.ends = ends;
         Ok(())
     }
 }
 
-/// `is_q`, `cell`, `psi`, `ends`, `pipe_ends` and `pairs` take logarithmic time, beside the length of a list that they
-/// give, `pipe_at` and `max_pipe` linear time in the names of pipes, and `verts`, `edges` and `edges_at` in those of
-/// vertices, edges and edges. `rewrite` takes logarithmic time for each part
-/// that it drops, adds or changes, beside copies of what it brings, and time linear in the names of a kind for each new
+/// `is_q`, `cell`, `psi`, `ends`, `pipe_ends`, `pairs` and `edges_at` take logarithmic time, beside the length of a list
+/// that they give, `pipe_at` and `max_pipe` linear time in the names of pipes, and `verts` and `edges` in those of
+/// vertices and edges. `rewrite` takes logarithmic time for each part that it drops, adds or changes and for each end of
+/// an edge that moves or comes, beside copies of what it brings, and time linear in the names of a kind for each new
 /// name that lies below others and was never live. `free_names` copies the present instance.
 impl Board for Store {
     ghost instance = { λ s. present_of s };
@@ -144,7 +163,9 @@ impl Board for Store {
 
     fn edges_at(&self, alloc: Global, v: usize) -> Result<Vec<usize>, Memory> {
         self.present_follows_rules();
-        edges_ending_at(alloc, &self.parts.edges, v)
+        let mut names = Vec::new(alloc);
+        push_names(&self.links, self.ends, v, &mut names)?;
+        Ok(names)
     }
 
     fn is_q(&self, v: usize) -> bool {

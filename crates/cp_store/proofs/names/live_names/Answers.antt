@@ -10,4 +10,5 @@ loop-entry-preserved g c =
     let e = c.entry-item.result in
     let lt = subst (λ xs. k < length xs) c.as_slice-entry-items.ensures.value c.loop-entry-test.true in
     let is = subst (λ xs. e ≡ slice_index_or xs k e) c.as_slice-entry-items.ensures.value c.entry-item.is in
-    c.in_ok-append_name.ensures ∙ ap (λ xs. xs ++ map g.T.Named.name (with_item e.item [])) c.loop-entry.invariant ∙ sym (names-more g.T.Named.name es k e lt is)
+    c.in_ok-append_name.ensures ∙ ap (λ xs. xs ++ map g.T.Named.name (with_item e.item [])) c.loop-entry.invariant
+    ∙ sym (names-more g.T.Named.name es k e lt is)

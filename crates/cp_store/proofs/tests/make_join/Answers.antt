@@ -1,4 +1,4 @@
-use Rattle.std.proofs.Common.{[], ◌∷◌, ap, sym, ◌∙◌, subst₂}
+use Rattle.std.proofs.Common.{◌≡◌, [], ◌∷◌, ap, sym, ◌∙◌, subst₂}
 use Rattle.cp_board.specs.Rewrites.{rewritten, IsRewriteOf}
 use Rattle.cp_board.specs.Rows as rows
 use Rattle.cp_sync.proofs.WorkedRows.{first_join-rewritten, IsRewriteOf-first_join}

@@ -1,4 +1,4 @@
-use Rattle.std.proofs.Common.{◌∙◌, subst}
+use Rattle.std.proofs.Common.{◌≡◌, ◌∙◌, subst}
 use Rattle.cp_board.specs.Instances.{IsSynchronized}
 use Rattle.cp_board.specs.Rows as rows
 use Rattle.cp_sync.specs.Faults.{with_parts}
@@ -9,4 +9,5 @@ pub returns : goal.returns
 returns c =
     let i = with_parts c.in_ok-verts.verts c.in_ok-edges.edges c.in_ok-pipes.pipes in
     let made = c.in_ok-_made.ensures in
-    subst IsSynchronized (made.parts ∙ same_parts i rows.second c.in_ok-verts.ensures c.in_ok-edges.ensures c.in_ok-pipes.ensures) made.rules
+    subst IsSynchronized (made.parts
+    ∙ same_parts i rows.second c.in_ok-verts.ensures c.in_ok-edges.ensures c.in_ok-pipes.ensures) made.rules
