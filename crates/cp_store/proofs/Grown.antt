@@ -45,11 +45,6 @@ pub AreNodes-append : {T : Type 0} (ls : List (List T)) (ns ms : List (Node T)) 
 AreNodes-append ls [] ms a b = b
 AreNodes-append ls (n ∷ ns) ms a b = (a.0, AreNodes-append (ls ++ node_items ls n ∷ []) ns ms a.1 b)
 
--- the first of right nodes are right
-AreNodes-first : {T : Type 0} (ls : List (List T)) (ns ms : List (Node T)) → AreNodes ls (ns ++ ms) → AreNodes ls ns
-AreNodes-first ls [] ms a = tt
-AreNodes-first ls (n ∷ ns) ms a = (a.0, AreNodes-first (ls ++ node_items ls n ∷ []) ns ms a.1)
-
 -- the first k of right nodes are right
 pub AreNodes-take : {T : Type 0} (ls : List (List T)) (ns : List (Node T)) (k : ℕ) → AreNodes ls ns
     → AreNodes ls (take k ns)

@@ -99,7 +99,7 @@ module _ (v : List (List Link)) (root before : ℕ) (here : Link) (behind : ℕ)
       (none-before key here (items_at v before) here_fits lt on_sides.below_item)
       ∙ ap (map (λ x. x.name)) (cond-false (eqb here.key key) _ _ (ne_eqb here.key key (λ e. omega (arith, e, lt))))
 
-  -- before one of a greater key
+  -- the names of a key stand before a link of a greater one
   pub names-before : (key : ℕ) → key < here.key
       → names_under key (items_at v root) ≡ names_under key (items_at v before)
   names-before key lt =
@@ -111,7 +111,7 @@ module _ (v : List (List Link)) (root before : ℕ) (here : Link) (behind : ℕ)
       on_sides.above_item)
       ∙ append-nil (names_under key (items_at v before))
 
-  -- and on both sides of one of the key
+  -- the names of the key of a link stand on both sides of it, and its own between them
   pub names-here : (key : ℕ) → here.key ≡ key
       → names_under key (items_at v root) ≡ names_under key (items_at v before) ++ here.name
       ∷ names_under key (items_at v behind)

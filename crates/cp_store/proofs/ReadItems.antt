@@ -1,10 +1,7 @@
 -- The items of some entries, one entry after another.
-use Rattle.std.proofs.Common.{◌≡◌, ℕ, ◌+◌, ◌<◌, Bool, ◌||◌, eqb, List, [], ◌∷◌, ◌++◌, length, map, take, slice_index_or, sym, refl, ap, ◌∙◌}
-use Rattle.std.specs.Prelude.{Option, Some, None, filter}
+use Rattle.std.proofs.Common.{◌≡◌, ℕ, ◌+◌, ◌<◌, List, [], ◌∷◌, ◌++◌, length, map, take, slice_index_or, sym, refl, ap, ◌∙◌}
+use Rattle.std.specs.Prelude.{Option, Some, None}
 use Rattle.std.proofs.lemmas.List.{take_more, map-append}
-use Rattle.std.proofs.lemmas.List.Elements.{filter-append}
-use Rattle.cp_board.specs.declared.parts.EdgeRow.{EdgeRow}
-use Rattle.cp_board.specs.Instances.{names_at}
 use Rattle.cp_store.specs.declared.entry.Entry.{Entry}
 use Rattle.cp_store.specs.Exchanges.{with_item, items_of}
 
@@ -31,13 +28,3 @@ pub names-more : {A : Type 0} (name : A → ℕ) (es : List (Entry A)) (k : ℕ)
     → map name (items_of (take (k + 1) es)) ≡ map name (items_of (take k es)) ++ map name (with_item e.item [])
 names-more name es k e lt is =
     ap (map name) (items-more es k e lt is) ∙ map-append name (items_of (take k es)) (with_item e.item [])
-
--- the edges at a vertex among those of one entry more
-pub names_at-more : (v : ℕ) (es : List (Entry EdgeRow)) (k : ℕ) (e : Entry EdgeRow) → k < length es
-    → e ≡ slice_index_or es k e
-    → names_at (items_of (take (k + 1) es)) v ≡ names_at (items_of (take k es)) v ++ names_at (with_item e.item []) v
-names_at-more v es k e lt is =
-    let at : EdgeRow → Bool = λ x. eqb x.a v || eqb x.b v in
-    ap (λ xs. names_at xs v) (items-more es k e lt is)
-    ∙ ap (map (λ x. x.name)) (filter-append at (items_of (take k es)) (with_item e.item []))
-    ∙ map-append (λ x. x.name) (filter at (items_of (take k es))) (filter at (with_item e.item []))

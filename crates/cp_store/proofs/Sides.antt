@@ -7,7 +7,7 @@ use Rattle.std.proofs.lemmas.List.Elements.{filter-append}
 use Rattle.cp_board.specs.Names.{put}
 use Rattle.cp_board.proofs.ListTests.{rises}
 use Rattle.cp_board.proofs.NamedLists.{under_all, under_all-rises, under_all-lower, rises_after, rises-under}
-use Rattle.cp_store.specs.Exchanges.{under, exchanged}
+use Rattle.cp_store.specs.Exchanges.{exchanged}
 use Rattle.cp_store.proofs.ExchangedItems.{under-below, others-all, put-front, put-behind}
 
 -- all items are below a number
@@ -66,15 +66,6 @@ module _ {A : Type 0} (name : A → ℕ) where
       cond-true (not (eqb (name x) n)) _ _ (ap not (ne_eqb (name x) n (λ e. omega (arith, e, l))))
       ∙ ap (λ ys. x ∷ ys) (others-below n xs h.1)
 
-  -- and nothing stands under it in front of the others
-  under-past : (n : ℕ) (xs ys : List A) → below name n xs ≡ true → under name n (xs ++ ys) ≡ under name n ys
-  under-past n [] ys b = refl
-  under-past n (x ∷ xs) ys b =
-      let h = and_parts (ltb (name x) n) (below name n xs) b in
-      let l = ltb-true (name x) n h.0 in
-      cond-false (eqb (name x) n) (Some x) (under name n (xs ++ ys)) (ne_eqb (name x) n (λ e. omega (arith, e, l)))
-      ∙ under-past n xs ys h.1
-
   -- an item is put in behind all that are below it
   put-past : (x : A) (xs ys : List A) → below name (name x) xs ≡ true → put name x (xs ++ ys) ≡ xs ++ put name x ys
   put-past x [] ys b = refl
@@ -94,30 +85,8 @@ module _ {A : Type 0} (name : A → ℕ) where
       either true = refl
       either false = refl
 
-  -- what is found: before an item, it, or behind it
+  -- items before one of them, it and those behind it, and a name
   module _ (xs : List A) (y : A) (zs : List A) (s : HasSides xs y zs) (n : ℕ) where
-    -- what stands under a lesser name than that of y stands there before y
-    pub under-first : n < name y → under name n (xs ++ y ∷ zs) ≡ under name n xs
-    under-first lt = front xs
-      where
-        front : (ws : List A) → under name n (ws ++ y ∷ zs) ≡ under name n ws
-        front [] =
-            cond-false (eqb (name y) n) (Some y) (under name n zs) (ne_eqb (name y) n (λ e. omega (arith, e, lt)))
-            ∙ under-below name n zs (under_all-lower name n (name y) lt zs s.above_item)
-        front (w ∷ ws) = ap (cond (eqb (name w) n) (Some w)) (front ws)
-
-    -- what stands under a greater name stands there behind y
-    pub under-last : name y < n → under name n (xs ++ y ∷ zs) ≡ under name n zs
-    under-last lt =
-        under-past n xs (y ∷ zs) (below-more (name y) n xs lt s.below_item)
-        ∙ cond-false (eqb (name y) n) (Some y) (under name n zs) (ne_eqb (name y) n (λ e. omega (arith, e, lt)))
-
-    -- under the name of y stands y
-    pub under-here : name y ≡ n → under name n (xs ++ y ∷ zs) ≡ Some y
-    under-here e =
-        under-past n xs (y ∷ zs) (subst (λ m. below name m xs ≡ true) e s.below_item)
-        ∙ cond-true (eqb (name y) n) (Some y) (under name n zs) (eq-eqb (name y) n e)
-
     -- the items of other names than a lesser one, of which only those before y can have it
     others-first : n < name y → filter (λ x. not (eqb (name x) n)) (xs ++ y ∷ zs)
         ≡ filter (λ x. not (eqb (name x) n)) xs ++ y ∷ zs

@@ -143,11 +143,11 @@ impl Store {
     }
 }
 
-/// `is_q`, `cell`, `psi`, `ends`, `pipe_ends`, `pairs` and `edges_at` take logarithmic time, beside the length of a list
-/// that they give, `pipe_at` and `max_pipe` linear time in the names of pipes, and `verts` and `edges` in those of
-/// vertices and edges. `rewrite` takes logarithmic time for each part that it drops, adds or changes and for each end of
-/// an edge that moves or comes, beside copies of what it brings, and time linear in the names of a kind for each new
-/// name that lies below others and was never live. `free_names` copies the present instance.
+/// `is_q`, `cell`, `psi`, `ends`, `pipe_ends`, `pairs` and `edges_at` take logarithmic time, beside the length of a
+/// list that they give, `pipe_at` and `max_pipe` linear time in the names of pipes, and `verts` and `edges` in those of
+/// vertices and edges. `rewrite` takes logarithmic time for each part that it drops, adds or changes and for each end
+/// of an edge that moves or comes, beside copies of what it brings, and time linear in the names of a kind for each
+/// new name that lies below others and was never live. `free_names` copies the present instance.
 impl Board for Store {
     ghost instance = { λ s. present_of s };
 
