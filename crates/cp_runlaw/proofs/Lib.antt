@@ -1,2 +1,4 @@
 pub mod Powers
 pub mod Weights
+pub mod PartWeights
+pub mod PlantedWeights

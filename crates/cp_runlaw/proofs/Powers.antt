@@ -49,3 +49,15 @@ thrice_powers (suc (suc (suc a))) b pa pb =
     let more = three_more (suc (suc a) + b) (suc (suc (suc a)) + b) (omega arith) in
     let first = three_more (suc (suc a)) (suc (suc (suc a))) (omega arith) in
     omega (arith, less, more, first)
+
+-- two powers of numbers that are not 0 are at most the power of the sum
+pub both_powers : (a b : ℕ) → 1 ≤ a → 1 ≤ b → 3 ^ a + 3 ^ b ≤ 3 ^ (a + b)
+both_powers zero b pa pb = absurd (omega arith)
+both_powers (suc a) zero pa pb = absurd (omega arith)
+both_powers (suc zero) (suc zero) pa pb = omega arith
+both_powers (suc zero) (suc (suc b)) pa pb =
+    let less = two_powers (suc zero) (suc (suc b)) pa pb (omega arith) in
+    omega (arith, less)
+both_powers (suc (suc a)) (suc b) pa pb =
+    let less = two_powers (suc (suc a)) (suc b) pa pb (omega arith) in
+    omega (arith, less)
