@@ -2,3 +2,4 @@ pub mod Powers
 pub mod Weights
 pub mod PartWeights
 pub mod PlantedWeights
+pub mod Potentials
