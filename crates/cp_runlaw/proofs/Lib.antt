@@ -3,3 +3,4 @@ pub mod Weights
 pub mod PartWeights
 pub mod PlantedWeights
 pub mod Potentials
+pub mod RunLemmas
