@@ -4,3 +4,4 @@ pub mod PartWeights
 pub mod PlantedWeights
 pub mod Potentials
 pub mod RunLemmas
+pub mod Poles
