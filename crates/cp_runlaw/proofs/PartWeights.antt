@@ -1,7 +1,7 @@
 -- The edges of a cut vertex fall into at least two parts, so the powers of three of the sizes of its parts add up to
 -- less than half the power of its degree.
-use Rattle.std.proofs.Common.{◌≡◌, ℕ, zero, suc, ◌+◌, ◌*◌, ◌^◌, ◌<◌, ◌≤◌, Bool, true, false, ◌||◌, eqb, List, [], ◌∷◌, ◌++◌, length, map, sym, refl, ap, ◌∙◌, subst, inl, inr, arith}
-use Rattle.std.specs.List.{All, Contains, flat_map, sum_by, position_or_len}
+use Rattle.std.proofs.Common.{◌≡◌, ℕ, ◌+◌, ◌*◌, ◌^◌, ◌<◌, ◌≤◌, Bool, true, false, ◌||◌, eqb, List, [], ◌∷◌, ◌++◌, length, map, sym, refl, ap, ◌∙◌, subst, inl, inr, arith}
+use Rattle.std.specs.List.{All, Contains, flat_map, sum_by}
 use Rattle.std.proofs.lemmas.Bool.{eq-eqb}
 use Rattle.std.proofs.lemmas.List.{length-append, length-map, append-nil}
 use Rattle.std.proofs.lemmas.List.Elements.{All-head, All-tail}
@@ -17,7 +17,7 @@ use Rattle.cp_board.specs.declared.parts.Pipe.{Pipe}
 use Rattle.cp_board.specs.Names.{has}
 use Rattle.cp_board.specs.Steps.{degree}
 use Rattle.cp_board.specs.Joins.{ArePartsAt, part_of, part_pipes}
-use Rattle.cp_runlaw.proofs.Powers.{three_le, three_pos, two_powers, both_powers}
+use Rattle.cp_runlaw.proofs.Powers.{two_powers, both_powers}
 
 -- an edge leads to each neighbour
 edge_to : (g : NamedGraph) (u x : ℕ) → IsNeighbour (pairs g) u x
@@ -96,7 +96,7 @@ parts_half (x ∷ y ∷ zs) filled two three =
 -- the pipes of parts have no more than the sum over the parts
 pub part_pipes_le : (hat : ℕ → ℕ) (names outer inner : List ℕ) (parts : List (List ℕ))
     → sum_by (λ (p : Pipe). 3 ^ degree p) (part_pipes hat names outer inner parts)
-        ≤ sum_by (λ (part : List ℕ). 3 ^ length part) parts
+    ≤ sum_by (λ (part : List ℕ). 3 ^ length part) parts
 part_pipes_le hat [] outer inner parts = omega arith
 part_pipes_le hat (n ∷ ns) [] inner parts = omega arith
 part_pipes_le hat (n ∷ ns) (o ∷ os) [] parts = omega arith

@@ -1,9 +1,9 @@
 -- Three to the degree, summed over the P-nodes of a shape that is more than a star, is less than three to the number
 -- of its leaves and its root.
-use Rattle.std.proofs.Common.{◌≡◌, ℕ, zero, suc, ◌+◌, ◌*◌, ◌^◌, ◌<◌, ◌≤◌, Bool, true, false, not, ◌⊎◌, leb, List, [], ◌∷◌, ◌++◌, length, map, sym, refl, ap, ◌∙◌, subst, inl, inr, ⊎_elim, arith}
-use Rattle.std.specs.Prelude.{filter, ◌&&◌}
+use Rattle.std.proofs.Common.{◌≡◌, ℕ, suc, ◌+◌, ◌*◌, ◌^◌, ◌<◌, ◌≤◌, Bool, true, false, not, ◌⊎◌, leb, List, [], ◌∷◌, ◌++◌, length, map, sym, refl, ap, ◌∙◌, subst, inl, inr, arith}
+use Rattle.std.specs.Prelude.{◌&&◌}
 use Rattle.std.specs.List.{flat_map, list_all, sum_by, zip}
-use Rattle.std.proofs.lemmas.Bool.{and_parts, leb-true, cases_lt}
+use Rattle.std.proofs.lemmas.Bool.{and_parts, leb-true}
 use Rattle.std.proofs.lemmas.List.{length-append, length-map}
 use Rattle.std.proofs.lemmas.List.Elements.{filter-append}
 use Rattle.std.proofs.lemmas.List.Sorted.{length_permutation}
@@ -15,7 +15,6 @@ use Rattle.cp_base.specs.declared.shape.Branch.TheOpen.{Branch-F}
 use Rattle.cp_base.specs.declared.shape.Branch.TheFolds.{fold-roll-Branch}
 use Rattle.cp_base.specs.Shapes.{leaves, branches, branches_step, IsStar}
 use Rattle.cp_board.specs.declared.parts.Pipe.{Pipe}
-use Rattle.cp_board.specs.Names.{by_name}
 use Rattle.cp_board.specs.Steps.{degree}
 use Rattle.cp_board.specs.Changes.{pairs_by_first}
 use Rattle.cp_board.specs.Plantings.{Planted, Plants, PlantsAll, free_nodes}
@@ -224,7 +223,7 @@ planted_less f b top vs es rows plants t no_star = (planted_weight f b top vs es
 -- the pipes of nodes have no more than the weight of the nodes of the first end
 pub node_pipes_le : (names : List ℕ) (us ws : List Planted)
     → sum_by (λ (p : Pipe). 3 ^ degree p) (node_pipes names us ws)
-        ≤ sum_by (λ (r : Planted). 3 ^ length r.edges) us
+    ≤ sum_by (λ (r : Planted). 3 ^ length r.edges) us
 node_pipes_le [] us ws = omega arith
 node_pipes_le (n ∷ ns) [] ws = omega arith
 node_pipes_le (n ∷ ns) (u ∷ us) [] = omega arith

@@ -1,10 +1,9 @@
 -- Each allowed step lowers the potential: the sum of three to the degree over all pipes.
-use Rattle.std.proofs.Common.{◌≡◌, ◌≢◌, ℕ, ◌+◌, ◌*◌, ◌^◌, ◌<◌, ◌≤◌, Bool, true, false, not, ◌||◌, eqb, List, [], ◌∷◌, ◌++◌, length, map, sym, refl, ap, ◌∙◌, subst, ⊎_elim, arith}
-use Rattle.std.specs.Prelude.{filter, Option, Some, None, find}
-use Rattle.std.specs.List.{All, flat_map, sum_by}
-use Rattle.std.proofs.lemmas.Bool.{cond_both, eq-eqb, eqb-true, ne_eqb}
+use Rattle.std.proofs.Common.{◌≡◌, ℕ, ◌+◌, ◌^◌, ◌<◌, ◌≤◌, Bool, true, false, not, ◌||◌, eqb, List, [], ◌∷◌, ◌++◌, length, map, sym, refl, ap, ◌∙◌, subst, inl, inr, arith}
+use Rattle.std.specs.Prelude.{filter, Option, Some}
+use Rattle.std.specs.List.{flat_map, sum_by}
+use Rattle.std.proofs.lemmas.Bool.{eq-eqb, eqb-true, ne_eqb}
 use Rattle.std.proofs.lemmas.List.{length-map}
-use Rattle.std.proofs.lemmas.List.Elements.{All-head, All-tail}
 use Rattle.std.proofs.lemmas.List.Sorted.{length_permutation, sum_by-IsPermutation}
 use Rattle.std.proofs.lemmas.List.Sums.{sum_by-cons, sum_by-append}
 use Rattle.cp_base.specs.declared.shape.Shape.{Shape}
@@ -12,43 +11,30 @@ use Rattle.cp_base.specs.Shapes.{leaves}
 use Rattle.cp_board.specs.declared.parts.Pipe.{Pipe}
 use Rattle.cp_board.specs.declared.steps.Step.{Step}
 use Rattle.cp_board.specs.declared.steps.Step.TheVariants.{Small, FreePole, FusePoles, Toroidal, Join, Propagate}
-use Rattle.cp_board.specs.Names.{has, by_name, rising}
+use Rattle.cp_board.specs.Names.{has, rising}
 use Rattle.cp_board.specs.Instances.{Synchronized, IsSynchronized, HasRightPairs, graph, edges_of, pipe_in, pipe_named, pipe_at}
-use Rattle.cp_board.specs.Steps.{degree, opposite, partner, IsEnd, Allowed, IsFitting, IsJoinable, IsFusible}
+use Rattle.cp_board.specs.Steps.{degree, opposite, partner, IsEnd, IsFitting, IsJoinable, IsFusible}
 use Rattle.cp_board.specs.Joins.{IsJoined, part_pipes, edge_for}
 use Rattle.cp_board.specs.Plantings.{free_nodes}
 use Rattle.cp_board.specs.Propagations.{IsPropagated, node_pipes}
-use Rattle.cp_board.specs.Effects.{After, HasFixedEnds, IsAfterSmall, IsFused}
+use Rattle.cp_board.specs.Effects.{HasFixedEnds, IsFused}
 use Rattle.cp_board.specs.Changes.{IsWithoutPipe, other_pipes, pairs_by_first, pipes_by_name}
 use Rattle.cp_board.specs.Runs.{potential}
 use Rattle.cp_board.specs.Reductions.{LowersPotential}
 use Rattle.cp_board.proofs.NamedLists.{by_name_keeps, filter_true}
-use Rattle.cp_runlaw.proofs.Powers.{three_more, three_le, three_pos}
-use Rattle.cp_runlaw.proofs.Weights.{fewer, fewer_by}
+use Rattle.cp_runlaw.proofs.Powers.{three_more, three_pos}
+use Rattle.cp_runlaw.proofs.FoundPipes.{All-find, find-passes, length-right_end}
+use Rattle.cp_runlaw.proofs.Weights.{fewer_by}
 use Rattle.cp_runlaw.proofs.PartWeights.{two_parts, parts_half, part_pipes_le}
 use Rattle.cp_runlaw.proofs.PlantedWeights.{planted_less, node_pipes_le}
 
 -- two pipes of one place are one
-pub one_pipe : (o : ℕ) (i : Synchronized) (p q : Pipe) → pipe_named i o ≡ Some p → pipe_named i o ≡ Some q → p ≡ q
+one_pipe : (o : ℕ) (i : Synchronized) (p q : Pipe) → pipe_named i o ≡ Some p → pipe_named i o ≡ Some q → p ≡ q
 one_pipe o i p q e f = cc
 
 -- the pipe that is found has the name
-pub found_name : (n : ℕ) (ps : List Pipe) (p : Pipe) → pipe_in ps n ≡ Some p → p.name ≡ n
-found_name n [] p found = absurd (cc)
-found_name n (q ∷ qs) p found =
-    cond_both (eqb q.name n) (Some q) (pipe_in qs n) (λ o. o ≡ Some p → p.name ≡ n)
-    (λ e f. let same : q ≡ p = cc in ap (λ (z : Pipe). z.name) (sym same) ∙ eqb-true q.name n e)
-    (λ e f. found_name n qs p f)
-    found
-
--- what holds of all pipes holds of the one of some name
-pub All-found : (holds : Pipe → Type 0) (n : ℕ) (ps : List Pipe) (p : Pipe) → All holds ps → pipe_in ps n ≡ Some p → holds p
-All-found holds n [] p all found = absurd (cc)
-All-found holds n (q ∷ qs) p all found =
-    cond_both (eqb q.name n) (Some q) (pipe_in qs n) (λ o. o ≡ Some p → holds p)
-    (λ e f. let same : q ≡ p = cc in subst holds same (All-head holds q qs all))
-    (λ e f. All-found holds n qs p (All-tail holds q qs all) f)
-    found
+found_name : (n : ℕ) (ps : List Pipe) (p : Pipe) → pipe_in ps n ≡ Some p → p.name ≡ n
+found_name n ps p found = eqb-true p.name n (find-passes (λ q. eqb q.name n) ps p found)
 
 -- three to the degree
 abbrev weight : Pipe → ℕ
@@ -72,28 +58,11 @@ weights-without n ps p found =
     let le = fewer_by weight (λ (q : Pipe). eqb q.name n) (λ (q : Pipe). not (has (n ∷ []) q.name)) (λ (q : Pipe). true) (λ q e. refl) ps p found refl gone in
     omega (arith, le, ap weights (filter_true ps))
 
--- each end of a pipe has as many edges as the pipe has pairs
-module _ (i : Synchronized) (is : IsSynchronized i) (n : ℕ) (p : Pipe) (found : pipe_named i n ≡ Some p) where
-  -- its pairs are right
-  right_pairs : HasRightPairs (graph i) p
-  right_pairs = All-found (HasRightPairs (graph i)) n i.pipes p is.pairs_right found
-
-  -- the first end
-  pub length-first_end : length (edges_of i p.a) ≡ degree p
-  length-first_end = sym (ap length right_pairs.first) ∙ length-map p.pairs (λ x. x.0)
-
-  -- the second end
-  pub length-second_end : length (edges_of i p.b) ≡ degree p
-  length-second_end =
-      sym (length_permutation (edges_of i p.b) (map (λ x. x.1) p.pairs) right_pairs.second) ∙ length-map p.pairs (λ x. x.1)
-
-  -- either end
-  pub length-end : (u : ℕ) → IsEnd p u → length (edges_of i u) ≡ degree p
-  length-end u end =
-      ⊎_elim
-      (λ (e : p.a ≡ u). subst (λ v. length (edges_of i v) ≡ degree p) e length-first_end)
-      (λ (e : p.b ≡ u). subst (λ v. length (edges_of i v) ≡ degree p) e length-second_end)
-      end
+-- each end of a live pipe has as many edges as the pipe has pairs
+length-end : (i : Synchronized) → IsSynchronized i → (n : ℕ) (p : Pipe) → pipe_named i n ≡ Some p → (u : ℕ) → IsEnd p u
+    → length (edges_of i u) ≡ degree p
+length-end i is n p found u end =
+    length-right_end i p u (All-find (HasRightPairs (graph i)) (λ q. eqb q.name n) i.pipes p is.pairs_right found) end
 
 -- the steps at the pipe p
 module _ (i j : Synchronized) (is : IsSynchronized i) (n : ℕ) (p : Pipe) (found : pipe_named i n ≡ Some p) where
@@ -142,8 +111,8 @@ module _ (i j : Synchronized) (is : IsSynchronized i) (n : ℕ) (p : Pipe) (foun
   potential-joined : IsJoinable i p → IsJoined i p j → potential j < potential i
   potential-joined fits w =
       let named : p.name ≡ n = found_name n i.pipes p found in
-      let da = length_permutation (edges_of i p.a) (flat_map (λ part. part) w.parts_a) w.are_parts_a.whole ∙ length-first_end i is n p found in
-      let db = length_permutation (edges_of i p.b) (flat_map (λ part. part) w.parts_b) w.are_parts_b.whole ∙ length-second_end i is n p found in
+      let da = length_permutation (edges_of i p.a) (flat_map (λ part. part) w.parts_a) w.are_parts_a.whole ∙ length-end i is n p found p.a (inl refl) in
+      let db = length_permutation (edges_of i p.b) (flat_map (λ part. part) w.parts_b) w.are_parts_b.whole ∙ length-end i is n p found p.b (inr refl) in
       let large : 4 ≤ degree p = fits.large in
       let half_a = parts_half w.parts_a w.are_parts_a.filled (two_parts (graph i) p.a w.parts_a w.are_parts_a fits.cut_a) (omega (arith, da, large)) in
       let half_b = parts_half w.parts_b w.are_parts_b.filled (two_parts (graph i) p.b w.parts_b w.are_parts_b fits.cut_b) (omega (arith, db, large)) in

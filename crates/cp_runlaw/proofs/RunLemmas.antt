@@ -1,5 +1,5 @@
 -- Runs: what may be taken is more, one step is appended, and each run is short.
-use Rattle.std.proofs.Common.{◌≡◌, ℕ, ◌+◌, ◌<◌, ◌≤◌, List, [], ◌∷◌, ◌++◌, length, arith}
+use Rattle.std.proofs.Common.{◌+◌, ◌≤◌, List, [], ◌∷◌, ◌++◌, length, arith}
 use Rattle.std.proofs.lemmas.List.{length-append}
 use Rattle.cp_board.specs.declared.steps.Step.{Step}
 use Rattle.cp_board.specs.Instances.{Synchronized, IsSynchronized}
