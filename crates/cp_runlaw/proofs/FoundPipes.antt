@@ -53,7 +53,8 @@ find-named f (x ∷ xs) q once found =
     cond_both (eqb x.name q.name) (Some x) (pipe_in xs q.name) (λ o. o ≡ Some q) (λ h. g)
     (λ h. absurd (let t : eqb x.name q.name ≡ true = eq-eqb x.name q.name (ap (λ (z : Pipe). z.name) same) in cc)))
     (λ e g. cond_both (eqb x.name q.name) (Some x) (pipe_in xs q.name) (λ o. o ≡ Some q)
-    (λ h. absurd (has_lacks q.name (map (λ p. p.name) xs) (find-Has f xs q g) (subst (λ n. Lacks n (map (λ p. p.name) xs)) (eqb-true x.name q.name h) once.0)))
+    (λ h. absurd (has_lacks q.name (map (λ p. p.name) xs) (find-Has f xs q g)
+    (subst (λ n. Lacks n (map (λ p. p.name) xs)) (eqb-true x.name q.name h) once.0)))
     (λ h. find-named f xs q once.1 g))
     found
 
@@ -62,7 +63,8 @@ pub length-right_end : (i : Synchronized) (p : Pipe) (u : ℕ) → HasRightPairs
     → length (edges_of i u) ≡ degree p
 length-right_end i p u right end =
     ⊎_elim
-    (λ (e : p.a ≡ u). subst (λ v. length (edges_of i v) ≡ degree p) e (sym (ap length right.first) ∙ length-map p.pairs (λ x. x.0)))
+    (λ (e : p.a ≡ u). subst (λ v. length (edges_of i v) ≡ degree p) e
+    (sym (ap length right.first) ∙ length-map p.pairs (λ x. x.0)))
     (λ (e : p.b ≡ u). subst (λ v. length (edges_of i v) ≡ degree p) e
     (sym (length_permutation (edges_of i p.b) (map (λ x. x.1) p.pairs) right.second) ∙ length-map p.pairs (λ x. x.1)))
     end
@@ -70,12 +72,14 @@ length-right_end i p u right end =
 -- no two edges of an instance have one name
 pub edges_distinct : (i : Synchronized) → IsSynchronized i → Distinct (edge_names i)
 edges_distinct i is =
-    Distinct-from_test (edge_names i) (distinct_from_rises (λ e. e.name) i.edges (rises_from (edge_names i) is.edges_named.rise))
+    Distinct-from_test (edge_names i) (distinct_from_rises (λ e. e.name) i.edges
+    (rises_from (edge_names i) is.edges_named.rise))
 
 -- no two pipes have one name
 pub pipes_distinct : (i : Synchronized) → IsSynchronized i → Distinct (pipe_names i)
 pipes_distinct i is =
-    Distinct-from_test (pipe_names i) (distinct_from_rises (λ p. p.name) i.pipes (rises_from (pipe_names i) is.pipes_named.rise))
+    Distinct-from_test (pipe_names i) (distinct_from_rises (λ p. p.name) i.pipes
+    (rises_from (pipe_names i) is.pipes_named.rise))
 
 -- the pipe of a vertex has it as an end
 pub pipe_at-end : (i : Synchronized) (v : ℕ) (q : Pipe) → pipe_at i v ≡ Some q → IsEnd q v
@@ -108,14 +112,17 @@ end-found f v (x ∷ xs) p apart found end =
     let same : p ≡ x = cc in
     let own : IsEnd x v = subst (λ z. IsEnd z v) same end in
     let passes : (eqb x.a v || eqb x.b v) ≡ true =
-    ⊎_elim (λ (a : x.a ≡ v). or_left (eqb x.a v) (eqb x.b v) (eq-eqb x.a v a)) (λ (b : x.b ≡ v). or_right (eqb x.a v) (eqb x.b v) (eq-eqb x.b v b)) own in
+    ⊎_elim (λ (a : x.a ≡ v). or_left (eqb x.a v) (eqb x.b v) (eq-eqb x.a v a))
+    (λ (b : x.b ≡ v). or_right (eqb x.a v) (eqb x.b v) (eq-eqb x.b v b)) own in
     ap (λ t. cond t (Some x) (pipe_with xs v)) passes ∙ g)
     (λ e g.
     let rest = end-Has f v xs p g end in
     cond_both (eqb x.a v || eqb x.b v) (Some x) (pipe_with xs v) (λ o. o ≡ Some p)
     (λ h. ⊎_elim
-    (λ a. absurd (has_lacks v (flat_map (λ q. q.a ∷ q.b ∷ []) xs) rest (subst (λ z. Lacks z (flat_map (λ q. q.a ∷ q.b ∷ []) xs)) (eqb-true x.a v a) apart.0.1)))
-    (λ b. absurd (has_lacks v (flat_map (λ q. q.a ∷ q.b ∷ []) xs) rest (subst (λ z. Lacks z (flat_map (λ q. q.a ∷ q.b ∷ []) xs)) (eqb-true x.b v b) apart.1.0)))
+    (λ a. absurd (has_lacks v (flat_map (λ q. q.a ∷ q.b ∷ []) xs) rest
+    (subst (λ z. Lacks z (flat_map (λ q. q.a ∷ q.b ∷ []) xs)) (eqb-true x.a v a) apart.0.1)))
+    (λ b. absurd (has_lacks v (flat_map (λ q. q.a ∷ q.b ∷ []) xs) rest
+    (subst (λ z. Lacks z (flat_map (λ q. q.a ∷ q.b ∷ []) xs)) (eqb-true x.b v b) apart.1.0)))
     (or_cases (eqb x.a v) (eqb x.b v) h))
     (λ h. end-found f v xs p apart.1.1 g end))
     found

@@ -54,8 +54,10 @@ two_parts g u (x ∷ []) are cut =
     let f = edge_to g u cut.two cut.near_two in
     let ce = only_part x e.0 (Contains-permutation (edges_at g u) (x ++ []) e.0 are.whole e.1) in
     let cf = only_part x f.0 (Contains-permutation (edges_at g u) (x ++ []) f.0 are.whole f.1) in
-    let joined : Connected (without_vertex u (pairs g)) (far g u e.0) (far g u f.0) = (are.one e.0 f.0 e.1 f.1).0 (ce ∙ sym cf) in
-    absurd (cut.apart (subst (λ y. Connected (without_vertex u (pairs g)) cut.one y) f.2 (subst (λ y. Connected (without_vertex u (pairs g)) y (far g u f.0)) e.2 joined)))
+    let joined : Connected (without_vertex u (pairs g)) (far g u e.0) (far g u f.0) =
+    (are.one e.0 f.0 e.1 f.1).0 (ce ∙ sym cf) in
+    absurd (cut.apart (subst (λ y. Connected (without_vertex u (pairs g)) cut.one y) f.2
+    (subst (λ y. Connected (without_vertex u (pairs g)) y (far g u f.0)) e.2 joined)))
 two_parts g u (x ∷ y ∷ zs) are cut = omega arith
 
 -- the sum over parts that are not empty is at most three to the number of their items
@@ -63,7 +65,12 @@ parts_le : (parts : List (List ℕ)) → All (λ part. 0 < length part) parts
     → sum_by (λ (part : List ℕ). 3 ^ length part) parts ≤ 3 ^ length (flat_map (λ part. part) parts)
 parts_le [] filled = omega arith
 parts_le (x ∷ []) filled =
-    omega (arith, sum_by-cons (λ (part : List ℕ). 3 ^ length part) x [], ap (λ (zs : List ℕ). 3 ^ length zs) (append-nil x))
+    omega (
+      arith,
+      sum_by-cons (λ (part : List ℕ). 3 ^ length part) x [],
+      ap (λ (zs : List ℕ). 3 ^ length zs)
+          (append-nil x),
+    )
 parts_le (x ∷ y ∷ zs) filled =
     let w : List ℕ → ℕ = λ part. 3 ^ length part in
     let first : 0 < length x = All-head (λ (part : List ℕ). 0 < length part) x (y ∷ zs) filled in
@@ -103,6 +110,14 @@ part_pipes_le hat (n ∷ ns) (o ∷ os) [] parts = omega arith
 part_pipes_le hat (n ∷ ns) (o ∷ os) (i ∷ is) [] = omega arith
 part_pipes_le hat (n ∷ ns) (o ∷ os) (i ∷ is) (part ∷ parts) =
     let r = part_pipes_le hat ns os is parts in
-    let same : length (map (λ (e : ℕ). (e, hat e)) part) ≡ length part = length-map {B = ℕ × ℕ} part (λ e. (e, hat e)) in
+    let same : length (map (λ (e : ℕ). (e, hat e)) part) ≡ length part =
+    length-map {B = ℕ × ℕ} part (λ e. (e, hat e)) in
     let p : Pipe = record { name = n; a = o; b = i; pairs = map (λ e. (e, hat e)) part } in
-    omega (arith, r, sum_by-cons (λ (p : Pipe). 3 ^ degree p) p (part_pipes hat ns os is parts), sum_by-cons (λ (z : List ℕ). 3 ^ length z) part parts, ap (λ k. 3 ^ k) same)
+    omega (
+      arith,
+      r,
+      sum_by-cons (λ (p : Pipe). 3 ^ degree p) p (part_pipes hat ns os is parts),
+      sum_by-cons
+          (λ (z : List ℕ). 3 ^ length z) part parts,
+      ap (λ k. 3 ^ k) same,
+    )

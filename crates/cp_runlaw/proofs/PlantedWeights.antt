@@ -42,7 +42,8 @@ list_all-values (k ∷ ks) = ap (λ z. branches k && z) (list_all-values ks)
 branches_P : (ks : List Branch) → branches (P ks) ≡ (leb 2 (length ks) && list_all branches ks)
 unfolding branches
 branches_P ks = ap branches (sym (rolls-P ks)) ∙ fold-roll-Branch Bool branches_step (Branch-F.P ks)
-    ∙ ap (λ n. leb 2 n && list_all (λ b. b) (map branches ks)) (length-map ks branches) ∙ ap (λ z. leb 2 (length ks) && z) (list_all-values ks)
+    ∙ ap (λ n. leb 2 n && list_all (λ b. b) (map branches ks)) (length-map ks branches)
+    ∙ ap (λ z. leb 2 (length ks) && z) (list_all-values ks)
 
 -- a weight w is 0, or at most three times three to n, which is at least 2
 abbrev IsBounded : ℕ → ℕ → Type 0
@@ -195,12 +196,14 @@ mutual
       omega (arith, more, sum_by-cons (λ (r : Planted). 3 ^ length r.edges) row (free_nodes rows)) in
       subst (λ n. HasWeight (P kids) n (node_weight (row ∷ rows))) (sym (ap length (leaves_P kids)))
       (subst (HasWeight (P kids) (length (flat_map leaves kids))) same
-      (free_weight kids (length (flat_map leaves kids)) (node_weight rows) two (kids_weight f kids tops vs es rows all h.1)))
+      (free_weight kids (length (flat_map leaves kids)) (node_weight rows) two
+      (kids_weight f kids tops vs es rows all h.1)))
   planted_weight f _ _ _ _ _ (Plants.fixed kids top v tops vs es rows all) t =
       let h = and_parts (leb 2 (length kids)) (list_all branches kids) (sym (branches_Q kids) ∙ t) in
       let two : 2 ≤ length kids = leb-true 2 (length kids) h.0 in
       subst (λ n. HasWeight (Q kids) n (node_weight rows)) (sym (ap length (leaves_Q kids)))
-      (fixed_weight kids (length (flat_map leaves kids)) (node_weight rows) two (kids_weight f kids tops vs es rows all h.1))
+      (fixed_weight kids (length (flat_map leaves kids)) (node_weight rows) two
+      (kids_weight f kids tops vs es rows all h.1))
 
   kids_weight : (f : ℕ → ℕ) (ks : List Branch) (tops vs es : List ℕ) (rows : List Planted)
       → PlantsAll f ks tops vs es rows → list_all branches ks ≡ true
@@ -210,8 +213,10 @@ mutual
       let h = and_parts (branches k) (list_all branches ks) t in
       let g = planted_weight f k top us ds rows one h.0 in
       let r = kids_weight f ks tops vs es more_rows rest h.1 in
-      subst (λ n. HaveWeight (k ∷ ks) n (node_weight (rows ++ more_rows))) (sym (length-append (leaves k) (flat_map leaves ks)))
-      (subst (HaveWeight (k ∷ ks) (length (leaves k) + length (flat_map leaves ks))) (sym (node_weight-append rows more_rows))
+      subst (λ n. HaveWeight (k ∷ ks) n (node_weight (rows ++ more_rows)))
+      (sym (length-append (leaves k) (flat_map leaves ks)))
+      (subst (HaveWeight (k ∷ ks) (length (leaves k) + length (flat_map leaves ks)))
+      (sym (node_weight-append rows more_rows))
       (more_kids k ks (length (leaves k)) (length (flat_map leaves ks)) (node_weight rows) (node_weight more_rows) g r))
 
 -- the weight of a shape that is more than a star is less than three to the number of its leaves and its root
@@ -235,4 +240,11 @@ node_pipes_le (n ∷ ns) (u ∷ us) (w ∷ ws) =
     let le : 3 ^ length (pairs_by_first pairs) ≤ 3 ^ length u.edges =
     three_le (length (pairs_by_first pairs)) (length u.edges) (omega (arith, size, length-zip u.edges w.edges)) in
     let p : Pipe = record { name = n; a = u.vertex; b = w.vertex; pairs = pairs_by_first pairs } in
-    omega (arith, r, le, sum_by-cons (λ (p : Pipe). 3 ^ degree p) p (node_pipes ns us ws), sum_by-cons (λ (r : Planted). 3 ^ length r.edges) u us)
+    omega (
+      arith,
+      r,
+      le,
+      sum_by-cons (λ (p : Pipe). 3 ^ degree p) p (node_pipes ns us ws),
+      sum_by-cons
+          (λ (r : Planted). 3 ^ length r.edges) u us,
+    )

@@ -37,19 +37,22 @@ greatest_le i p q f greatest found =
     ⊎_elim
     (λ (lt : degree q < degree p). let le : degree q ≤ degree p = omega (arith, lt) in le)
     (λ (h : (degree q ≡ degree p) × (p.name ≤ q.name)). let le : degree q ≤ degree p = omega (arith, h.0) in le)
-    (All-find (λ q. (degree q < degree p) ⊎ ((degree q ≡ degree p) × (p.name ≤ q.name))) f i.pipes q greatest.others found)
+    (All-find (λ q. (degree q < degree p) ⊎
+    ((degree q ≡ degree p) × (p.name ≤ q.name))) f i.pipes q greatest.others found)
 
 -- the end u of the pipe p and the pole v are a bond
 module _ (i : Synchronized) (is : IsSynchronized i) (n : ℕ) (p : Pipe) (live : pipe_named i n ≡ Some p) (u v : ℕ)
     (end : IsEnd p u) (bond : IsBond (graph i) u v) where
   -- the edges of the end
   size_u : length (edges_of i u) ≡ degree p
-  size_u = length-right_end i p u (All-find (HasRightPairs (graph i)) (λ x. eqb x.name n) i.pipes p is.pairs_right live) end
+  size_u = length-right_end i p u (All-find (HasRightPairs (graph i))
+      (λ x. eqb x.name n) i.pipes p is.pairs_right live) end
 
   -- the edges of the pole are the pairs of its pipe
   size_v : (q : Pipe) → pipe_at i v ≡ Some q → length (edges_of i v) ≡ degree q
   size_v q found =
-      length-right_end i q v (All-find (HasRightPairs (graph i)) (λ x. eqb x.a v || eqb x.b v) i.pipes q is.pairs_right found)
+      length-right_end i q v (All-find (HasRightPairs (graph i))
+      (λ x. eqb x.a v || eqb x.b v) i.pipes q is.pairs_right found)
       (pipe_at-end i v q found)
 
   -- the pipe of the pole has no smaller degree
@@ -59,7 +62,8 @@ module _ (i : Synchronized) (is : IsSynchronized i) (n : ℕ) (p : Pipe) (live :
   -- a pipe of the pole that has the name of p is p
   pub pole_same : (q : Pipe) → pipe_at i v ≡ Some q → q.name ≡ p.name → q ≡ p
   pole_same q found named =
-      let own : pipe_named i q.name ≡ Some q = find-named (λ x. eqb x.a v || eqb x.b v) i.pipes q (pipes_distinct i is) found in
+      let own : pipe_named i q.name ≡ Some q =
+      find-named (λ x. eqb x.a v || eqb x.b v) i.pipes q (pipes_distinct i is) found in
       let theirs : pipe_named i p.name ≡ Some p = find-named (λ x. eqb x.name n) i.pipes p (pipes_distinct i is) live in
       let moved : pipe_named i p.name ≡ Some q = subst (λ m. pipe_named i m ≡ Some q) named own in
       cc
@@ -79,13 +83,15 @@ module _ (i : Synchronized) (is : IsSynchronized i) (n : ℕ) (p : Pipe) (live :
   -- and where the pole is the other end, its pipe is p
   pub opposite_pipe : ((u ≡ p.a) × (v ≡ p.b)) ⊎ ((u ≡ p.b) × (v ≡ p.a)) → pipe_at i v ≡ Some p
   opposite_pipe where_is =
-      end-pipe_at i n p v is live (⊎_elim (λ (h : (u ≡ p.a) × (v ≡ p.b)). inr (sym h.1)) (λ (h : (u ≡ p.b) × (v ≡ p.a)). inl (sym h.1)) where_is)
+      end-pipe_at i n p v is live (⊎_elim (λ (h : (u ≡ p.a) × (v ≡ p.b)). inr (sym h.1))
+      (λ (h : (u ≡ p.b) × (v ≡ p.a)). inl (sym h.1)) where_is)
 
   -- where the pole has the pipe p, both ends are a bond, read from the first
   pub pole_torus : (q : Pipe) → pipe_at i v ≡ Some q → q.name ≡ p.name → IsBond (graph i) p.a p.b
   pole_torus q found named =
       ⊎_elim
-      (λ (h : (u ≡ p.a) × (v ≡ p.b)). subst (λ x. IsBond (graph i) x p.b) h.0 (subst (λ y. IsBond (graph i) u y) h.1 bond))
+      (λ (h : (u ≡ p.a) × (v ≡ p.b)). subst (λ x. IsBond (graph i) x p.b) h.0
+      (subst (λ y. IsBond (graph i) u y) h.1 bond))
       (λ (h : (u ≡ p.b) × (v ≡ p.a)).
       subst (λ x. IsBond (graph i) x p.b) h.1 (subst (λ y. IsBond (graph i) v y) h.0
       (bond_back (graph i) u v bond (edges_distinct i is) equal)))

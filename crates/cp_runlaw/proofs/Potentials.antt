@@ -55,7 +55,8 @@ weights-without : (n : ℕ) (ps : List Pipe) (p : Pipe) → pipe_in ps n ≡ Som
 weights-without n ps p found =
     let named = found_name n ps p found in
     let gone : not (has (n ∷ []) p.name) ≡ false = ap (λ b. not (b || false)) (eq-eqb p.name n named) in
-    let le = fewer_by weight (λ (q : Pipe). eqb q.name n) (λ (q : Pipe). not (has (n ∷ []) q.name)) (λ (q : Pipe). true) (λ q e. refl) ps p found refl gone in
+    let le = fewer_by weight (λ (q : Pipe). eqb q.name n) (λ (q : Pipe). not (has (n ∷ []) q.name))
+    (λ (q : Pipe). true) (λ q e. refl) ps p found refl gone in
     omega (arith, le, ap weights (filter_true ps))
 
 -- each end of a live pipe has as many edges as the pipe has pairs
@@ -88,7 +89,8 @@ module _ (i j : Synchronized) (is : IsSynchronized i) (n : ℕ) (p : Pipe) (foun
       let apart : first q ≡ true = ap (λ b. not (b || false)) (ne_eqb q.name n (λ e. fits.another (e ∙ sym named))) in
       let gone : both q ≡ false = not_second (eqb q.name p.name) (eqb q.name q.name) (eq-eqb q.name q.name refl) in
       let less : (r : Pipe) → both r ≡ true → first r ≡ true = λ r e.
-      subst (λ m. not (has (m ∷ []) r.name) ≡ true) named (not_first (eqb r.name p.name) (has (q.name ∷ []) r.name) e) in
+      subst (λ m. not (has (m ∷ []) r.name) ≡ true) named
+      (not_first (eqb r.name p.name) (has (q.name ∷ []) r.name) e) in
       let le = weights-without n i.pipes p found in
       let le_two = fewer_by weight (λ (r : Pipe). eqb r.a v || eqb r.b v) both first less i.pipes q fits.matched apart gone in
       let size : degree new ≡ degree p =
@@ -97,7 +99,16 @@ module _ (i j : Synchronized) (is : IsSynchronized i) (n : ℕ) (p : Pipe) (foun
       ∙ length-map (edges_of i u) (λ x. (partner p u x, partner q v (w.along x)))
       ∙ length-end i is n p found u fits.end in
       let pos = three_pos (degree q) in
-      omega (arith, le, le_two, pos, ap (λ k. 3 ^ k) size, ap weights w.pipes ∙ weights-by_name (new ∷ filter both i.pipes), sum_by-cons weight new (filter both i.pipes))
+      omega (
+        arith,
+        le,
+        le_two,
+        pos,
+        ap (λ k. 3 ^ k) size,
+        ap weights w.pipes
+            ∙ weights-by_name (new ∷ filter both i.pipes),
+        sum_by-cons weight new (filter both i.pipes),
+      )
     where
       not_first : (x y : Bool) → not (x || y) ≡ true → not (x || false) ≡ true
       not_first true y e = e
@@ -111,20 +122,39 @@ module _ (i j : Synchronized) (is : IsSynchronized i) (n : ℕ) (p : Pipe) (foun
   potential-joined : IsJoinable i p → IsJoined i p j → potential j < potential i
   potential-joined fits w =
       let named : p.name ≡ n = found_name n i.pipes p found in
-      let da = length_permutation (edges_of i p.a) (flat_map (λ part. part) w.parts_a) w.are_parts_a.whole ∙ length-end i is n p found p.a (inl refl) in
-      let db = length_permutation (edges_of i p.b) (flat_map (λ part. part) w.parts_b) w.are_parts_b.whole ∙ length-end i is n p found p.b (inr refl) in
+      let da = length_permutation (edges_of i p.a) (flat_map (λ part. part) w.parts_a) w.are_parts_a.whole
+      ∙ length-end i is n p found p.a (inl refl) in
+      let db = length_permutation (edges_of i p.b) (flat_map (λ part. part) w.parts_b) w.are_parts_b.whole
+      ∙ length-end i is n p found p.b (inr refl) in
       let large : 4 ≤ degree p = fits.large in
-      let half_a = parts_half w.parts_a w.are_parts_a.filled (two_parts (graph i) p.a w.parts_a w.are_parts_a fits.cut_a) (omega (arith, da, large)) in
-      let half_b = parts_half w.parts_b w.are_parts_b.filled (two_parts (graph i) p.b w.parts_b w.are_parts_b fits.cut_b) (omega (arith, db, large)) in
+      let half_a = parts_half w.parts_a w.are_parts_a.filled
+      (two_parts (graph i) p.a w.parts_a w.are_parts_a fits.cut_a) (omega (arith, da, large)) in
+      let half_b = parts_half w.parts_b w.are_parts_b.filled
+      (two_parts (graph i) p.b w.parts_b w.are_parts_b fits.cut_b) (omega (arith, db, large)) in
       let pipes_a : List Pipe = part_pipes (edge_for i p w.hats) w.names_a w.outer_a w.inner_a w.parts_a in
-      let pipes_b : List Pipe = part_pipes (λ y. edge_for i p w.hats (partner p p.b y)) w.names_b w.outer_b w.inner_b w.parts_b in
+      let pipes_b : List Pipe = part_pipes
+      (λ y. edge_for i p w.hats (partner p p.b y)) w.names_b w.outer_b w.inner_b w.parts_b in
       let le_a = part_pipes_le (edge_for i p w.hats) w.names_a w.outer_a w.inner_a w.parts_a in
       let le_b = part_pipes_le (λ y. edge_for i p w.hats (partner p p.b y)) w.names_b w.outer_b w.inner_b w.parts_b in
       let others : List Pipe = other_pipes i (n ∷ []) in
       let le = weights-without n i.pipes p found in
       let same : weights j.pipes ≡ weights ((others ++ pipes_a) ++ pipes_b) =
-      ap weights (w.pipes ∙ ap (λ m. pipes_by_name ((other_pipes i (m ∷ []) ++ pipes_a) ++ pipes_b)) named) ∙ weights-by_name ((others ++ pipes_a) ++ pipes_b) in
-      omega (arith, half_a, half_b, le_a, le_b, le, same, ap (λ k. 3 ^ k) da, ap (λ k. 3 ^ k) db, sum_by-append weight (others ++ pipes_a) pipes_b, sum_by-append weight others pipes_a)
+      ap weights (w.pipes ∙ ap (λ m. pipes_by_name ((other_pipes i (m ∷ []) ++ pipes_a) ++ pipes_b)) named)
+      ∙ weights-by_name ((others ++ pipes_a) ++ pipes_b) in
+      omega (
+        arith,
+        half_a,
+        half_b,
+        le_a,
+        le_b,
+        le,
+        same,
+        ap (λ k. 3 ^ k) da,
+        ap (λ k. 3 ^ k) db,
+        sum_by-append weight
+            (others ++ pipes_a) pipes_b,
+        sum_by-append weight others pipes_a,
+      )
 
   -- a pipe comes for each P-node
   potential-propagated : (u : ℕ) (shape : Shape) → IsFitting i p u shape → IsPropagated i p u shape j
@@ -132,20 +162,24 @@ module _ (i j : Synchronized) (is : IsSynchronized i) (n : ℕ) (p : Pipe) (foun
   potential-propagated u shape fits w =
       let named : p.name ≡ n = found_name n i.pipes p found in
       let all : length (rising (shape.root ∷ leaves shape.body)) ≡ length (shape.root ∷ leaves shape.body) =
-      length_permutation (shape.root ∷ leaves shape.body) (rising (shape.root ∷ leaves shape.body)) (by_name_keeps (λ (x : ℕ). x) (shape.root ∷ leaves shape.body)) in
+      length_permutation (shape.root ∷ leaves shape.body) (rising (shape.root ∷ leaves shape.body))
+      (by_name_keeps (λ (x : ℕ). x) (shape.root ∷ leaves shape.body)) in
       let d = sym (length-end i is n p found u fits.end) ∙ sym (ap length fits.leaves) ∙ all in
       let more = three_more (length (leaves shape.body)) (degree p) (omega (arith, d)) in
-      let less = planted_less (λ x. x) shape.body shape.root w.at_u (shape.root ∷ w.edges_u) w.rows_u w.planted_u fits.branching fits.no_star in
+      let less = planted_less (λ x. x) shape.body shape.root w.at_u
+      (shape.root ∷ w.edges_u) w.rows_u w.planted_u fits.branching fits.no_star in
       let new : List Pipe = node_pipes w.names (free_nodes w.rows_u) (free_nodes w.rows_w) in
       let le_new = node_pipes_le w.names (free_nodes w.rows_u) (free_nodes w.rows_w) in
       let others : List Pipe = other_pipes i (n ∷ []) in
       let le = weights-without n i.pipes p found in
       let same : weights j.pipes ≡ weights (others ++ new) =
-      ap weights (w.pipes ∙ ap (λ m. pipes_by_name (other_pipes i (m ∷ []) ++ new)) named) ∙ weights-by_name (others ++ new) in
+      ap weights (w.pipes ∙ ap (λ m. pipes_by_name (other_pipes i (m ∷ []) ++ new)) named)
+      ∙ weights-by_name (others ++ new) in
       omega (arith, less, more, le_new, le, same, sum_by-append weight others new)
 
   -- Small with three pairs or fewer
-  potential-small : (b : Bool) → (elim b as (λ b. Type 0) [ true ↦ HasFixedEnds i p j | false ↦ IsWithoutPipe i p.name j ])
+  potential-small : (b : Bool) → (elim b as
+      (λ b. Type 0) [ true ↦ HasFixedEnds i p j | false ↦ IsWithoutPipe i p.name j ])
       → potential j < potential i
   potential-small true w =
       potential-without (w.pipes ∙ ap (λ m. other_pipes i (m ∷ [])) (found_name n i.pipes p found))
@@ -168,7 +202,8 @@ lowers (FusePoles n end pole) i j is allowed after =
     other o x y e f = cc
 lowers (Toroidal n) i j is allowed after = potential-without i j is n after.0 after.1 after.2.pipes
 lowers (Join n) i j is allowed after =
-    potential-joined i j is n allowed.0 allowed.1 allowed.2 (subst (λ z. IsJoined i z j) (one_pipe n i after.0 allowed.0 after.1 allowed.1) after.2)
+    potential-joined i j is n allowed.0 allowed.1 allowed.2
+    (subst (λ z. IsJoined i z j) (one_pipe n i after.0 allowed.0 after.1 allowed.1) after.2)
 lowers (Propagate n end shape) i j is allowed after =
     potential-propagated i j is n allowed.0 allowed.1 end shape allowed.2
     (subst (λ z. IsPropagated i z end shape j) (one_pipe n i after.0 allowed.0 after.1 allowed.1) after.2)

@@ -38,7 +38,8 @@ driven_snoc j k i steps step run allowed driven after =
 -- a run of the solver is legal
 pub driven_legal : (j i : Synchronized) (steps : List Step) → IsDrivenRun j i steps → IsLegal j i steps
 driven_legal j i steps run =
-    run_weaken (λ before step. Allowed before step × IsDriven before step) Allowed (λ before step may. may.0) j i steps run
+    run_weaken (λ before step. Allowed before step × IsDriven before step) Allowed
+    (λ before step may. may.0) j i steps run
 
 -- a run of the solver and the potential of its last instance stay below that of its first with one more step
 pub short_snoc : (first i j : Synchronized) (steps : List Step) (step : Step) → IsSynchronized i → Allowed i step

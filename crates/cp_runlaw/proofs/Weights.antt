@@ -32,7 +32,8 @@ fewer_by w f t s less (x ∷ xs) p found passes fails =
     (λ e g.
     let same : x ≡ p = cc in
     let ft : filter t (x ∷ xs) ≡ filter t xs = cond-false (t x) (x ∷ filter t xs) (filter t xs) (ap t same ∙ fails) in
-    let fs : filter s (x ∷ xs) ≡ x ∷ filter s xs = cond-true (s x) (x ∷ filter s xs) (filter s xs) (ap s same ∙ passes) in
+    let fs : filter s (x ∷ xs) ≡ x ∷ filter s xs =
+    cond-true (s x) (x ∷ filter s xs) (filter s xs) (ap s same ∙ passes) in
     omega (arith, r, cs, ap w same, ap (sum_by w) ft, ap (sum_by w) fs))
     (λ e g.
     let q = fewer_by w f t s less xs p g passes fails in
