@@ -92,7 +92,8 @@ module _ (i j : Synchronized) (is : IsSynchronized i) (n : ℕ) (p : Pipe) (foun
       subst (λ m. not (has (m ∷ []) r.name) ≡ true) named
       (not_first (eqb r.name p.name) (has (q.name ∷ []) r.name) e) in
       let le = weights-without n i.pipes p found in
-      let le_two = fewer_by weight (λ (r : Pipe). eqb r.a v || eqb r.b v) both first less i.pipes q fits.matched apart gone in
+      let at_pole : Pipe → Bool = λ r. eqb r.a v || eqb r.b v in
+      let le_two = fewer_by weight at_pole both first less i.pipes q fits.matched apart gone in
       let size : degree new ≡ degree p =
       length_permutation (map (λ x. (partner p u x, partner q v (w.along x))) (edges_of i u)) new.pairs
       (by_name_keeps (λ x. x.0) (map (λ x. (partner p u x, partner q v (w.along x))) (edges_of i u)))

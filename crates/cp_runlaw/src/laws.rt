@@ -16,5 +16,6 @@ pub fn steps_lower_the_potential()
 /// instance, are together at most the potential of its first instance. So a run has at most as many steps as the sum
 /// of 3 to the number of pairs over the pipes of its first instance.
 pub fn runs_are_short()
-    ensures { (j i : Synchronized) (steps : List AnyStep) → IsSynchronizedRun j i steps → length steps + potential j ≤ potential i }
+    ensures { (j i : Synchronized) (steps : List AnyStep) → IsSynchronizedRun j i steps
+        → length steps + potential j ≤ potential i }
 {}
