@@ -6,3 +6,4 @@ pub mod FoundPipes
 pub mod Potentials
 pub mod RunLemmas
 pub mod Poles
+mod WorkedPotentials
