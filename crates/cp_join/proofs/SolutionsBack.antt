@@ -51,6 +51,7 @@ names_of_rows : (f : ℕ → List ℕ) (vs : List ℕ) → map (λ (x : ℕ × L
 names_of_rows f [] = refl
 names_of_rows f (v ∷ vs) = ap (λ ws. v ∷ ws) (names_of_rows f vs)
 
+-- the row of a listed vertex holds its own list
 list_of_row : (f : ℕ → List ℕ) (vs : List ℕ) (v : ℕ) → Has v vs → list_in (map (λ w. (w, f w)) vs) v ≡ f v
 list_of_row f [] v m = absurd m
 list_of_row f (w ∷ vs) v m = ⊎_elim
