@@ -78,6 +78,7 @@ single-kept p (e ∷ []) one t =
     filter_yes p e [] (⊎_elim (λ (same : e ≡ w.0). ap p same ∙ w.2) (λ k. absurd k) w.1)
 single-kept p (e ∷ f ∷ es) one t = absurd (omega (arith, one))
 
+-- where no item is wanted, the list of the wanted items is empty
 single-none : (p : ℕ → Bool) (es : List ℕ) → list_any p es ≡ false → filter p es ≡ []
 single-none p es f = no_items (filter p es) (λ e h.
     let w = filter-Has p e es h in absurd (false≢true (sym f ∙ any_of p es e w.0 w.1)))

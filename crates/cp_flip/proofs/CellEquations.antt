@@ -337,6 +337,7 @@ module _ (i : Synchronized) (cells : List ℕ) where
   module _ (is : IsSynchronized i) (numbers : List ℕ)
       (are : AreNumbered (AreInOneBlock (numbered (graph i)).ends) (length (graph i).edges) numbers)
       (s : ℕ → List ℕ) (solves : Solves i s) where
+    -- bits of a block for the directions of the solution; they meet its equations
     solved-HasDirections : (verts es : List ℕ) (d : Option Directions) → IsEmbeddedBlock i verts es d
         → (b : List Bool) × HasDirections i (backs i is numbers are s solves) verts b d
     solved-HasDirections verts es None x = ([], refl)
@@ -437,7 +438,7 @@ system-more {T = T} i cells ts j t lt is vars more_vars eqs more_eqs vars_are eq
           (All-push (λ (u : BlockTree T). HasOwnVars u.directed) (take j ts) t own own_more),
     )
 
--- the ties of one vertex more: that of a Q-vertex, and none of a P-vertex
+-- the ties of one vertex more, which is a Q-vertex: its own tie behind the others
 pub ties-more_q : (i : Synchronized) (cells vs : List ℕ) (first k y : ℕ) (old all new : List Equation) → k < length vs
     → is_q i (slice_index vs k) ≡ true → y ≡ rank cells (cell_at i (slice_index vs k))
     → all ≡ old ++ ties i cells first (take k vs)
@@ -455,6 +456,7 @@ ties-more_q i cells vs first k y old all new lt q y_is all_is new_is =
     (tie (first + length (take k vs)) (rank cells (cell_at i v))) [] q))
     ∙ sym (ap (ties i cells first) (take_more vs k 0 lt) ∙ ties-push i cells first (take k vs) v))
 
+-- a P-vertex more adds no tie
 pub ties-more_p : (i : Synchronized) (cells vs : List ℕ) (first k : ℕ) (old all : List Equation) → k < length vs
     → is_q i (slice_index vs k) ≡ false
     → all ≡ old ++ ties i cells first (take k vs)

@@ -27,14 +27,15 @@ use Rattle.cp_flip.proofs.RotationsOfBlocks.{none, row_kind}
 module _ {T : Type 0} (i : Synchronized) (is : IsSynchronized i) (cells : List ℕ) (bits : List Bool)
     (blocks : List (BlockTree T)) (found : AreAllBlocks i blocks) (rows : List (List ℕ))
     (glued : AreGlued i found.numbers (back_by i cells bits) blocks rows) (free : IsFree i) where
-  -- the list of a vertex
+  -- the list of a vertex, from its row
   abbrev own : ℕ → List ℕ
   own v = final_list i cells bits v (slice_index_or rows (rank (vert_names i) v) [])
 
+  -- what stands under a name in the final lists
   abbrev s : ℕ → List ℕ
   s = list_in (final_lists i cells bits rows)
 
-  -- is the one under its name
+  -- the list under the name of a vertex is this one
   s-own : (v : ℕ) → Contains (vert_names i) v → s v ≡ own v
   s-own v live = list_in-each own (vert_names i) v ((Has-Contains v (vert_names i)).1 live)
 

@@ -39,10 +39,11 @@ use Rattle.cp_flip.proofs.SolvedBlocks.{filter-directed}
 
 module _ (i : Synchronized) (is : IsSynchronized i) (numbers : List ℕ)
     (are : AreNumbered (AreInOneBlock (numbered (graph i)).ends) (length (graph i).edges) numbers) where
-  -- the graph, and its edges
+  -- the graph of the instance
   abbrev g : NamedGraph
   g = graph i
 
+  -- its edges
   abbrev edges : List ℕ
   edges = edge_names i
 
@@ -54,10 +55,11 @@ module _ (i : Synchronized) (is : IsSynchronized i) (numbers : List ℕ)
   abbrev inside : ℕ → ℕ → Bool
   inside c f = eqb (number f) c
 
-  -- the first edges of the blocks, and their numbers
+  -- the first edges of the blocks
   abbrev pub firsts : List ℕ
   firsts = filter (is_first edges numbers) edges
 
+  -- the numbers of these blocks
   abbrev classes : List ℕ
   classes = map number firsts
 
@@ -247,13 +249,14 @@ module _ (i : Synchronized) (is : IsSynchronized i) (numbers : List ℕ)
           (Has-Contains e (edges_at g v)).1 (part-item (row_with edges numbers (slice_index firsts w.0)) x.0 x.1 v e live
           (subst (Has e) (x.2 v) w.2)).0)
 
-      -- the lists arrange the edges
+      -- the list of a vertex arranges its edges
       s_arranges : (v : ℕ) → Contains g.verts v → ArrangesEdges g v (s v)
       s_arranges v live = ⊎_elim
           (λ q. subst (IsPermutation (edges_at g v)) (sym (q_list v live q)) (psi_arranged v live q (back v)))
           (λ p. subst (IsPermutation (edges_at g v)) (sym (p_list v live p)) (flat_arranged v live))
           (cases_Bool (is_q i v))
 
+      -- so this holds at all vertices
       s_arranged : All (λ v. ArrangesEdges g v (s v)) g.verts
       s_arranged k d lt = s_arranges (slice_index_or g.verts k d) (Contains-get_or g.verts k d lt)
 

@@ -47,10 +47,11 @@ module _ (i : Synchronized) (p : Pipe) (s t : Parting) (hats : List ℕ) (h : Ha
   abbrev after : Synchronized
   after = joined i p s t hats h
 
-  -- the graph of the inner vertices, and its vertices
+  -- the graph of the inner vertices
   abbrev inner : NamedGraph
   inner = inner_graph i p s t hats h
 
+  -- its vertices: the inner vertices of the first end, and behind them those of the second
   abbrev verts : List ℕ
   verts = s.inner ++ t.inner
 
@@ -89,6 +90,7 @@ module _ (i : Synchronized) (p : Pipe) (s t : Parting) (hats : List ℕ) (h : Ha
       (IsStrictlyIncreasing-filter (has verts) (new_verts s t)
       (fresh_rise (vert_names i) (new_verts s t) h.parted.new_verts))
 
+  -- and none of them stands twice
   verts-once : Distinct verts
   verts-once = Distinct-rising verts verts-rise
 
@@ -143,11 +145,12 @@ module _ (i : Synchronized) (p : Pipe) (s t : Parting) (hats : List ℕ) (h : Ha
             (λ k. inner_a_new i p s t hats h v k) (λ k. inner_b_new i p s t hats h v k)
             (Has-append_cases v s.inner t.inner m))
 
-    -- so they make a rotation system of genus zero
+    -- so they make a rotation system
     pub inner-IsRotation : IsRotation (system (inner_graph i p s t hats h) r)
     inner-IsRotation = IsRotation-system inner verts-rise (fresh_rise (edge_names i) hats h.hats_new)
         inner-IsLoopless.live inner-IsLoopless.differ r inner_arranged
 
+    -- its genus is zero
     pub inner-HasGenusZero : HasGenusZero (system (inner_graph i p s t hats h) r)
     inner-HasGenusZero = (arranged-CanBeFlat inner inner-IsLoopless r inner_arranged).1
         (halves-CanBeFlat i p s t hats h r solves).1
@@ -156,7 +159,7 @@ module _ (i : Synchronized) (p : Pipe) (s t : Parting) (hats : List ℕ) (h : Ha
     pub inner_listed : (v e : ℕ) → Has v verts → Has e (r v) → Contains hats e
     inner_listed v e m k = inner-AreListed i p s t hats h r solves.rotation.arranged v m e k
 
-    -- its dart at a vertex of the first end is its first, and at one of the second end its second
+    -- its dart at an inner vertex of the first end is its first
     first_dart : (v e : ℕ) → Has v s.inner → Has e (r v) → dart inner v e ≡ 2 * rank hats e + 0
     first_dart v e m k = by_place (λ w. Has e (r w) → dart inner w e ≡ 2 * rank hats e + 0) s.inner s.parts
         h.parted.first_end.inner_each (λ j lt l.
@@ -171,6 +174,7 @@ module _ (i : Synchronized) (p : Pipe) (s t : Parting) (hats : List ℕ) (h : Ha
         let place = hat-place i p s t hats h x.0 live in
         subst (λ y. dart inner (slice_index s.inner j) y ≡ 2 * rank hats y + 0) x.2 (omega (arith, here, place))) v m k
 
+    -- and at an inner vertex of the second end its second
     second_dart : (v e : ℕ) → Has v t.inner → Has e (r v) → dart inner v e ≡ 2 * rank hats e + 1
     second_dart v e m k = by_place (λ w. dart inner w e ≡ 2 * rank hats e + 1) t.inner t.parts
         h.parted.second_end.inner_each (λ j lt.
@@ -196,7 +200,7 @@ module _ (i : Synchronized) (p : Pipe) (s t : Parting) (hats : List ℕ) (h : Ha
             (map_agree_on (λ e. 2 * rank hats e + end) (dart inner v) (r v) (λ e k. sym (each v e (inl refl) k)))
             (same_rows vs end (λ w e m k. each w e (inr m) k))
 
-    -- the place of the inner vertex for an edge of the first end, and of that for its partner
+    -- the place of the inner vertex for an edge of the first end is the number of the part of this edge
     pub first_place : (x : ℕ) → Has x (edges_a i p s t hats h)
         → rank verts (inner_a i p s t hats h x) ≡ part_of s.parts x
     first_place x k =
@@ -207,6 +211,7 @@ module _ (i : Synchronized) (p : Pipe) (s t : Parting) (hats : List ℕ) (h : Ha
         (omega (arith, low, length-append s.inner t.inner)) (get_or_append_left s.inner t.inner 0 (part_of s.parts x)
         low)
 
+    -- that of the inner vertex for its partner is the number of the partner's part, behind those of the first end
     pub second_place : (x : ℕ) → Has x (edges_a i p s t hats h)
         → rank verts (inner_b i p s t hats h x) ≡ length s.parts + part_of t.parts (partner p p.a x)
     second_place x k =

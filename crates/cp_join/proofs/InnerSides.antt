@@ -81,29 +81,33 @@ values_above a (suc b) p low high =
 
 module _ (i : Synchronized) (p : Pipe) (s t : Parting) (hats : List ℕ) (h : HasPartings i p s t hats)
     (r : ℕ → List ℕ) (solves : Solves (joined i p s t hats h) r) where
-  -- the graph of the inner vertices, and its system
+  -- the graph of the inner vertices
   abbrev inner : NamedGraph
   inner = inner_graph i p s t hats h
 
+  -- its system with the lists of the solution
   abbrev made : System
   made = system inner r
 
-  -- how many vertices both ends have
+  -- how many inner vertices the first end has
   abbrev a : ℕ
   a = length s.inner
 
+  -- how many the second end has
   abbrev b : ℕ
   b = length t.inner
 
-  -- the marks of the first end
+  -- the marks: true for each vertex of the first end, false for each of the second
   abbrev marks : List Bool
   marks = first_marks s t
 
+  -- vertices below a, those of the first end, are marked
   marks_low : (v : ℕ) → v < a → in_side marks v ≡ true
   marks_low v lt =
       get_or_append_left (replicate a true) (replicate b false) false v (omega (arith, lt, length-replicate a true))
       ∙ get_or-replicate a v true false lt
 
+  -- the b vertices behind them are not
   marks_high : (v : ℕ) → a ≤ v → v < a + b → in_side marks v ≡ false
   marks_high v le lt =
       get_or-append_right (replicate a true) (replicate b false) a v false (length-replicate a true) le
@@ -113,7 +117,7 @@ module _ (i : Synchronized) (p : Pipe) (s t : Parting) (hats : List ℕ) (h : Ha
   made_darts : darts made ≡ 2 * length hats
   made_darts = length-two_each (numbered_ends inner) hats
 
-  -- the first dart of a new edge stands at the first end, and the second at the second
+  -- the first dart of a new edge stands at a vertex of the first end
   first_low : (k : ℕ) → k < length hats → vertex_of made (2 * k) < a
   first_low k lt =
       let e : ℕ = slice_index hats k in
@@ -127,6 +131,7 @@ module _ (i : Synchronized) (p : Pipe) (s t : Parting) (hats : List ℕ) (h : Ha
       ∙ first_place i p s t hats h r solves x.0 x.1 in
       omega (arith, place, part.0, h.parted.first_end.inner_each)
 
+  -- and the second at a vertex of the second end
   second_high : (k : ℕ) → k < length hats → (a ≤ vertex_of made (2 * k + 1)) × (vertex_of made (2 * k + 1) < a + b)
   second_high k lt =
       let e : ℕ = slice_index hats k in
@@ -204,7 +209,7 @@ module _ (i : Synchronized) (p : Pipe) (s t : Parting) (hats : List ℕ) (h : Ha
         omega (arith, size, empty, more);
   }
 
-  -- the lists of the first end, and those of the second
+  -- the lists of the marked vertices are those of the first end
   first_rows : rows_where made (in_side marks) ≡ side i p s t hats h r solves
   first_rows =
       ap (λ n. map (list_of made) (filter (in_side marks) (values n (λ v. v)))) (length-append s.inner t.inner)
@@ -219,6 +224,7 @@ module _ (i : Synchronized) (p : Pipe) (s t : Parting) (hats : List ℕ) (h : Ha
       ∙ ap (dart_list (dart inner) r) (get_or_append_left s.inner t.inner 0 k low)
       ∙ sym (get_or-map (dart_list (dart inner) r) s.inner k 0 z low))
 
+  -- the lists of the vertices without a mark are those of the second end
   second_rows : rows_where made (λ v. not (in_side marks v)) ≡ others_side i p s t hats h r solves
   second_rows =
       ap (λ n. map (list_of made) (filter (λ v. not (in_side marks v)) (values n (λ v. v))))
@@ -291,12 +297,13 @@ module _ (i : Synchronized) (p : Pipe) (s t : Parting) (hats : List ℕ) (h : Ha
         ∙ map_agree_on (λ k. get_or (edges_a i p s t hats h) (2 * k / 2) 0)
         (λ k. (slice_index_or p.pairs k (0, 0)).0) order (λ k m. first_at k (order-low k m))
 
-    -- the orders of both ends that it gives
+    -- the order of the first end that it gives has the edges of the darts of this list, in reverse
     pub first_back-order : first_back p.pairs order
         ≡ map (λ d. get_or (edges_a i p s t hats h) (d / 2) 0) (reverse (map (λ k. 2 * k) order))
     first_back-order =
         sym (map-reverse (λ d. get_or (edges_a i p s t hats h) (d / 2) 0) (map (λ k. 2 * k) order) ∙ ap reverse keys)
 
+    -- that of the second end has the partners of these edges, in reverse
     pub second_back-order : second_back p.pairs order ≡ reverse (map (partner p p.a) (first_back p.pairs order))
     second_back-order =
         sym (ap reverse (map-reverse (partner p p.a) (map (λ k. (slice_index_or p.pairs k (0, 0)).0) order))

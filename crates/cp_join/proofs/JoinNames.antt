@@ -97,11 +97,13 @@ pub touch_is : (i : Synchronized) (e : EdgeRow) (v : ℕ) → IsLiveRow i e → 
 touch_is i e v row = ap (λ (x : ℕ × ℕ). eqb x.0 v || eqb x.1 v) (sym row.told)
 
 -- an edge whose row ends at a vertex is one of it
-pub row_at : (i : Synchronized) (e : EdgeRow) (v : ℕ) → IsLiveRow i e → touch v e ≡ true → Contains (edges_of i v) e.name
+pub row_at : (i : Synchronized) (e : EdgeRow) (v : ℕ) → IsLiveRow i e → touch v e ≡ true
+    → Contains (edges_of i v) e.name
 row_at i e v row t = Contains-edges_at (graph i) v e.name row.named (sym (touch_is i e v row) ∙ t)
 
 -- and the row of an edge of a vertex ends there
-pub row_from : (i : Synchronized) (e : EdgeRow) (v : ℕ) → IsLiveRow i e → Contains (edges_of i v) e.name → touch v e ≡ true
+pub row_from : (i : Synchronized) (e : EdgeRow) (v : ℕ) → IsLiveRow i e → Contains (edges_of i v) e.name
+    → touch v e ≡ true
 row_from i e v row c = touch_is i e v row ∙ (edges_at-Contains (graph i) v e.name c).1
 
 -- the parts of a vertex have exactly the edges whose rows end there

@@ -66,7 +66,8 @@ pairs_agree f g (e ∷ es) all =
 
 module _ (i : Synchronized) (p : Pipe) (s t : Parting) (hats : List ℕ) (h : HasPartings i p s t hats) where
   -- the new edges, by the pairs
-  hat_rows : map (hat_row s.parts s.inner t.parts t.inner) (zip hats p.pairs) ≡ map (row i p s t hats h) (edges_a i p s t hats h)
+  hat_rows : map (hat_row s.parts s.inner t.parts t.inner) (zip hats p.pairs)
+      ≡ map (row i p s t hats h) (edges_a i p s t hats h)
   hat_rows =
       ap (λ hs. map (hat_row s.parts s.inner t.parts t.inner) (zip hs p.pairs)) (sym told)
       ∙ by_pairs p.pairs second_told
@@ -145,7 +146,8 @@ module _ (i : Synchronized) (p : Pipe) (s t : Parting) (hats : List ℕ) (h : Ha
       keeps : Vert → Bool
       keeps v = not (has (p.a ∷ p.b ∷ []) v.name)
 
-      kept_new : (ns : List ℕ) → ((n : ℕ) → Has n ns → Has n (new_verts s t)) → filter keeps (map free_vert ns) ≡ map free_vert ns
+      kept_new : (ns : List ℕ) → ((n : ℕ) → Has n ns → Has n (new_verts s t))
+          → filter keeps (map free_vert ns) ≡ map free_vert ns
       kept_new [] new = refl
       kept_new (n ∷ ns) new =
           cond-true (keeps (free_vert n)) (free_vert n ∷ filter keeps (map free_vert ns)) (filter keeps (map free_vert ns))
@@ -241,7 +243,8 @@ module _ (i : Synchronized) (p : Pipe) (s t : Parting) (hats : List ℕ) (h : Ha
         two_each [] = refl
         two_each (q ∷ qs) = omega (arith, two_each qs)
 
-        live : (qs : List Pipe) → All (HasRightEnds i.verts) qs → (d : ℕ) → Has d (ends_of_all qs) → Contains (vert_names i) d
+        live : (qs : List Pipe) → All (HasRightEnds i.verts) qs → (d : ℕ) → Has d (ends_of_all qs)
+            → Contains (vert_names i) d
         live [] all d m = elim m [ ]
         live (q ∷ qs) all d m =
             let free = All-head (HasRightEnds i.verts) q qs all in

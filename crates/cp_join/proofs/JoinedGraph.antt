@@ -145,7 +145,8 @@ module _ (i : Synchronized) (p : Pipe) (s t : Parting) (hats : List ℕ) (h : Ha
       ∙ second_first p.pairs once_firsts once_seconds y (is_second y k)
 
   -- the names of the edges
-  names_kept_rows : (es : List EdgeRow) → map (λ e. e.name) (map (moved_row (to i p s t hats h)) es) ≡ map (λ e. e.name) es
+  names_kept_rows : (es : List EdgeRow)
+      → map (λ e. e.name) (map (moved_row (to i p s t hats h)) es) ≡ map (λ e. e.name) es
   names_kept_rows [] = refl
   names_kept_rows (e ∷ es) = ap (λ zs. e.name ∷ zs) (names_kept_rows es)
 
@@ -221,14 +222,16 @@ module _ (i : Synchronized) (p : Pipe) (s t : Parting) (hats : List ℕ) (h : Ha
       (IsPermutation-sym (filter (touch v) new_rows) (edges_by_name (filter (touch v) new_rows))
       (by_name_keeps (λ e. e.name) (filter (touch v) new_rows)))))
     where
-      filter_rows : (xs : List ℕ) → All (λ x. touch v (row x) ≡ q x) xs → filter (touch v) (map row xs) ≡ map row (filter q xs)
+      filter_rows : (xs : List ℕ) → All (λ x. touch v (row x) ≡ q x) xs
+          → filter (touch v) (map row xs) ≡ map row (filter q xs)
       filter_rows [] all = refl
       filter_rows (x ∷ xs) all =
           ap (λ b. cond b (row x ∷ filter (touch v) (map row xs)) (filter (touch v) (map row xs))) (All-head (λ z. touch v (row z) ≡ q z) x xs all)
           ∙ by_test (q x) (filter_rows xs (All-tail (λ z. touch v (row z) ≡ q z) x xs all))
         where
           by_test : (b : Bool) → filter (touch v) (map row xs) ≡ map row (filter q xs)
-              → cond b (row x ∷ filter (touch v) (map row xs)) (filter (touch v) (map row xs)) ≡ map row (cond b (x ∷ filter q xs) (filter q xs))
+              → cond b (row x ∷ filter (touch v) (map row xs)) (filter (touch v) (map row xs))
+              ≡ map row (cond b (x ∷ filter q xs) (filter q xs))
           by_test true e = ap (λ zs. row x ∷ zs) e
           by_test false e = e
 

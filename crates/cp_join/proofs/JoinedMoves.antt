@@ -113,7 +113,8 @@ module _ (i : Synchronized) (p : Pipe) (s t : Parting) (hats : List ℕ) (h : Ha
       (outer_a_new i p s t hats h (outer_a e.name) (outer_a_has e.name (row_at i e p.a row k)))
 
   -- the ends at b stay there
-  stays_b : (e : EdgeRow) (x : ℕ) → (x ≡ p.a → p.b ≢ outer_a e.name) → eqb (end_to p.a (outer_a e.name) x) p.b ≡ eqb x p.b
+  stays_b : (e : EdgeRow) (x : ℕ) → (x ≡ p.a → p.b ≢ outer_a e.name)
+      → eqb (end_to p.a (outer_a e.name) x) p.b ≡ eqb x p.b
   stays_b e x off =
       ⊎_elim
       (λ (at : x ≡ p.a).

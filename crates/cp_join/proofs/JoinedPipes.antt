@@ -121,7 +121,8 @@ module _ (i : Synchronized) (pipe : ℕ) (p : Pipe) (is : IsSynchronized i) (liv
         (Performs-joining i p s t hats has_partings few_verts few_edges)
 
   -- the same by what the board tells
-  module _ (ends : ℕ × ℕ) (pairs : List (ℕ × ℕ)) (same_ends : ends ≡ pipe_ends_of i pipe) (same_pairs : pairs ≡ pairs_of i pipe)
+  module _ (ends : ℕ × ℕ) (pairs : List (ℕ × ℕ)) (same_ends : ends ≡ pipe_ends_of i pipe)
+      (same_pairs : pairs ≡ pairs_of i pipe)
       (pa pb : List (List ℕ)) (s t : Parting) (hats : List ℕ) (are_a : ArePartsAt (graph i) ends.0 pa)
       (are_b : ArePartsAt (graph i) ends.1 pb) (parted : AreParted i pa pb s t)
       (asked : hats ≡ new_names (edge_names i) (length pairs)) where

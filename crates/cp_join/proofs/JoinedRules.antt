@@ -188,7 +188,8 @@ module _ (i : Synchronized) (p : Pipe) (s t : Parting) (hats : List ℕ) (h : Ha
       (All-map (λ (v : Vert). All (λ c. c < 2 ^ 63) (cell_of v.kind)) free_vert fresh (λ k d lt. All-nil (λ c. c < 2 ^ 63)))))
 
   -- the ends of edges
-  end_live : (e : EdgeRow) (x : ℕ) → IsLiveRow i e → touch x e ≡ true → Contains (vert_names after) (to i p s t hats h e.name x)
+  end_live : (e : EdgeRow) (x : ℕ) → IsLiveRow i e → touch x e ≡ true
+      → Contains (vert_names after) (to i p s t hats h e.name x)
   end_live e x live at =
       by_end i p s t hats h (Contains (vert_names after)) e x live at
       (λ a out. new_has (outer_a i p s t hats h e.name) (outer_a_new i p s t hats h (outer_a i p s t hats h e.name) out))
@@ -314,7 +315,8 @@ module _ (i : Synchronized) (p : Pipe) (s t : Parting) (hats : List ℕ) (h : Ha
   inner_b_at k lt = Has_at t.inner k (omega (arith, lt, h.parted.second_end.inner_each))
 
   -- what holds of the pipes that stay and of those of the parts holds of all
-  pub All-pipes : (holds : Pipe → Type 0) → All holds stay → All holds pipes_a → All holds pipes_b → All holds after.pipes
+  pub All-pipes : (holds : Pipe → Type 0) → All holds stay → All holds pipes_a → All holds pipes_b
+      → All holds after.pipes
   All-pipes holds old first second =
       All-permutation holds pipes after.pipes (by_name_keeps (λ q. q.name) pipes)
       (All-append holds (stay ++ pipes_a) pipes_b (All-append holds stay pipes_a old first) second)

@@ -352,14 +352,16 @@ module _ (i : Synchronized) (p : Pipe) (s t : Parting) (hats : List ℕ) (h : Ha
       in_inner = Has_at s.inner k (omega (arith, lt, h.parted.first_end.inner_each))
 
   -- partners of distinct edges are distinct
-  partners_once : (xs : List ℕ) → Distinct xs → ((x : ℕ) → Has x xs → Has x (edges_of i p.b)) → Distinct (map (partner p p.b) xs)
+  partners_once : (xs : List ℕ) → Distinct xs → ((x : ℕ) → Has x xs → Has x (edges_of i p.b))
+      → Distinct (map (partner p p.b) xs)
   partners_once [] once among = tt
   partners_once (x ∷ xs) once among = (
     lacks xs once.0 (λ y m. among y (inr m)),
     partners_once xs once.1 (λ y m. among y (inr m)),
   )
     where
-      lacks : (ys : List ℕ) → Lacks x ys → ((y : ℕ) → Has y ys → Has y (edges_of i p.b)) → Lacks (partner p p.b x) (map (partner p p.b) ys)
+      lacks : (ys : List ℕ) → Lacks x ys → ((y : ℕ) → Has y ys → Has y (edges_of i p.b))
+          → Lacks (partner p p.b x) (map (partner p p.b) ys)
       lacks [] off in_b = tt
       lacks (y ∷ ys) off in_b = (
         λ e. off.0
@@ -451,6 +453,7 @@ module _ (i : Synchronized) (p : Pipe) (s t : Parting) (hats : List ℕ) (h : Ha
       in_inner : Has v t.inner
       in_inner = Has_at t.inner k (omega (arith, lt, h.parted.second_end.inner_each))
 
-      twice : (ys : List ℕ) → map (hat i p s t hats h) (map (partner p p.b) ys) ≡ map (λ y. hat i p s t hats h (partner p p.b y)) ys
+      twice : (ys : List ℕ)
+          → map (hat i p s t hats h) (map (partner p p.b) ys) ≡ map (λ y. hat i p s t hats h (partner p p.b y)) ys
       twice [] = refl
       twice (y ∷ ys) = ap (λ zs. hat i p s t hats h (partner p p.b y) ∷ zs) (twice ys)

@@ -101,6 +101,7 @@ none_found n (v ∷ vs) f =
     ∙ none_found n vs parts.1
 
 -- what is found first
-pub found_or : (o o' : Option Vert) → option_map (λ x. x.kind) o ≡ Some P → option_map (λ x. x.kind) (option_or o o') ≡ Some P
+pub found_or : (o o' : Option Vert) → option_map (λ x. x.kind) o ≡ Some P
+    → option_map (λ x. x.kind) (option_or o o') ≡ Some P
 found_or None o' e = absurd (none_some P e)
 found_or (Some x) o' e = e

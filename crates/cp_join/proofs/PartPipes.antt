@@ -54,7 +54,8 @@ firsts_of_pipe hat [] = refl
 firsts_of_pipe hat (e ∷ es) = ap (λ zs. e ∷ zs) (firsts_of_pipe hat es)
 
 -- and the seconds
-pub seconds_of_pipe : (hat : ℕ → ℕ) (part : List ℕ) → map (λ (x : ℕ × ℕ). x.1) (map (λ e. (e, hat e)) part) ≡ map hat part
+pub seconds_of_pipe : (hat : ℕ → ℕ) (part : List ℕ)
+    → map (λ (x : ℕ × ℕ). x.1) (map (λ e. (e, hat e)) part) ≡ map hat part
 seconds_of_pipe hat [] = refl
 seconds_of_pipe hat (e ∷ es) = ap (λ zs. hat e ∷ zs) (seconds_of_pipe hat es)
 

@@ -48,7 +48,8 @@ Has-some_part d (part ∷ parts) h =
 
 -- distinct lists of which no two have an item in common are distinct together
 pub Distinct-flat_map : (parts : List (List ℕ)) → ((i : ℕ) → i < length parts → Distinct (slice_index_or parts i []))
-    → ((i j d : ℕ) → i < j → j < length parts → Has d (slice_index_or parts i []) → Has d (slice_index_or parts j []) → ⊥)
+    → ((i j d : ℕ) → i < j → j < length parts → Has d (slice_index_or parts i [])
+    → Has d (slice_index_or parts j []) → ⊥)
     → Distinct (flat_map (λ part. part) parts)
 Distinct-flat_map [] each apart = tt
 Distinct-flat_map (part ∷ parts) each apart =

@@ -63,7 +63,8 @@ names_kept name t q (x ∷ xs) all =
     ∙ by_test (q (name x)) (names_kept name t q xs (All-tail (λ z. t z ≡ q (name z)) x xs all))
   where
     by_test : (b : Bool) → map name (filter t xs) ≡ filter q (map name xs)
-        → map name (cond b (x ∷ filter t xs) (filter t xs)) ≡ cond b (name x ∷ filter q (map name xs)) (filter q (map name xs))
+        → map name (cond b (x ∷ filter t xs) (filter t xs))
+        ≡ cond b (name x ∷ filter q (map name xs)) (filter q (map name xs))
     by_test true e = ap (λ ns. name x ∷ ns) e
     by_test false e = e
 

@@ -51,6 +51,7 @@ names_of_rows : (f : ℕ → List ℕ) (vs : List ℕ) → map (λ (x : ℕ × L
 names_of_rows f [] = refl
 names_of_rows f (v ∷ vs) = ap (λ ws. v ∷ ws) (names_of_rows f vs)
 
+-- the row of a listed vertex holds its own list
 list_of_row : (f : ℕ → List ℕ) (vs : List ℕ) (v : ℕ) → Has v vs → list_in (map (λ w. (w, f w)) vs) v ≡ f v
 list_of_row f [] v m = absurd m
 list_of_row f (w ∷ vs) v m = ⊎_elim
@@ -133,15 +134,17 @@ module _ (i : Synchronized) (p : Pipe) (s t : Parting) (hats : List ℕ) (h : Ha
     abbrev rows : List (ℕ × List ℕ)
     rows = map (λ v. (v, lists v)) (vert_names i)
 
+    -- the row of a vertex of the instance has its list before Join
     at : (v : ℕ) → Contains (vert_names i) v → list_in rows v ≡ lists v
     at v c = list_of_row lists (vert_names i) v ((Has-Contains v (vert_names i)).1 c)
 
-    -- the orders of both ends
+    -- the row of the first end has the order that is given back for it
     at_first : list_in rows p.a ≡ first_back p.pairs order
     at_first = at p.a h.live_a
         ∙ cond-true (eqb p.a p.a) (first_back p.pairs order) (cond (eqb p.a p.b) (second_back p.pairs order) (r p.a))
         (eq-eqb p.a p.a refl)
 
+    -- and so has that of the second end
     at_second : list_in rows p.b ≡ second_back p.pairs order
     at_second = at p.b h.live_b
         ∙ cond-false (eqb p.b p.a) (first_back p.pairs order) (cond (eqb p.b p.b) (second_back p.pairs order) (r p.b))
@@ -181,6 +184,7 @@ module _ (i : Synchronized) (pipe : ℕ) (is : IsSynchronized i) (allowed : Allo
   abbrev p : Pipe
   p = step.0
 
+  -- the instance has it under the given name
   abbrev live : pipe_named i pipe ≡ Some step.0
   live = step.1
 

@@ -58,35 +58,43 @@ made i p x y z = record {
 -- partings of the same ends, with new names, are the same
 module _ (i : Synchronized) (p : Pipe) (s t s' t' : Parting) (hats hats' : List ℕ) (h : HasPartings i p s t hats)
     (h' : HasPartings i p s' t' hats') where
+  -- the parts of the first end are the same
   same_parts_a : s.parts ≡ s'.parts
   same_parts_a = parts_unique (graph i) p.a h.rules.edges_named.rise s.parts s'.parts h.parts_a h'.parts_a
 
+  -- the parts of the second end are the same
   same_parts_b : t.parts ≡ t'.parts
   same_parts_b = parts_unique (graph i) p.b h.rules.edges_named.rise t.parts t'.parts h.parts_b h'.parts_b
 
-  -- so are the lengths of their lists
+  -- so the first end has as many outer vertices in both
   outer_size_a : length s.outer ≡ length s'.outer
   outer_size_a = h.parted.first_end.outer_each ∙ ap length same_parts_a ∙ sym h'.parted.first_end.outer_each
 
+  -- it has as many inner vertices
   inner_size_a : length s.inner ≡ length s'.inner
   inner_size_a = h.parted.first_end.inner_each ∙ ap length same_parts_a ∙ sym h'.parted.first_end.inner_each
 
+  -- and as many names of pipes
   name_size_a : length s.names ≡ length s'.names
   name_size_a = h.parted.first_end.name_each ∙ ap length same_parts_a ∙ sym h'.parted.first_end.name_each
 
+  -- the second end has as many outer vertices in both
   outer_size_b : length t.outer ≡ length t'.outer
   outer_size_b = h.parted.second_end.outer_each ∙ ap length same_parts_b ∙ sym h'.parted.second_end.outer_each
 
+  -- it has as many inner vertices
   inner_size_b : length t.inner ≡ length t'.inner
   inner_size_b = h.parted.second_end.inner_each ∙ ap length same_parts_b ∙ sym h'.parted.second_end.inner_each
 
+  -- and as many names of pipes
   name_size_b : length t.names ≡ length t'.names
   name_size_b = h.parted.second_end.name_each ∙ ap length same_parts_b ∙ sym h'.parted.second_end.name_each
 
-  -- the lists of two, and of three kinds of new vertices
+  -- the outer and inner vertices of the first end are as many together
   two_size : length (s.outer ++ s.inner) ≡ length (s'.outer ++ s'.inner)
   two_size = omega (arith, length-append s.outer s.inner, length-append s'.outer s'.inner, outer_size_a, inner_size_a)
 
+  -- and with the outer vertices of the second end behind them
   three_size : length (s.outer ++ s.inner ++ t.outer) ≡ length (s'.outer ++ s'.inner ++ t'.outer)
   three_size = omega (
     arith,
@@ -96,7 +104,7 @@ module _ (i : Synchronized) (p : Pipe) (s t s' t' : Parting) (hats hats' : List 
     outer_size_b,
   )
 
-  -- the new vertices
+  -- the new vertices are the same
   same_verts : new_verts s t ≡ new_verts s' t'
   same_verts = new_same (vert_names i) (new_verts s t) (new_verts s' t') h.parted.new_verts h'.parted.new_verts
       (omega (
@@ -107,29 +115,34 @@ module _ (i : Synchronized) (p : Pipe) (s t s' t' : Parting) (hats hats' : List 
         inner_size_b,
       ))
 
+  -- the first three kinds of them are the same together, and so are the inner vertices of the second end
   same_three : (s.outer ++ s.inner ++ t.outer ≡ s'.outer ++ s'.inner ++ t'.outer) × (t.inner ≡ t'.inner)
   same_three = split_same (s.outer ++ s.inner ++ t.outer) (s'.outer ++ s'.inner ++ t'.outer) t.inner t'.inner three_size
       same_verts
 
+  -- so are the vertices of the first end together, and the outer vertices of the second end
   same_two : (s.outer ++ s.inner ≡ s'.outer ++ s'.inner) × (t.outer ≡ t'.outer)
   same_two = split_same (s.outer ++ s.inner) (s'.outer ++ s'.inner) t.outer t'.outer two_size same_three.0
 
+  -- and the outer vertices of the first end, and its inner vertices
   same_one : (s.outer ≡ s'.outer) × (s.inner ≡ s'.inner)
   same_one = split_same s.outer s'.outer s.inner s'.inner outer_size_a same_two.0
 
-  -- the new pipes
+  -- so are the names of the new pipes
   same_names : (s.names ≡ s'.names) × (t.names ≡ t'.names)
   same_names = split_same s.names s'.names t.names t'.names name_size_a
       (new_same (pipe_names i) (s.names ++ t.names) (s'.names ++ t'.names) h.parted.new_pipes h'.parted.new_pipes
       (omega (arith, length-append s.names t.names, length-append s'.names t'.names, name_size_a, name_size_b)))
 
-  -- and the new edges
+  -- and those of the new edges
   same_hats : hats ≡ hats'
   same_hats = new_same (edge_names i) hats hats' h.hats_new h'.hats_new (h.hats_each ∙ sym h'.hats_each)
 
+  -- so the partings of the first end are the same
   pub same_first : s ≡ s'
   same_first = parting_same s s' same_parts_a same_one.0 same_one.1 same_names.0
 
+  -- and those of the second end
   pub same_second : t ≡ t'
   same_second = parting_same t t' same_parts_b same_two.1 same_three.1 same_names.1
 

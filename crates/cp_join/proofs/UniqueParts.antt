@@ -27,9 +27,11 @@ module _ (g : NamedGraph) (u : ℕ) (rise : IsStrictlyIncreasing g.edges) where
     abbrev least : ℕ → ℕ
     least k = slice_index (slice_index_or parts k []) 0
 
+    -- is an edge of this part
     least_in : (k : ℕ) → k < length parts → Has (least k) (slice_index_or parts k [])
     least_in k lt = Has_at (slice_index_or parts k []) 0 (are.filled k [] lt)
 
+    -- no edge of the part is below it
     least-le : (k e : ℕ) → k < length parts → Has e (slice_index_or parts k []) → least k ≤ e
     least-le k e lt m =
         let w = Has-place e (slice_index_or parts k []) m in by_place w.0 w.1 w.2
@@ -41,12 +43,13 @@ module _ (g : NamedGraph) (u : ℕ) (rise : IsStrictlyIncreasing g.edges) where
             let less = rising_order (slice_index_or parts k []) (are.rise k [] lt) 0 (suc j) (omega arith) low in
             omega (arith, less, same)
 
-    -- is among the least edges, and each of these is one
+    -- it is among the least edges of the parts
     least_has : (k : ℕ) → k < length parts → Has (least k) (least_edges parts)
     least_has k lt =
         subst (λ z. Has z (least_edges parts)) (get_or-map (λ (part : List ℕ). slice_index part 0) parts k [] 0 lt)
         (Has_at (least_edges parts) k (omega (arith, lt, length-map parts (λ (part : List ℕ). slice_index part 0))))
 
+    -- and each of these is that of some part
     has_least : (z : ℕ) → Has z (least_edges parts) → (k : ℕ) × (k < length parts) × (least k ≡ z)
     has_least z m =
         let w = Has-place z (least_edges parts) m in

@@ -47,10 +47,11 @@ pub record HasInnerLists (pairs : List (ℕ × ℕ)) (hats : List ℕ) (s t : Pa
   pub flat : HasGenusZero (inner_system pairs hats s t (list_in after))
   pub sides : IsSideOf (inner_system pairs hats s t (list_in after)) (first_marks s t)
 
--- the order of the first end from an order of the new edges, by their places, and that of the second end
+-- the order of the first end from an order of the new edges, by their places
 abbrev pub first_back : List (ℕ × ℕ) → List ℕ → List ℕ
 first_back pairs order = reverse (map (λ k. (slice_index_or pairs k (0, 0)).0) order)
 
+-- the order of the second end from an order of the new edges, by their places
 abbrev pub second_back : List (ℕ × ℕ) → List ℕ → List ℕ
 second_back pairs order = map (λ k. (slice_index_or pairs k (0, 0)).1) order
 

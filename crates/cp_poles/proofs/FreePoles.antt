@@ -55,7 +55,7 @@ module _ (i : Synchronized) (pipe : ℕ) (p : Pipe) (is : IsSynchronized i) (liv
       (λ x. partner p (opposite p u) x)
   fits = end-FitsEnd i is p ends.differ (right_pairs i pipe p is live) u end
 
-  -- the one end, seen from either
+  -- the chosen end is a P-vertex
   pub free_end : IsPVertex i u
   free_end = ⊎_elim (λ e. subst (IsPVertex i) e ends.free_a) (λ e. subst (IsPVertex i) e ends.free_b) end
 

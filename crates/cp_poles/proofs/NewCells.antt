@@ -48,7 +48,7 @@ one_new_name-le live =
     (one_new_name live) below) in
     omega (arith, least)
 
--- numbers that rise and are below n are at most n
+-- a rising list of numbers below n has at most n items
 pub rising_below : (n : ℕ) (xs : List ℕ) → rises xs ≡ true → All (λ x. x < n) xs → length xs ≤ n
 rising_below n xs up all =
     omega (

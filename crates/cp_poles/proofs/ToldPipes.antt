@@ -17,6 +17,7 @@ use Rattle.cp_poles.proofs.SmallRewrites.{live_pipe}
 
 -- what a board tells of a pipe: the partners of edges of its end, and its other end
 module _ (i : Synchronized) (pipe : ℕ) (p : Pipe) (live : pipe_named i pipe ≡ Some p) where
+  -- the partners that are told of edges at a vertex are those that the pipe gives
   pub partners-told : (at : ℕ) (xs : List ℕ) → map (partner_told i pipe at) xs ≡ map (λ x. partner p at x) xs
   partners-told at xs =
       ap (λ o. map
@@ -24,6 +25,7 @@ module _ (i : Synchronized) (pipe : ℕ) (p : Pipe) (live : pipe_named i pipe �
       (eqb (option_map_or {U = ℕ × ℕ} (λ (z : Pipe). (z.a, z.b)) o (0, 0)).0 at) x) xs)
       live
 
+  -- the other end that is told is that which the pipe gives
   pub other-told : (u : ℕ) → other_of (pipe_ends_of i pipe) u ≡ opposite p u
   other-told u = ap (λ o. other_of (option_map_or {U = ℕ × ℕ} (λ (z : Pipe). (z.a, z.b)) o (0, 0)) u) live
 
@@ -34,10 +36,11 @@ zip-told f (y ∷ ys) = ap (λ (zs : List (ℕ × ℕ)). (y, f y) ∷ zs) (zip-t
 
 -- where FusePoles is allowed
 module _ (i : Synchronized) (pipe u v : ℕ) (is : IsSynchronized i) (allowed : Allowed i (FusePoles pipe u v)) where
-  -- the two pipes
+  -- the pipe
   abbrev p : Pipe
   p = allowed.0
 
+  -- the pipe of the pole
   abbrev q : Pipe
   q = allowed.2.0
 
@@ -45,10 +48,11 @@ module _ (i : Synchronized) (pipe u v : ℕ) (is : IsSynchronized i) (allowed : 
   pub fused-pipe_live : Contains (pipe_names i) pipe
   fused-pipe_live = live_pipe i pipe p allowed.1
 
-  -- the end and the pole are vertices
+  -- the end is a vertex
   pub fused-end_live : Contains (vert_names i) u
   fused-end_live = live_end i pipe p is allowed.1 u allowed.2.1.end
 
+  -- and so is the pole
   pub fused-pole_live : Contains (vert_names i) v
   fused-pole_live =
       live_end i q.name q is (q_live i pipe p q is allowed.1 u v allowed.2.1) v
@@ -76,18 +80,23 @@ module _ (i : Synchronized) (pipe u v : ℕ) (is : IsSynchronized i) (allowed : 
     abbrev w : ℕ
     w = opposite p u
 
+    -- the pipe found at the pole is q
     same_q : r ≡ q
     same_q = Some-same r q (sym second ∙ allowed.2.1.matched)
 
+    -- the name that is told is its name
     same_name : other ≡ q.name
     same_name = named ∙ ap (λ z. z.name) same_q
 
+    -- so the instance has q under it
     q_found : pipe_named i other ≡ Some q
     q_found = subst (λ n. pipe_named i n ≡ Some q) (sym same_name) (q_live i pipe p q is allowed.1 u v allowed.2.1)
 
+    -- the first end that is told is the other end of p
     same_a : a ≡ w
     same_a = near ∙ other-told i pipe p allowed.1 u
 
+    -- and the edges that are told are its edges
     same_edges : edges ≡ edges_of i w
     same_edges = at ∙ ap (edges_of i) same_a
 

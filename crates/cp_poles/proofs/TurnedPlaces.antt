@@ -84,7 +84,7 @@ module _ (i : Synchronized) (pipe : ℕ) (p : Pipe) (is : IsSynchronized i) (liv
   abbrev partners : List ℕ
   partners = map (λ x. x.1) p.pairs
 
-  -- none stands twice
+  -- no edge at the one end stands twice
   es_once : Distinct es
   es_once = edges_at-Distinct i is p (right_ends i pipe p is live).differ (right_pairs i pipe p is live) p.a
 

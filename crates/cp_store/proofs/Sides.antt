@@ -31,6 +31,7 @@ module _ {A : Type 0} (name : A → ℕ) where
     pub below_item : below name (name y) xs ≡ true
     pub above_item : under_all name (name y) zs ≡ true
 
+  -- where all names rise, those of the items before one item rise below its name, and those behind it above it
   pub HasSides-rises : (xs : List A) (y : A) (zs : List A) → rises (map name (xs ++ y ∷ zs)) ≡ true → HasSides xs y zs
   HasSides-rises [] y zs up = record {
     first = refl;

@@ -135,6 +135,7 @@ mutual
       let two : 2 ≤ length kids = leb-true 2 (length kids) h.0 in
       omega (arith, few, two, ap length (leaves_Q kids))
 
+  -- branches whose inner nodes have two kids or more have no fewer leaves than inner nodes and branches together
   all-few : (f : ℕ → ℕ) (ks : List Branch) (tops vs es : List ℕ) (rows : List Planted)
       → PlantsAll f ks tops vs es rows → list_all branches ks ≡ true → length rows + length ks ≤ length (flat_map leaves ks)
   all-few f _ _ _ _ _ PlantsAll.none t = omega arith

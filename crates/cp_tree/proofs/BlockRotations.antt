@@ -75,27 +75,31 @@ pub rank_one : (names : List ℕ) (m n : ℕ) → Contains names m → Contains 
 rank_one names m n cm cn same = sym (rank_at names m cm).1 ∙ ap (slice_index names) same ∙ (rank_at names n cn).1
 
 module _ (i : Synchronized) (is : IsSynchronized i) (e : ℕ) (es : List ℕ) (b : AreBlockEdges i e es) where
-  -- the graph, and the block with all vertices or those of its edges alone
+  -- the graph of the instance
   abbrev g : NamedGraph
   g = graph i
 
+  -- the block with the vertices of its edges alone
   abbrev part : NamedGraph
   part = part_with g es
 
+  -- the block with all vertices
   abbrev whole : NamedGraph
   whole = record { verts = g.verts; edges = es; ends = g.ends }
 
-  -- its ends are different live vertices
+  -- the ends of an edge of the block are vertices of the graph
   whole_live : (f : ℕ) → Contains es f → Contains g.verts (g.ends f).0 × Contains g.verts (g.ends f).1
   whole_live f c = let l = live_ends i is f (edges_in i is e es b f c) in (l.0, l.1)
 
+  -- and they differ
   differ : (f : ℕ) → Contains es f → (g.ends f).0 ≢ (g.ends f).1
   differ f c = (live_ends i is f (edges_in i is e es b f c)).2
 
-  -- the names rise
+  -- the names of the edges of the block rise
   es_rise : IsStrictlyIncreasing es
   es_rise = edges_rise i is e es b
 
+  -- and so do those of its vertices
   vs_rise : IsStrictlyIncreasing part.verts
   vs_rise = verts_rise i is e es b
 
@@ -117,13 +121,15 @@ module _ (i : Synchronized) (is : IsSynchronized i) (e : ℕ) (es : List ℕ) (b
         λ z. w.1 (p.0 z),
       )
 
-  -- the vertex of a number, and what is kept of its psi
+  -- the vertex of a number
   abbrev name : ℕ → ℕ
   name k = slice_index part.verts k
 
+  -- the edge of a number
   abbrev edge_name : ℕ → ℕ
   edge_name k = slice_index es k
 
+  -- what is kept of the psi of a vertex: its edges of the block
   abbrev kept_psi : ℕ → List ℕ
   kept_psi v = filter (has es) (psi_at i v)
 
@@ -151,13 +157,14 @@ module _ (i : Synchronized) (is : IsSynchronized i) (e : ℕ) (es : List ℕ) (b
       same_tests false true to from = from refl
       same_tests false false to from = refl
 
-  -- the list given for a Q-vertex, and for a P-vertex
+  -- the list given for a Q-vertex is what is kept of its psi, in numbers
   given_q : (k : ℕ) → k < length part.verts → is_q i (name k) ≡ true
       → list_given (listed_part i es).lists k ≡ Some (map (rank es) (kept_psi (name k)))
   given_q k lt q =
       get_or-map (list_among i es) part.verts k 0 None lt
       ∙ cond-true (is_q i (name k)) (Some (map (rank es) (kept_psi (name k)))) None q
 
+  -- none is given for a P-vertex
   given_p : (k : ℕ) → k < length part.verts → is_q i (name k) ≡ false
       → list_given (listed_part i es).lists k ≡ None
   given_p k lt p =
@@ -285,11 +292,12 @@ module _ (i : Synchronized) (is : IsSynchronized i) (e : ℕ) (es : List ℕ) (b
     abbrev s : ℕ → List ℕ
     s = named_lists rows
 
-    -- that of a vertex of the block, and of another one
+    -- that of a vertex of the block is its row with the names of the edges
     s_in : (v : ℕ) → Contains part.verts v → s v ≡ map edge_name (rows (rank part.verts v))
     s_in v c = cond-true (has part.verts v) (map edge_name (rows (rank part.verts v))) []
         (has-true part.verts v ((Has-Contains v part.verts).1 c))
 
+    -- that of another one is empty
     s_out : (v : ℕ) → has part.verts v ≡ false → s v ≡ []
     s_out v f = cond-false (has part.verts v) (map edge_name (rows (rank part.verts v))) [] f
 

@@ -25,10 +25,11 @@ module _ (g : NamedGraph) (differ : (e : ℕ) → Contains g.edges e → (g.ends
       (λ a. let d = second_dart w e a in omega (arith, d))
       (cases_eq (g.ends e).0 w)
 
-  -- the edge of a dart, and the end at which it stands
+  -- the edge of a dart
   abbrev named_edge : ℕ → ℕ
   named_edge d = slice_index g.edges (d / 2)
 
+  -- the end at which it stands: the first of the edge for an even dart, the second for an odd one
   abbrev named_end : ℕ → ℕ
   named_end d = cond (eqb (d % 2) 0) (g.ends (named_edge d)).0 (g.ends (named_edge d)).1
 

@@ -55,10 +55,11 @@ word_admitted tree word bits pair =
 -- u: a P-vertex that is no cut vertex, with the edge e, and es: the edges of the block of e
 module _ (i : Synchronized) (is : IsSynchronized i) (u : ℕ) (free : IsPVertex i u) (uncut : IsCut (graph i) u → ⊥)
     (e : ℕ) (at : Contains (edges_of i u) e) (es : List ℕ) (b : AreBlockEdges i e es) where
-  -- the graph, and the vertices of the block
+  -- the graph of the instance
   abbrev g : NamedGraph
   g = graph i
 
+  -- the vertices of the block
   abbrev vs : List ℕ
   vs = (part_with g es).verts
 

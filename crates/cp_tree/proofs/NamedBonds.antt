@@ -48,10 +48,11 @@ module _ (g : NamedGraph)
   abbrev pub name : ℕ → ℕ
   name k = get_or g.verts k 0
 
-  -- the pairs without the two, and their places
+  -- the pairs of ends without those at u or v
   abbrev pub named_pairs : List (ℕ × ℕ)
   named_pairs = without_vertex u (without_vertex v (pairs g))
 
+  -- the pairs of places of the ends, without those at the places of u or v
   abbrev pub placed_pairs : List (ℕ × ℕ)
   placed_pairs = without_vertex (place u) (without_vertex (place v) (map (numbered_ends g) g.edges))
 
@@ -116,10 +117,11 @@ module _ (g : NamedGraph) (verts_once : Distinct g.verts) (edges_once : Distinct
   abbrev G : NamedGraph
   G = as_named (numbered g)
 
-  -- the places of names
+  -- the place of a vertex
   abbrev at : ℕ → ℕ
   at w = rank g.verts w
 
+  -- the place of an edge
   abbrev nth : ℕ → ℕ
   nth e = rank g.edges e
 

@@ -64,10 +64,11 @@ module _ (g : NamedGraph) (verts_rise : IsStrictlyIncreasing g.verts) (edges_ris
       let within : d / 2 < n = omega (arith, lt) in
       rank_is g.edges (d / 2) (edge d) (rising_distinct g.edges edges_rise) within refl
 
-  -- the end at which an even dart stands is the first, and that of an odd one the second
+  -- the end at which an even dart stands is the first of its edge
   end_even : (d : ℕ) → d % 2 ≡ 0 → end_of g d ≡ (g.ends (edge d)).0
   end_even d e = cond-true {A = ℕ} (eqb (d % 2) 0) (g.ends (edge d)).0 (g.ends (edge d)).1 (eq-eqb (d % 2) 0 e)
 
+  -- and that of an odd one the second
   end_odd : (d : ℕ) → d % 2 ≢ 0 → end_of g d ≡ (g.ends (edge d)).1
   end_odd d ne = cond-false {A = ℕ} (eqb (d % 2) 0) (g.ends (edge d)).0 (g.ends (edge d)).1 (ne_eqb (d % 2) 0 ne)
 

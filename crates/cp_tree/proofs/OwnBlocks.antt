@@ -39,10 +39,11 @@ module _ (i : Synchronized) (is : IsSynchronized i) (verts es : List ℕ) (close
   abbrev numbered : List (ℕ × ℕ)
   numbered = map (numbered_ends (part_of i verts es)) es
 
-  -- an edge of the part is one of the instance, and its ends are vertices of the part
+  -- an edge of the part is one of the instance
   edge_live : (e : ℕ) → Contains es e → Contains g.edges e
   edge_live e c = All-contains (Contains g.edges) es e closed.live c
 
+  -- its ends are vertices of the part
   ends_live : (e : ℕ) → Contains es e → Contains verts (g.ends e).0 × Contains verts (g.ends e).1
   ends_live e c = All-contains (λ f. Contains verts (g.ends f).0 × Contains verts (g.ends f).1) es e ends.ends c
 
@@ -73,10 +74,11 @@ module _ (i : Synchronized) (is : IsSynchronized i) (verts es : List ℕ) (close
       (rank_one verts (g.ends e).0 (g.ends e).1 c.0 c.1
       (sym (ap (λ (p : ℕ × ℕ). p.0) (at_place k below)) ∙ same ∙ ap (λ (p : ℕ × ℕ). p.1) (at_place k below)))
 
-  -- names are distinct
+  -- the edges of the part are distinct
   edges_once : Distinct es
   edges_once = rising_distinct es closed.rise
 
+  -- and so are those of the graph
   names_once : Distinct g.edges
   names_once = rising_distinct g.edges is.edges_named.rise
 

@@ -26,6 +26,7 @@ bit_number b = cond b 1 0
 abbrev number_bit : ℕ → Bool
 number_bit n = eqb n 1
 
+-- a bit written as a number is read back the same
 bit_back : (b : Bool) → number_bit (bit_number b) ≡ b
 bit_back true = refl
 bit_back false = refl
