@@ -1,6 +1,5 @@
 -- No owner of a P-node has a given list: what is kept of a vertex with a list is a Q-node.
 use Rattle.std.proofs.Common.{◌≡◌, ℕ, suc, Option, Some, None, List, [], ◌∷◌, length, map, slice_index, reverse, sym, refl, ap, ◌∙◌, subst, ⊎_elim}
-use Rattle.cp_pq.specs.declared.node.Node.{Node}
 use Rattle.cp_pq.specs.declared.node.Node.TheVariants.{Leaf, P}
 use Rattle.cp_pq.specs.declared.part.Part.{Part}
 use Rattle.cp_pq.specs.Nodes.{IsIn, itself}

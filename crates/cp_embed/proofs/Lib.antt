@@ -14,6 +14,7 @@ mod StageSteps
 mod TakenTrees
 mod StageTrees
 mod TakingOrders
+mod BipolarTests
 mod FirstTrees
 mod FirstEdges
 mod FirstOrders

@@ -14,7 +14,7 @@ use Rattle.cp_pq.specs.Nodes.{leaves, all_leaves, is_branching, IsKid, IsIn, its
 use Rattle.cp_pq.specs.Promises.{IsForced, in_direction}
 use Rattle.cp_pq.specs.Readings.{Reads, ReadsAll, given, any_order, forward, backward, none, more}
 use Rattle.cp_pq.specs.Trees.{PQTree, IsPair, IsWellFormed}
-use Rattle.cp_pq.proofs.NodeLayers.{leaves_P, all_leaves_cons}
+use Rattle.cp_pq.proofs.NodeLayers.{all_leaves_cons}
 use Rattle.cp_pq.proofs.ReadingLaws.{Reads_P, Reads_Q, ReadsAll_cons, IsPermutation-all_leaves, read_leaves}
 use Rattle.cp_embed.proofs.EveryOrders.{kid-permuted, branching-P, branching-Q, each_branches, long}
 use Rattle.cp_embed.proofs.Sides.{no_kid, kid_or, kids-Distinct}

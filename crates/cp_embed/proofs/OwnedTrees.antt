@@ -1,6 +1,6 @@
 -- The owners of the P-nodes along the building of a tree: where an owner is removed, edges on different sides of its
 -- P-node are not connected by what is taken.
-use Rattle.std.proofs.Common.{◌≡◌, ◌≢◌, ℕ, suc, ◌+◌, ◌<◌, ◌⊎◌, Option, Some, None, List, [], ◌∷◌, length, slice_index, reverse, sym, ap, ◌∙◌, subst, inl, inr, ⊎_elim, arith}
+use Rattle.std.proofs.Common.{◌≡◌, ◌≢◌, ℕ, suc, ◌+◌, ◌<◌, Option, Some, None, List, [], ◌∷◌, length, slice_index, reverse, sym, ap, ◌∙◌, subst, inl, inr, ⊎_elim, arith}
 use Rattle.cp_lists.specs.CyclicLists.{Has, Lacks, Distinct}
 use Rattle.cp_lists.proofs.DistinctLists.{has_lacks, Lacks-from}
 use Rattle.cp_conn.specs.Darts.{start}

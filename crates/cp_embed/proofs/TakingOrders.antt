@@ -24,6 +24,29 @@ rising_least xs up (suc j) lt =
     in
     omega (arith, one, two)
 
+-- an edge of a vertex joins it to its other end
+pub touches-AreAdjacent : (ends : List (ℕ × ℕ)) (v k : ℕ) → k < length ends → touches ends v k ≡ true
+    → AreAdjacent ends (other_end ends v k) v × AreAdjacent ends v (other_end ends v k)
+touches-AreAdjacent ends v k lt at = (
+  record { pair = slice_index_or ends k (0, 0); contained = Contains-at ends k lt; joined = joined },
+  record { pair = slice_index_or ends k (0, 0); contained = Contains-at ends k lt; joined = ⊎_elim inr inl joined },
+)
+  where
+    by_first : (b : Bool) → eqb (slice_index_or ends k (0, 0)).0 v ≡ b
+        → Joins (slice_index_or ends k (0, 0))
+        (cond b (slice_index_or ends k (0, 0)).1 (slice_index_or ends k (0, 0)).0) v
+    by_first true e = inr (eqb-true (slice_index_or ends k (0, 0)).0 v e, refl)
+    by_first false e = inl (
+      refl,
+      ⊎_elim
+          (λ f. absurd (false≢true (sym e ∙ eq-eqb (slice_index_or ends k (0, 0)).0 v f)))
+          (λ s. s)
+          (touches-cases ends v k at),
+    )
+
+    joined : Joins (slice_index_or ends k (0, 0)) (other_end ends v k) v
+    joined = by_first (eqb (slice_index_or ends k (0, 0)).0 v) refl
+
 -- a block and a vertex of it
 module _ (block : ListedGraph) (well : IsListedBlock block) (v : ℕ) (lt : v < block.graph.vertices) where
   -- the ends of its edges
@@ -56,23 +79,7 @@ module _ (block : ListedGraph) (well : IsListedBlock block) (v : ℕ) (lt : v < 
 
   -- it joins the vertex to its other end
   pub root-adjacent : AreAdjacent ends (other_end ends v root) v
-  root-adjacent = record {
-    pair = slice_index_or ends root (0, 0);
-    contained = Contains-at ends root root-edge.0;
-    joined = by_first (eqb (slice_index_or ends root (0, 0)).0 v) refl;
-  }
-    where
-      by_first : (b : Bool) → eqb (slice_index_or ends root (0, 0)).0 v ≡ b
-          → Joins (slice_index_or ends root (0, 0))
-          (cond b (slice_index_or ends root (0, 0)).1 (slice_index_or ends root (0, 0)).0) v
-      by_first true e = inr (eqb-true (slice_index_or ends root (0, 0)).0 v e, refl)
-      by_first false e = inl (
-        refl,
-        ⊎_elim
-            (λ f. absurd (false≢true (sym e ∙ eq-eqb (slice_index_or ends root (0, 0)).0 v f)))
-            (λ s. s)
-            (touches-cases ends v root root-edge.1),
-      )
+  root-adjacent = (touches-AreAdjacent ends v root root-edge.0 root-edge.1).0
 
   -- a bipolar order from the other end to the vertex, with the later ends of the edges
   pub bipolar-IsTakingOrder : (order later : List ℕ) → IsBipolar block.graph (other_end ends v root) v order

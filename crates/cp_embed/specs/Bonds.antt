@@ -1,5 +1,5 @@
 -- Poles of a vertex of a block (Bläsius, Rutter 2016).
-use Rattle.std.specs.Prelude.{ℕ, List, length, slice_index_or}
+use Rattle.std.specs.Prelude.{length, slice_index_or}
 use Rattle.std.specs.List.{range_with_len}
 use Rattle.cp_base.specs.Graphs.{PlainGraph}
 use Rattle.cp_conn.specs.NamedGraphs.{NamedGraph}

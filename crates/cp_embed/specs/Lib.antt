@@ -16,6 +16,7 @@ pub mod Stages
 pub mod Sweeps
 pub mod Splits
 pub mod VertexOrders
+pub mod Levels
 pub mod BuiltTrees
 pub mod OwnedTrees
 pub mod Cuts

@@ -8,6 +8,7 @@ mod edge_lists;
 mod embedding;
 mod fault;
 mod first_tree;
+mod levels;
 mod nodes;
 mod taking;
 mod taking_back;

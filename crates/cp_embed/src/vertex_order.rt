@@ -7,6 +7,7 @@ ghost use Rattle.cp_embed.specs.ListedBlocks.{IsListedBlock, touches, other_end}
 ghost use Rattle.cp_embed.specs.VertexOrders.{AreLaterEnds, IsTakingOrder, StandsBefore, IsLaterEnd, last_of};
 
 use crate::block::QBlock;
+use crate::levels::narrowed;
 use cp_base::Memory;
 use cp_ears::bipolar;
 use std::alloc::Global;
@@ -30,7 +31,7 @@ pub(crate) fn far_end(ends: &[(usize, usize)], vertex: usize, edge: usize) -> us
 }
 
 // The place of each vertex of an order.
-fn places_in(alloc: Global, order: &[usize]) -> Result<Vec<usize>, Memory>
+pub(crate) fn places_in(alloc: Global, order: &[usize]) -> Result<Vec<usize>, Memory>
     requires { Exactly (length order.now) (λ v. true) order.now }
     ensures each { IfOk result (λ places. length places.items ≡ length order.now) }
     ensures places { IfOk result (λ places. (i : ℕ) → i < length order.now → slice_index places.items (slice_index order.now i) ≡ i) }
@@ -56,7 +57,11 @@ fn later_of(places: &[usize], first: usize, second: usize) -> usize
 }
 
 // For each edge the end that comes later. Linear in the numbers of vertices and edges.
-fn later_ends(alloc: Global, order: &[usize], ends: &[(usize, usize)]) -> Result<Vec<usize>, Memory>
+pub(crate) fn later_ends(
+    alloc: Global,
+    order: &[usize],
+    ends: &[(usize, usize)],
+) -> Result<Vec<usize>, Memory>
     requires once { Exactly (length order.now) (λ v. true) order.now }
     requires within { AreWithin (length order.now) ends.now }
     requires no_loop { HaveNoLoop ends.now }
@@ -85,7 +90,8 @@ pub(crate) fn taking_order(
 {
     let root = block.edges_at(last)[0];
     let first = far_end(block.graph().ends(), last, root);
-    let vertices = bipolar(alloc, block.graph(), first, last)?;
+    let found = bipolar(alloc, block.graph(), first, last)?;
+    let vertices = narrowed(alloc, block, first, last, found)?;
     let later = later_ends(alloc, vertices.as_slice(), block.graph().ends())?;
     Ok(TakingOrder {
         root,

@@ -1,11 +1,11 @@
 -- The least edge leads to the first vertex.
-use Rattle.std.proofs.Common.{◌≡◌, ℕ, ◌<◌, ◌≤◌, true, List, length, slice_index, sym, ap, ◌∙◌, subst, arith}
+use Rattle.std.proofs.Common.{◌≡◌, ℕ, ◌<◌, ◌≤◌, List, length, slice_index, sym, ap, ◌∙◌, subst, arith}
 use Rattle.cp_base.specs.Graphs.{PlainGraph, AreWithin}
 use Rattle.cp_conn.specs.Blocks.{HaveNoLoop}
 use Rattle.cp_ears.specs.Bipolar.{AreAdjacent, HaveEdges, IsBipolar, IsOneBlock}
-use Rattle.cp_lists.specs.Count.{Exactly}
 use Rattle.cp_embed.specs.ListedBlocks.{edges_at, other_end}
 use Rattle.cp_embed.specs.VertexOrders.{AreLaterEnds, IsTakingOrder}
+use Rattle.cp_embed.proofs.BipolarTests.{Exactly-own}
 use Rattle.cp_embed.proofs.TakingOrders.{edges-some, root-edge, root-least, root-adjacent, bipolar-IsTakingOrder, bipolar-length}
 use Rattle.cp_embed.proofs.vertex_order.taking_order.Goals as goal
 
@@ -54,25 +54,28 @@ bipolar-requires-clause-joined c =
     c.far_end-first.ensures))
     (root-adjacent c.args.block.now c.edges_at.ensures.block c.args.last c.requires))
 
--- an order of as many vertices as it is long
-exactly_own : (g : PlainGraph) (s t : ℕ) (order slice : List ℕ) → IsBipolar g s t order → slice ≡ order
-    → Exactly (length slice) (λ v. true) slice
-exactly_own g s t order slice b same =
-    subst (λ us. Exactly (length us) (λ v. true) us) (sym same)
-    (subst (λ n. Exactly n (λ v. true) order) (sym (bipolar-length g s t order b)) b.each_once)
+pub narrowed-requires-clause-within : goal.narrowed-requires-clause-within
+narrowed-requires-clause-within c = c.edges_at.ensures.block.within
+
+pub narrowed-requires-clause-no_loop : goal.narrowed-requires-clause-no_loop
+narrowed-requires-clause-no_loop c = c.edges_at.ensures.block.no_loop
+
+pub narrowed-requires-clause-bipolar : goal.narrowed-requires-clause-bipolar
+narrowed-requires-clause-bipolar c =
+    subst (λ g. IsBipolar g c.far_end-first.result c.args.last c.in_ok-found.found.items) c.graph-2.ensures.value
+    c.in_ok-found.ensures
 
 pub later_ends-requires-clause-once : goal.later_ends-requires-clause-once
 later_ends-requires-clause-once c =
-    exactly_own c.graph-2.result.now c.far_end-first.result c.args.last c.in_ok-vertices.vertices.items
+    Exactly-own c.args.block.now.graph c.far_end-first.result c.args.last c.in_ok-vertices.vertices.items
     c.as_slice.result.now c.in_ok-vertices.ensures c.as_slice.ensures.value
 
 pub later_ends-requires-clause-within : goal.later_ends-requires-clause-within
 later_ends-requires-clause-within c =
     let long : length c.as_slice.result.now ≡ c.args.block.now.graph.vertices =
     ap length c.as_slice.ensures.value
-    ∙ bipolar-length c.graph-2.result.now c.far_end-first.result c.args.last c.in_ok-vertices.vertices.items
+    ∙ bipolar-length c.args.block.now.graph c.far_end-first.result c.args.last c.in_ok-vertices.vertices.items
     c.in_ok-vertices.ensures
-    ∙ ap (λ (g : PlainGraph). g.vertices) c.graph-2.ensures.value
     in
     subst (λ n. AreWithin n c.ends-2.result.now) (sym long)
     (subst (AreWithin c.args.block.now.graph.vertices)
@@ -84,21 +87,13 @@ later_ends-requires-clause-no_loop c =
     subst HaveNoLoop (sym (c.ends-2.ensures.value ∙ ap (λ (g : PlainGraph). g.ends) c.graph-3.ensures.value))
     c.edges_at.ensures.block.no_loop
 
--- the bipolar order, in the block's own terms
-bipolar_own : (g h : PlainGraph) (ends : List (ℕ × ℕ)) (edges : List ℕ) (v far : ℕ) (order : List ℕ) → h ≡ g
-    → far ≡ other_end g.ends v (slice_index (edges_at g.ends v) 0) → IsBipolar h far v order
-    → IsBipolar g (other_end g.ends v (slice_index (edges_at g.ends v) 0)) v order
-bipolar_own g h ends edges v far order same is b =
-    subst (λ u. IsBipolar g u v order) is (subst (λ k. IsBipolar k far v order) same b)
-
 pub returns-clause-order : goal.returns-clause-order
 returns-clause-order c =
     subst (IsTakingOrder c.args.block.now.graph c.in_ok-vertices.vertices.items c.in_ok-later.later.items)
     (sym (ap (λ us. slice_index us 0) c.edges_at.ensures.value))
     (bipolar-IsTakingOrder c.args.block.now c.edges_at.ensures.block c.args.last c.requires
     c.in_ok-vertices.vertices.items c.in_ok-later.later.items
-    (bipolar_own c.args.block.now.graph c.graph-2.result.now c.ends.result.now c.edges_at.result.now c.args.last
-    c.far_end-first.result c.in_ok-vertices.vertices.items c.graph-2.ensures.value
+    (subst (λ u. IsBipolar c.args.block.now.graph u c.args.last c.in_ok-vertices.vertices.items)
     (far_is c.args.block.now.graph.ends c.ends.result.now c.edges_at.result.now c.args.last c.far_end-first.result
     (c.ends.ensures.value ∙ ap (λ (g : PlainGraph). g.ends) c.graph.ensures.value) c.edges_at.ensures.value
     c.far_end-first.ensures)
