@@ -24,7 +24,7 @@ mod PropagatedSolutions
 mod ReadWords
 pub mod PropagateLaw
 mod RestrictedGraphs
-mod SolvedBlocks
+pub mod SolvedBlocks
 pub mod PropagateSteps
 mod PlantedOrder
 mod PlantedEdges

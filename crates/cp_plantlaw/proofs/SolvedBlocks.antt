@@ -17,10 +17,10 @@ use Rattle.cp_conn.proofs.BlockBonds.{uncut_inside}
 use Rattle.cp_conn.proofs.NamedGraphs.{IsBlockOf-block_test, block_test, edge_at, edges_at-Contains}
 use Rattle.cp_board.specs.declared.parts.Kind.{Kind}
 use Rattle.cp_board.specs.declared.parts.Kind.TheVariants.{P, Q}
-use Rattle.cp_board.specs.Blocks.{IsBlockOrder, IsKept}
+use Rattle.cp_board.specs.Blocks.{IsBlockOrder, IsBlockRotation, IsKept, IsUnembeddable}
 use Rattle.cp_board.specs.Instances.{Synchronized, IsSynchronized, edges_of, graph}
 use Rattle.cp_board.specs.Rotations.{ArrangesEdges}
-use Rattle.cp_board.specs.Solutions.{IsInDirection, Solves, directed}
+use Rattle.cp_board.specs.Solutions.{IsInDirection, IsSolvable, Solves, directed}
 use Rattle.cp_synclaw.proofs.InstanceDarts.{live_at, live_ends}
 use Rattle.cp_plantlaw.proofs.RestrictedGraphs.{inner-IsRotationOf}
 
@@ -57,6 +57,21 @@ module _ (i : Synchronized) (is : IsSynchronized i) where
       (live_ends i is (get_or g.edges k 0) at.0).2
       (ap (λ (x : ℕ × ℕ). x.0) at.1 ∙ same ∙ ap (λ (x : ℕ × ℕ). x.1) (sym at.1))
 
+  -- what the lists of a solution have of a block is a rotation of it
+  pub Solves-IsBlockRotation : (s : ℕ → List ℕ) → Solves i s → (inside : ℕ → Bool)
+      → IsBlockRotation i inside (λ v. filter inside (s v))
+  Solves-IsBlockRotation s sol inside = record {
+    rotation = inner-IsRotationOf g inside is.verts_named.rise is.edges_named.rise
+        (λ f c. let l = live_ends i is f c in (l.0, l.1)) (λ f c. (live_ends i is f c).2) s sol.rotation;
+    kept = λ k d lt. kept_direction inside sol.back _ _ (sol.in_direction k d lt);
+  }
+
+  -- so an instance with a block that has no rotation has no solution
+  pub unembeddable-IsSolvable : (e : ℕ) → IsUnembeddable i e → ¬ IsSolvable i
+  unembeddable-IsSolvable e u h =
+      let block = IsBlockOf-block_test g e instance-HaveNoLoop u.live in
+      u.none (block_test g e) (λ v. filter (block_test g e) (h.0 v)) block (Solves-IsBlockRotation h.0 h.1 (block_test g e))
+
   -- the list of a vertex that is no cut vertex, in a solution, is one of its orders in its block
   pub Solves-IsBlockOrder : (s : ℕ → List ℕ) → Solves i s → (u e : ℕ) → Contains (edges_of i u) e → ¬ IsCut g u
       → IsBlockOrder i u (s u)
@@ -76,10 +91,6 @@ module _ (i : Synchronized) (is : IsSynchronized i) where
         inside = inside;
         block = block;
         lists = λ v. filter inside (s v);
-        rotation = record {
-          rotation = inner-IsRotationOf g inside is.verts_named.rise is.edges_named.rise
-              (λ f c. let l = live_ends i is f c in (l.0, l.1)) (λ f c. (live_ends i is f c).2) s sol.rotation;
-          kept = λ k d lt. kept_direction inside sol.back _ _ (sol.in_direction k d lt);
-        };
+        rotation = Solves-IsBlockRotation s sol inside;
         turn = subst (λ xs. IsTurn xs (s u)) (sym whole) (turn-refl (s u));
       }
