@@ -1,0 +1,4 @@
+-- What the functions rest on.
+mod Rounds
+mod ReadPiles
+mod FoundVertices
