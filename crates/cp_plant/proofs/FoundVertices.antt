@@ -1,5 +1,5 @@
 -- The vertex below an edge, by its place.
-use Rattle.std.proofs.Common.{◌≡◌, ◌≢◌, ℕ, zero, suc, ◌<◌, ◌≤◌, eqb, List, [], ◌∷◌, get_or, length, sym, refl, ap, ◌∙◌, subst, inl, inr, ⊎_elim, arith}
+use Rattle.std.proofs.Common.{◌≡◌, ◌≢◌, ℕ, zero, suc, ◌+◌, ◌<◌, ◌≤◌, eqb, List, [], ◌∷◌, get_or, length, sym, refl, ap, ◌∙◌, subst, inl, inr, ⊎_elim, arith}
 use Rattle.std.specs.Prelude.{None, Some, find}
 use Rattle.std.specs.List.{Contains, zip}
 use Rattle.std.specs.List.Sorted.{IsStrictlyIncreasing}
@@ -53,6 +53,22 @@ found_at (e ∷ es) (v ∷ vs) (suc k) x once size lt here =
     let there : Has x es = stands es k x (omega (arith, lt)) here in
     behind_first e v es vs x (λ s. has_other x e es there once.0 (sym s))
     ∙ found_at es vs k x once.1 (omega (arith, size)) (omega (arith, lt)) here
+
+-- the first edge has the first vertex
+pub found_first : (e : ℕ) (es vs : List ℕ) (x : ℕ) → length vs ≡ length es + 1 → x ≡ e
+    → vertex_below (zip (e ∷ es) vs) x ≡ Some (get_or vs 0 0)
+found_first e es [] x size here = absurd (omega (arith, size))
+found_first e es (v ∷ vs) x size here = ap (option_map (λ (y : ℕ × ℕ). y.1))
+    (cond-true (eqb e x) (Some (e, v)) (find (λ (y : ℕ × ℕ). eqb y.0 x) (zip es vs)) (eq-eqb e x (sym here)))
+
+-- the edge of a place behind the first has the vertex of the next place
+pub found_behind : (e : ℕ) (es vs : List ℕ) (k x : ℕ) → Distinct es → length vs ≡ length es + 1 → (x ≡ e → ⊥)
+    → k < length es → get_or es k 0 ≡ x → vertex_below (zip (e ∷ es) vs) x ≡ Some (get_or vs (k + 1) 0)
+found_behind e es [] k x once size ne lt here = absurd (omega (arith, size))
+found_behind e es (v ∷ vs) k x once size ne lt here =
+    let one : k + 1 ≡ suc k = omega arith in
+    behind_first e v es vs x (λ s. ne (sym s)) ∙ found_at es vs k x once (omega (arith, size)) lt here
+    ∙ rw one refl
 
 -- what is none of the edges has no vertex
 pub found_none : (es vs : List ℕ) (x : ℕ) → length es ≡ length vs → Lacks x es

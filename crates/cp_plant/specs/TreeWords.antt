@@ -31,9 +31,9 @@ read nodes t (suc n) (x ∷ edges) = elim (vertex_below nodes x) [
   | Some v ↦ read nodes t n (reverse (round_from x (t v)) ++ edges)
 ]
 
--- what is read of a tree with this vertex below its root edge, and the root edge behind it
-abbrev pub read_tree : List (ℕ × ℕ) → (ℕ → List ℕ) → ℕ → ℕ → ℕ → List ℕ
-read_tree nodes t n root top = read nodes t n (reverse (round_from root (t top))) ++ root ∷ []
+-- what is read of a tree below its root edge, and the root edge behind it
+abbrev pub read_tree : List (ℕ × ℕ) → (ℕ → List ℕ) → ℕ → ℕ → List ℕ
+read_tree nodes t n root = read nodes t n (root ∷ []) ++ root ∷ []
 
 -- the partner of an edge, by the pairs: of a first edge the second, or of a second edge the first
 abbrev pub partner_by : List (ℕ × ℕ) → Bool → ℕ → ℕ

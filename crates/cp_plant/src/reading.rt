@@ -35,14 +35,17 @@ fn push_round(list: &[usize], x: usize, pile: &mut Vec<usize>) -> Result<(), Mem
     Ok(())
 }
 
-// The vertex below an edge from above, if it is one. Logarithmic.
-fn found_vertex(edges: &[usize], verts: &[usize], x: usize) -> Option<usize>
+// The vertex below an edge from above, if it is one: of the root edge, or of one of the others. Logarithmic.
+fn found_vertex(root: usize, edges: &[usize], verts: &[usize], x: usize) -> Option<usize>
     requires rising { IsStrictlyIncreasing edges.now }
-    requires one_each { length edges.now ≡ length verts.now }
-    ensures { result ≡ vertex_below (zip edges.now verts.now) x }
+    requires one_each { length verts.now ≡ length edges.now + 1 }
+    ensures { result ≡ vertex_below (zip (root ∷ edges.now) verts.now) x }
 {
+    if x == root {
+        return Some(verts[0]);
+    }
     match edges.binary_search(&x) {
-        Ok(place) => Some(verts[place]),
+        Ok(place) => Some(verts[place + 1]),
         Err(_) => None,
     }
 }
@@ -50,6 +53,7 @@ fn found_vertex(edges: &[usize], verts: &[usize], x: usize) -> Option<usize>
 // Reads an edge that was on top of the pile: it goes to the word, or the edges below it go on the pile. Linear in the
 // list of the vertex below it, up to a logarithm.
 fn read_edge(
+    root: usize,
     edges: &[usize],
     verts: &[usize],
     after: &Solution,
@@ -58,11 +62,11 @@ fn read_edge(
     word: &mut Vec<usize>,
 ) -> Result<(), Memory>
     requires rising { IsStrictlyIncreasing edges.now }
-    requires one_each { length edges.now ≡ length verts.now }
+    requires one_each { length verts.now ≡ length edges.now + 1 }
     requires live { All (Contains (map (λ row. row.0) after.now)) verts.now }
-    ensures { OnOk result ((n : ℕ) → word.new.items ++ read (zip edges.now verts.now) (list_in after.now) n (reverse pile.new.items) ≡ word.old.items ++ read (zip edges.now verts.now) (list_in after.now) (suc n) (x ∷ reverse pile.old.items)) }
+    ensures { OnOk result ((n : ℕ) → word.new.items ++ read (zip (root ∷ edges.now) verts.now) (list_in after.now) n (reverse pile.new.items) ≡ word.old.items ++ read (zip (root ∷ edges.now) verts.now) (list_in after.now) (suc n) (x ∷ reverse pile.old.items)) }
 {
-    match found_vertex(edges, verts, x) {
+    match found_vertex(root, edges, verts, x) {
         Some(v) => push_round(after.list_of(v).items(), x, pile),
         None => {
             word.push(x)?;
@@ -73,6 +77,7 @@ fn read_edge(
 
 // Reads the edge on top of the pile, if there is one. Linear in the list of the vertex below it, up to a logarithm.
 fn read_top(
+    root: usize,
     edges: &[usize],
     verts: &[usize],
     after: &Solution,
@@ -80,12 +85,12 @@ fn read_top(
     word: &mut Vec<usize>,
 ) -> Result<(), Memory>
     requires rising { IsStrictlyIncreasing edges.now }
-    requires one_each { length edges.now ≡ length verts.now }
+    requires one_each { length verts.now ≡ length edges.now + 1 }
     requires live { All (Contains (map (λ row. row.0) after.now)) verts.now }
-    ensures { OnOk result ((n : ℕ) → word.new.items ++ read (zip edges.now verts.now) (list_in after.now) n (reverse pile.new.items) ≡ word.old.items ++ read (zip edges.now verts.now) (list_in after.now) (suc n) (reverse pile.old.items)) }
+    ensures { OnOk result ((n : ℕ) → word.new.items ++ read (zip (root ∷ edges.now) verts.now) (list_in after.now) n (reverse pile.new.items) ≡ word.old.items ++ read (zip (root ∷ edges.now) verts.now) (list_in after.now) (suc n) (reverse pile.old.items)) }
 {
     match pile.pop() {
-        Some(x) => read_edge(edges, verts, after, x, pile, word),
+        Some(x) => read_edge(root, edges, verts, after, x, pile, word),
         None => Ok(()),
     }
 }
@@ -93,6 +98,7 @@ fn read_top(
 // What is read of a pile of edges in some steps, the last edge first. Linear in the lists, up to a logarithm.
 fn read_pile(
     alloc: Global,
+    root: usize,
     edges: &[usize],
     verts: &[usize],
     after: &Solution,
@@ -100,38 +106,36 @@ fn read_pile(
     steps: usize,
 ) -> Result<Vec<usize>, Memory>
     requires rising { IsStrictlyIncreasing edges.now }
-    requires one_each { length edges.now ≡ length verts.now }
+    requires one_each { length verts.now ≡ length edges.now + 1 }
     requires live { All (Contains (map (λ row. row.0) after.now)) verts.now }
-    ensures { IfOk result (λ word. word.items ≡ read (zip edges.now verts.now) (list_in after.now) steps (reverse first.items)) }
+    ensures { IfOk result (λ word. word.items ≡ read (zip (root ∷ edges.now) verts.now) (list_in after.now) steps (reverse first.items)) }
 {
     let mut pile = first;
     let mut word = Vec::new(alloc);
     for _step in 0..steps {
-        read_top(edges, verts, after, &mut pile, &mut word)?;
+        read_top(root, edges, verts, after, &mut pile, &mut word)?;
     }
     Ok(word)
 }
 
-// The word of a tree, from its last edge to its root edge, by the edges from above with the vertices below them and the
-// vertex below the root edge. Linear in the lists, up to a logarithm.
+// The word of a tree, from its last edge to its root edge, by the root edge, the other edges from above, and the vertices
+// below them all. Linear in the lists, up to a logarithm.
 pub(crate) fn word_of_tree(
     alloc: Global,
+    root: usize,
     edges: &[usize],
     verts: &[usize],
     after: &Solution,
-    root: usize,
-    top: usize,
     steps: usize,
 ) -> Result<Vec<usize>, Memory>
     requires rising { IsStrictlyIncreasing edges.now }
-    requires one_each { length edges.now ≡ length verts.now }
+    requires one_each { length verts.now ≡ length edges.now + 1 }
     requires live { All (Contains (map (λ row. row.0) after.now)) verts.now }
-    requires top { Contains (map (λ row. row.0) after.now) top }
-    ensures { IfOk result (λ word. word.items ≡ read_tree (zip edges.now verts.now) (list_in after.now) steps root top) }
+    ensures { IfOk result (λ word. word.items ≡ read_tree (zip (root ∷ edges.now) verts.now) (list_in after.now) steps root) }
 {
     let mut first = Vec::new(alloc);
-    push_round(after.list_of(top).items(), root, &mut first)?;
-    let mut word = read_pile(alloc, edges, verts, after, first, steps)?;
+    first.push(root)?;
+    let mut word = read_pile(alloc, root, edges, verts, after, first, steps)?;
     word.push(root)?;
     Ok(word)
 }
