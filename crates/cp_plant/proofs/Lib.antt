@@ -2,3 +2,6 @@
 mod Rounds
 mod ReadPiles
 mod FoundVertices
+mod RowNodes
+mod TreeReadings
+mod EarlierRows

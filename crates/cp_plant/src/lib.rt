@@ -3,3 +3,4 @@
 #![tactic(auto)]
 
 mod reading;
+mod turning_back;
