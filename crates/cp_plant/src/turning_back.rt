@@ -8,7 +8,6 @@ ghost use Rattle.cp_board.specs.Solutions.{IsSolution, list_in};
 ghost use Rattle.cp_board.specs.Steps.{Allowed};
 ghost use Rattle.cp_board.specs.declared.steps.Step.{Step};
 ghost use Rattle.cp_board.specs.declared.steps.Step.TheVariants.{Propagate};
-
 ghost use Rattle.cp_plant.specs.TreeWords.{partner_by, with_ends};
 
 use crate::reading::word_of_tree;

@@ -34,6 +34,8 @@ returns-in-Err c =
     × ((k : ℕ) → i ≤ k → k < length names → n < get_or names k 0)))
     c.in-Err.is
     (searched names n c.binary_search.result c.binary_search.ensures.position (rising_le names c.requires.rising)) in
-    sym (found_none (c.args.root ∷ names) c.args.verts.now n (omega (arith, c.requires.one_each))
-    ((λ e. c.if-x-root.false (sym e)), Lacks-from n names (λ h.
-    rising_missed names c.in-Err.field-0 n ((Has-Contains n names).0 h) found.1 found.2)))
+    sym (found_none (c.args.root ∷ names) c.args.verts.now n (omega (arith, c.requires.one_each)) (
+      (λ e. c.if-x-root.false (sym e)),
+      Lacks-from n names (λ h.
+          rising_missed names c.in-Err.field-0 n ((Has-Contains n names).0 h) found.1 found.2),
+    ))
