@@ -44,20 +44,24 @@ range_rises m k lt =
     omega (arith, get_or-range_with_len 0 m k 0 (omega (arith, within)), get_or-range_with_len 0 m (k + 1) 0 within)
 
 -- the first of numbers that rise
-rising-take : (n : ℕ) (xs : List ℕ) → IsStrictlyIncreasing xs → IsStrictlyIncreasing (take n xs)
+pub rising-take : (n : ℕ) (xs : List ℕ) → IsStrictlyIncreasing xs → IsStrictlyIncreasing (take n xs)
 rising-take n xs up k lt =
     let size = length-take n xs in
     subst₂ (λ x y. x < y) (sym (get_or-take n xs k 0 (omega (arith, lt, size))))
     (sym (get_or-take n xs (k + 1) 0 (omega (arith, lt, size))))
     (up k (omega (arith, lt, size)))
 
--- new names rise, so none stands twice
-pub fresh_once : (live names : List ℕ) → AreNew live names → Distinct names
-fresh_once live names new =
-    Distinct-from_rises names (rises_from names (subst IsStrictlyIncreasing (sym new)
+-- new names rise
+pub fresh_rising : (live names : List ℕ) → AreNew live names → IsStrictlyIncreasing names
+fresh_rising live names new =
+    subst IsStrictlyIncreasing (sym new)
     (rising-take (length names) (filter (λ k. not (has live k)) (range_with_len 0 (length live + length names)))
     (IsStrictlyIncreasing-filter (λ k. not (has live k)) (range_with_len 0 (length live + length names))
-    (range_rises (length live + length names))))))
+    (range_rises (length live + length names))))
+
+-- so none stands twice
+pub fresh_once : (live names : List ℕ) → AreNew live names → Distinct names
+fresh_once live names new = Distinct-from_rises names (rises_from names (fresh_rising live names new))
 
 -- a new name is not live
 pub fresh_other : (live names : List ℕ) (n m : ℕ) → AreNew live names → Has n names → Has m live → n ≢ m

@@ -11,9 +11,9 @@ mod ToldTrees
 mod PairedTrees
 mod EndPartners
 mod RowPairs
-mod FreshNames
-mod PropagatedRows
-mod PropagatedEnds
+pub mod FreshNames
+pub mod PropagatedRows
+pub mod PropagatedEnds
 mod PropagatedTrees
 mod RowOrders
 mod ReadLeaves
@@ -21,7 +21,7 @@ mod ApartPipes
 mod PropagatedBack
 mod PropagatedOn
 mod PropagatedSolutions
-mod ReadWords
+pub mod ReadWords
 pub mod PropagateLaw
 mod RestrictedGraphs
 pub mod SolvedBlocks

@@ -1,12 +1,13 @@
 -- Propagate keeps solutions (Bläsius, Rutter 2016; Bläsius, Fink, Rutter 2021): where the shape admits the list of the
 -- end, a solution before it gives one after it, and each solution after it, read from the tree planted for the end, is
 -- one before it.
-use Rattle.std.proofs.Common.{◌≡◌, ◌≢◌, ℕ, eqb, cond, List, [], ◌∷◌, ◌++◌, map, reverse, sym, refl, ap, ◌∙◌, subst, inl, inr, IsPermutation}
+use Rattle.std.proofs.Common.{◌≡◌, ◌≢◌, ℕ, suc, eqb, cond, List, [], ◌∷◌, ◌++◌, length, map, reverse, sym, refl, ap, ◌∙◌, subst, inl, inr, IsPermutation}
 use Rattle.std.specs.Prelude.{take}
 use Rattle.std.specs.List.{All, AllByRecursion, Contains}
 use Rattle.std.proofs.lemmas.Bool.{cond-false, cond-true, eq-eqb, ne_eqb}
+use Rattle.std.proofs.lemmas.List.{length-map}
 use Rattle.std.proofs.lemmas.List.Elements.{All-contains}
-use Rattle.std.proofs.lemmas.List.Sorted.{Contains-permutation, IsPermutation-sym}
+use Rattle.std.proofs.lemmas.List.Sorted.{Contains-permutation, IsPermutation-sym, length_permutation}
 use Rattle.cp_lists.specs.CyclicLists.{Distinct, Has, Lacks}
 use Rattle.cp_lists.specs.Turns.{IsTurn}
 use Rattle.cp_lists.proofs.DistinctLists.{Distinct-append_left, Has-append_left, Has-append_right, Has-Contains, Lacks-from, has_lacks}
@@ -26,7 +27,7 @@ use Rattle.cp_board.specs.Rotations.{ArrangesEdges}
 use Rattle.cp_board.specs.Solutions.{IsSolvable, Solves}
 use Rattle.cp_board.specs.Steps.{IsEnd, opposite, partner}
 use Rattle.cp_synclaw.proofs.InstanceDarts.{edges_once}
-use Rattle.cp_plantlaw.specs.NamedTrees.{Named, Paired, PairedRow, first, tops, word}
+use Rattle.cp_plantlaw.specs.NamedTrees.{Named, Paired, PairedRow, first, rows, tops, word}
 use Rattle.cp_plantlaw.specs.Readings.{IsReadBack, ReadsBelow}
 use Rattle.cp_plantlaw.proofs.FreshNames.{fresh_once, fresh_other}
 use Rattle.cp_plantlaw.proofs.LaidTrees.{AreLaid, Kid, KidsLaid, kid_tops, kid_word}
@@ -35,7 +36,7 @@ use Rattle.cp_plantlaw.proofs.PropagatedBack.{Solves-from_trees, not_leaf, told,
 use Rattle.cp_plantlaw.proofs.PropagatedEnds.{Has_old, edges_u-leaves, row_tops, tops_u, u_not_w}
 use Rattle.cp_plantlaw.proofs.PropagatedRows.{forms, old_verts, row_verts, verts_named}
 use Rattle.cp_plantlaw.proofs.PropagatedSolutions.{Solves-planted, t}
-use Rattle.cp_plantlaw.proofs.PropagatedTrees.{Holds, all_both, all_then, laid-all, one_all}
+use Rattle.cp_plantlaw.proofs.PropagatedTrees.{Holds, all_both, all_then, laid-all, one_all, verts_one}
 use Rattle.cp_plantlaw.proofs.ToldTrees.{HaveOneForm}
 use Rattle.cp_plantlaw.proofs.RowPairs.{own_rows}
 use Rattle.cp_plantlaw.proofs.ReadWords.{IsRead, no_top, node_reads, node_word, rows-IsRead, word-ReadsEach}
@@ -79,11 +80,11 @@ module _ (i j : Synchronized) (is_i : IsSynchronized i) (is_j : IsSynchronized j
       (filter-Distinct (ends_at (graph i) u) (edge_names i) (edges_once i is_i))
 
   -- the edges from above of the first tree
-  tops_are : row_tops prop.rows_u ≡ shape.root ∷ prop.edges_u
+  pub tops_are : row_tops prop.rows_u ≡ shape.root ∷ prop.edges_u
   tops_are = tops_u i j is_i p live u end shape edges_u prop
 
   -- no edge is from above of two rows
-  tops_once : Distinct (row_tops prop.rows_u)
+  pub tops_once : Distinct (row_tops prop.rows_u)
   tops_once = subst Distinct (sym tops_are) (
     Lacks-from shape.root prop.edges_u (λ h. fresh_u shape.root shape.root h (leaf_live shape.root (inl refl)) refl),
     Distinct-append_left prop.edges_u prop.edges_w (fresh_once (edge_names i)
@@ -173,6 +174,29 @@ module _ (i j : Synchronized) (is_i : IsSynchronized i) (is_j : IsSynchronized j
           λ xs reads. node_word prop.rows_u tops_once t v.0 shape.root (first inner) xs is reads,
         )
 
+    -- the tree of a kid with the root edges has a node for each planted row
+    kid_tree : (kid : Kid) → kid_tops phi kid ≡ (shape.root, phi shape.root)
+        → KidsLaid phi (Holds t) (kid ∷ []) prop.rows_u prop.rows_w
+        → IsPermutation (leaves shape.body) (kid_word kid)
+        → (v : ℕ) × (ks : Named) × IsRead prop.rows_u tops_once t (Named.node_kid v shape.root ks Named.no_kid)
+        × (length prop.rows_u ≡ suc (length (rows ks)))
+        × IsPermutation (leaves shape.body) (word ks)
+        × ReadsBelow prop.rows_u t shape.root (word ks)
+    kid_tree (Kid.leaf x) same laid arr =
+        absurd (not_leaf i j is_i is_j p live u end shape edges_u prop (Holds t) x laid)
+    kid_tree (Kid.node v g inner) same laid arr =
+        let size = length_permutation (row_verts prop.rows_u)
+        (map (λ r. r.0) ((v.0, shape.root ∷ tops (first inner)) ∷ rows (first inner)))
+        (verts_one i j is_i is_j p live u end shape edges_u prop t v g inner same laid arr) in (
+          v.0,
+          first inner,
+          node_read v g inner same laid arr,
+          sym (length-map prop.rows_u (λ (r : Planted). r.vertex)) ∙ sym size
+              ∙ length-map ((v.0, shape.root ∷ tops (first inner)) ∷ rows (first inner)) (λ (r : ℕ × List ℕ). r.0),
+          arr,
+          (kid_read (Kid.node v g inner) same laid arr).0,
+        )
+
     -- the word that the lists tell
     abbrev told_leaf_word : List ℕ
     told_leaf_word = told_word i j is_i is_j p live u end shape edges_u prop t sol
@@ -183,6 +207,15 @@ module _ (i j : Synchronized) (is_i : IsSynchronized i) (is_j : IsSynchronized j
     told_read =
         let kid = told i j is_i is_j p live u end shape edges_u prop t sol in
         kid_read kid.kid kid.same_tops kid.laid (told_leaves i j is_i is_j p live u end shape edges_u prop t sol)
+
+    -- the tree of the lists: the vertex of its first node, the kids of this, and what is read below the root edge
+    pub told_tree : (v : ℕ) × (ks : Named) × IsRead prop.rows_u tops_once t (Named.node_kid v shape.root ks Named.no_kid)
+        × (length prop.rows_u ≡ suc (length (rows ks)))
+        × IsPermutation (leaves shape.body) (word ks)
+        × ReadsBelow prop.rows_u t shape.root (word ks)
+    told_tree =
+        let kid = told i j is_i is_j p live u end shape edges_u prop t sol in
+        kid_tree kid.kid kid.same_tops kid.laid (told_leaves i j is_i is_j p live u end shape edges_u prop t sol)
 
     -- lists that are read back from a solution after the step solve the instance before it
     pub read_back-Solves : (s : ℕ → List ℕ) → IsReadBack i p u shape.root prop.rows_u t s → Solves i s

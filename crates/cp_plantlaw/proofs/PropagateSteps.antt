@@ -49,15 +49,15 @@ propagate-IsSynchronized i j is pipe u shape allowed after small =
 module _ (i j : Synchronized) (is_i : IsSynchronized i) (is_j : IsSynchronized j) (pipe u : ℕ) (shape : Shape)
     (allowed : Allowed i (Propagate pipe u shape)) (after : After i (Propagate pipe u shape) j) where
   -- the pipe
-  abbrev p : Pipe
+  abbrev pub p : Pipe
   p = after.0
 
   -- it is one of the instance
-  live : Contains i.pipes p
+  pub live : Contains i.pipes p
   live = found-Contains (λ q. eqb q.name pipe) i.pipes p after.1
 
   -- the step fits it
-  fitting : IsFitting i p u shape
+  pub fitting : IsFitting i p u shape
   fitting =
       let both : Some allowed.0 ≡ Some p = sym allowed.1 ∙ after.1 in
       let same : allowed.0 ≡ p = cc in

@@ -259,7 +259,7 @@ module _ (i j : Synchronized) (is_i : IsSynchronized i) (is_j : IsSynchronized j
         (all_images second_row X pairs (pairs_all (λ r. X (second_row r)) h))
 
     -- the vertices of both
-    verts_one : IsPermutation (row_verts prop.rows_u) (map (λ r. r.0) rows_one)
+    pub verts_one : IsPermutation (row_verts prop.rows_u) (map (λ r. r.0) rows_one)
     verts_one = subst₂ IsPermutation (laid_verts phi prop.rows_u prop.rows_w laid.rows laid.laid).0
         (sym (map_map first_row (λ r. r.0) pairs) ∙ ap (map (λ r. r.0)) same_one)
         (IsPermutation-map (λ r. r.vertex.0) laid.rows pairs all_pairs)

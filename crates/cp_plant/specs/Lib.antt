@@ -1,0 +1,2 @@
+-- what functions inside promise each other
+pub mod TreeWords
