@@ -1,0 +1,5 @@
+//! The reduction Propagate of synchronized planarity, which puts an order tree in the place of both ends of a pipe
+//! (Bläsius, Rutter 2016; Bläsius, Fink, Rutter 2021).
+#![tactic(auto)]
+
+mod planting;
