@@ -1,9 +1,9 @@
 -- Rows of planted branches, one kid after another, and a node in front of its kids.
-use Rattle.std.proofs.Common.{◌≡◌, ℕ, suc, ◌+◌, Bool, true, false, List, [], ◌∷◌, ◌++◌, append_assoc, length, map, set, slice_index, sym, refl, ap, ap₂, ◌∙◌, subst, subst₂, arith}
+use Rattle.std.proofs.Common.{◌≡◌, ℕ, suc, ◌+◌, Bool, true, false, List, [], ◌∷◌, ◌++◌, append_assoc, length, map, set, slice_index, sym, refl, ap, ◌∙◌, subst, subst₂, arith}
 use Rattle.std.proofs.Math.Seq.{set-append_seam}
 use Rattle.std.proofs.lemmas.List.{append-nil, length-append, length-map, map-append}
 use Rattle.cp_base.specs.declared.shape.Branch.{Branch}
-use Rattle.cp_base.specs.declared.shape.Branch.TheVariants.{Leaf, P, Q}
+use Rattle.cp_base.specs.declared.shape.Branch.TheVariants.{Leaf}
 use Rattle.cp_board.specs.Plantings.{Planted, Plants, PlantsAll}
 use Rattle.cp_plant.specs.Growing.{AreGrown, AreNamesFrom, IsGrown, first_edge, node_of}
 

@@ -1,2 +1,3 @@
 -- What the functions rest on.
 mod GrownRows
+mod PlantedNumbers

@@ -1,10 +1,27 @@
 -- Order trees that are planted row by row.
-use Rattle.std.specs.Prelude.{◌≡◌, ℕ, suc, Bool, true, false, eqb, List, [], ◌∷◌, ◌++◌, length, map, slice_index}
+use Rattle.std.specs.Prelude.{◌≡◌, ℕ, suc, ◌+◌, Bool, true, false, eqb, List, [], ◌∷◌, ◌++◌, length, map, slice_index}
 use Rattle.std.specs.List.{find}
 use Rattle.std.specs.Option.{option_map_or}
 use Rattle.cp_base.specs.declared.shape.Branch.{Branch}
-use Rattle.cp_base.specs.declared.shape.Branch.TheVariants.{Leaf, P, Q}
+use Rattle.cp_base.specs.declared.shape.Branch.TheVariants.{P, Q}
+use Rattle.cp_base.specs.declared.shape.Branch.TheOpen.{Branch-F}
+use Rattle.cp_base.specs.declared.shape.Branch.TheFolds.{fold-Branch}
 use Rattle.cp_board.specs.Plantings.{Planted, Plants, PlantsAll}
+
+-- all numbers together
+abbrev pub total : List ℕ → ℕ
+total [] = 0
+total (n ∷ ns) = n + total ns
+
+-- the number of inner nodes of a branch, from those of its kids
+abbrev pub inner_nodes_step : Branch-F ℕ → ℕ
+inner_nodes_step (Branch-F.Leaf x) = 0
+inner_nodes_step (Branch-F.P kids) = suc (total kids)
+inner_nodes_step (Branch-F.Q kids) = suc (total kids)
+
+-- the number of inner nodes of a branch
+unfoldable pub inner_nodes : Branch → ℕ
+inner_nodes = fold-Branch ℕ inner_nodes_step
 
 -- the second edge of the first pair that begins with x, and x itself where none does
 abbrev pub partner_in : List (ℕ × ℕ) → ℕ → ℕ

@@ -1,7 +1,7 @@
 // An order tree that is put in the place of a vertex.
-ghost use Rattle.std.specs.Prelude.{◌≡◌, ◌+◌, ◌++◌, ◌∷◌, [], length, slice_index, slice_set, IfOk};
+ghost use Rattle.std.specs.Prelude.{◌≡◌, ◌+◌, suc, ◌++◌, ◌∷◌, [], length, slice_index, slice_set, IfOk};
 ghost use Rattle.cp_board.specs.Plantings.{Plants};
-ghost use Rattle.cp_plant.specs.Growing.{IsGrown, node_of, partner_in};
+ghost use Rattle.cp_plant.specs.Growing.{IsGrown, inner_nodes, node_of, partner_in};
 
 use cp_base::{Branch, Memory, Shape};
 use std::alloc::Global;
@@ -108,4 +108,42 @@ fn plant_node(
         },
     );
     Ok(top)
+}
+
+// The number of inner nodes of a shape. Linear in the shape.
+pub(crate) fn count_nodes(alloc: Global, shape: &Shape) -> Result<usize, Memory>
+    ensures { IfOk result (λ number. number ≡ inner_nodes shape.now.body) }
+{
+    let mut rows = Vec::new(alloc);
+    plant_branch(alloc, &shape.body, &[], &[], &[], &mut rows)?;
+    Ok(rows.as_slice().len())
+}
+
+// Plants the body of a shape below the edge `top`, with these vertices and these edges between them, each node before
+// its kids; a leaf is the partner of its edge. Linear in the shape, up to the search for partners.
+pub(crate) fn plant(
+    alloc: Global,
+    shape: &Shape,
+    partners: &[(usize, usize)],
+    top: usize,
+    verts: &[usize],
+    edges: &[usize],
+) -> Result<Vec<PlantedNode>, Memory>
+    requires verts { length verts.now ≡ inner_nodes shape.now.body }
+    requires edges { suc (length edges.now) ≡ inner_nodes shape.now.body }
+    ensures { IfOk result (λ rows. Plants (partner_in partners.now) shape.now.body top verts.now (top ∷ edges.now) rows.items) }
+{
+    let mut tops = Vec::new(alloc);
+    tops.push(top)?;
+    tops.extend_from_slice(edges)?;
+    let mut rows = Vec::new(alloc);
+    plant_branch(
+        alloc,
+        &shape.body,
+        partners,
+        verts,
+        tops.as_slice(),
+        &mut rows,
+    )?;
+    Ok(rows)
 }

@@ -1,6 +1,6 @@
 -- Kids are planted one after another, and their node in front of them.
-use Rattle.std.proofs.Common.{◌≡◌, ℕ, ◌+◌, Bool, ap₂, List, [], ◌∷◌, ◌++◌, ◌∙◌, slice_index, slice_index_or, take, set, length, sym, ap, subst, subst₂, arith}
-use Rattle.std.proofs.lemmas.List.{append_assoc, take_all, take_more}
+use Rattle.std.proofs.Common.{◌≡◌, ℕ, ◌+◌, Bool, ap₂, List, [], ◌∷◌, ◌++◌, ◌∙◌, slice_index, take, set, length, sym, ap, subst, subst₂, arith}
+use Rattle.std.proofs.lemmas.List.{take_all, take_more}
 use Rattle.cp_base.specs.declared.shape.Branch.{Branch}
 use Rattle.cp_board.specs.Plantings.{Planted}
 use Rattle.cp_plant.specs.Growing.{AreGrown, IsGrown, node_of, partner_in}

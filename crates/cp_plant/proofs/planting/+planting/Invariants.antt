@@ -1,5 +1,5 @@
 -- The first kids are planted behind the row of their node.
-use Rattle.std.proofs.Common.{◌≡◌, ℕ, List, [], ◌∷◌, ◌++◌, slice_index, take, length}
+use Rattle.std.proofs.Common.{◌≡◌, ℕ, List, ◌∷◌, take}
 use Rattle.cp_plant.specs.Growing.{AreGrown, partner_in}
 use Rattle.cp_plant.proofs.planting.+planting.Given as goal
 
