@@ -3,3 +3,6 @@
 #![tactic(auto)]
 
 mod planting;
+mod propagates;
+
+pub use propagates::propagate_keeps_solvable;
