@@ -4,5 +4,6 @@
 
 mod planting;
 mod propagates;
+mod rewriting;
 
 pub use propagates::propagate_keeps_solvable;
