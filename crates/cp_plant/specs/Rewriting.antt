@@ -1,5 +1,5 @@
 -- The parts of the rewrite that Propagate makes: a vertex and a move at a time.
-use Rattle.std.specs.Prelude.{ℕ, suc, cond, ltb, Bool, true, false, List, [], ◌∷◌, map, reverse, slice_index}
+use Rattle.std.specs.Prelude.{ℕ, suc, cond, ltb, Bool, true, false, List, [], ◌∷◌, ◌++◌, map, reverse, slice_index}
 use Rattle.std.specs.List.{zip}
 use Rattle.cp_lists.specs.Turns.{turned_to_least}
 use Rattle.cp_board.specs.declared.parts.Kind.{Kind}
@@ -7,8 +7,9 @@ use Rattle.cp_board.specs.declared.parts.Kind.TheVariants.{P, Q}
 use Rattle.cp_board.specs.declared.parts.Vert.{Vert}
 use Rattle.cp_board.specs.declared.parts.Pipe.{Pipe}
 use Rattle.cp_board.specs.declared.rewrite.EdgeMove.{EdgeMove}
+use Rattle.cp_board.specs.declared.rewrite.Rewrite.{Rewrite}
 use Rattle.cp_board.specs.Changes.{pairs_by_first}
-use Rattle.cp_board.specs.Plantings.{Planted, holder}
+use Rattle.cp_board.specs.Plantings.{Planted, holder, tree_edges}
 
 -- edges in their order, or in its reverse in the mirror
 abbrev pub order_of : Bool → List ℕ → List ℕ
@@ -63,3 +64,22 @@ end_moves u rows edges = map (λ e. record { edge = e; from = u; to = holder row
 abbrev pub place_of : List (ℕ × ℕ) → ℕ → ℕ
 place_of [] e = 0
 place_of (y ∷ ys) e = cond (ltb e y.0) 0 (suc (place_of ys e))
+
+-- what is planted at one end: the end and its edges, the rows, and the names of the edges between nodes
+pub record PlantedEnd : Type 0 where
+  pub end : ℕ
+  pub own : List ℕ
+  pub rows : List Planted
+  pub edges : List ℕ
+
+-- the rewrite of Propagate: pipe and ends go, and what is planted at both ends comes, with these cells and names of pipes
+abbrev pub propagating : ℕ → PlantedEnd → PlantedEnd → List ℕ → List ℕ → Rewrite
+propagating pipe u w cells names = record {
+  drop_pipes = pipe ∷ [];
+  drop_verts = u.end ∷ w.end ∷ [];
+  add_verts = planted_verts false cells 0 u.rows ++ planted_verts true cells 0 w.rows;
+  set_kinds = [];
+  moves = end_moves u.end u.rows u.own ++ end_moves w.end w.rows w.own;
+  add_edges = tree_edges u.rows u.edges ++ tree_edges w.rows w.edges;
+  add_pipes = planted_pipes names 0 (zip u.rows w.rows);
+}

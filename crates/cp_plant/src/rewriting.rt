@@ -1,17 +1,37 @@
 // The rewrite of Propagate, from the rows that are planted at both ends of the pipe.
-ghost use Rattle.std.specs.Prelude.{◌≡◌, ◌++◌, drop, length, slice_index, take, IfOk, OnOk};
+ghost use Rattle.std.specs.Prelude.{◌≡◌, ◌++◌, false, true, slice_index, take, IfOk, OnOk};
 ghost use Rattle.std.specs.List.{zip};
 ghost use Rattle.cp_board.specs.Changes.{pairs_by_first};
 ghost use Rattle.cp_board.specs.Names.{has, put};
 ghost use Rattle.cp_board.specs.Plantings.{holder, lower_end, tree_edges};
-ghost use Rattle.cp_plant.specs.Rewriting.{end_moves, order_of, place_of, planted_pipe, planted_pipes, planted_vert, planted_verts};
+ghost use Rattle.cp_plant.specs.Rewriting.{end_moves, order_of, place_of, planted_pipe, planted_pipes, planted_vert, planted_verts, propagating};
 ghost use Rattle.cp_board.specs.declared.parts.Kind.TheVariants.{Q};
 ghost use Rattle.cp_lists.specs.Turns.{turned_to_least};
 
 use crate::planting::PlantedNode;
 use cp_base::{CycList, Items, Memory};
-use cp_board::{EdgeMove, EdgeRow, EdgeRows, Kind, Moves, Pairs, Pipe, Pipes, Vert, Verts};
+use cp_board::{
+    EdgeMove, EdgeRow, EdgeRows, Kind, Moves, Pairs, Pipe, Pipes, Rewrite, Vert, Verts,
+};
 use std::alloc::Global;
+use std::marker::Model;
+
+// What is planted at one end of a pipe: the end and its edges, the rows, and the names of the edges between nodes.
+#[derive(Debug, Drop)]
+pub(crate) struct PlantedEnd {
+    pub(crate) end: usize,
+    pub(crate) own: Vec<usize>,
+    pub(crate) rows: Vec<PlantedNode>,
+    pub(crate) edges: Vec<usize>,
+}
+
+impl Model for PlantedEnd {
+    ghost use Rattle.cp_plant.specs.Rewriting.{PlantedEnd as SpecEnd};
+
+    ghost Value = { SpecEnd };
+
+    ghost view = { λ e. record { end = e.end; own = e.own.items; rows = e.rows.items; edges = e.edges.items } };
+}
 
 // Whether the edge is one of these. Linear.
 fn holds(edges: &[usize], edge: usize) -> bool
@@ -236,4 +256,74 @@ fn push_pipes(
         }
     }
     Ok(())
+}
+
+// The new vertices of both ends. Linear in the edges of the rows.
+fn both_verts(
+    alloc: Global,
+    u: &PlantedEnd,
+    w: &PlantedEnd,
+    cells: &[usize],
+) -> Result<Verts, Memory>
+    ensures { IfOk result (λ verts. verts ≡ planted_verts false cells.now 0 u.now.rows ++ planted_verts true cells.now 0 w.now.rows) }
+{
+    let mut verts = Items::new(alloc);
+    push_verts(alloc, false, cells, u.rows.as_slice(), &mut verts)?;
+    push_verts(alloc, true, cells, w.rows.as_slice(), &mut verts)?;
+    Ok(verts)
+}
+
+// The moves of the edges of both ends. At most quadratic.
+fn both_moves(alloc: Global, u: &PlantedEnd, w: &PlantedEnd) -> Result<Moves, Memory>
+    ensures { IfOk result (λ moves. moves ≡ end_moves u.now.end u.now.rows u.now.own ++ end_moves w.now.end w.now.rows w.now.own) }
+{
+    let mut moves = Items::new(alloc);
+    push_moves(u.end, u.rows.as_slice(), u.own.as_slice(), &mut moves)?;
+    push_moves(w.end, w.rows.as_slice(), w.own.as_slice(), &mut moves)?;
+    Ok(moves)
+}
+
+// The edges between the nodes at both ends. At most quadratic.
+fn both_edges(alloc: Global, u: &PlantedEnd, w: &PlantedEnd) -> Result<EdgeRows, Memory>
+    ensures { IfOk result (λ edges. edges ≡ tree_edges u.now.rows u.now.edges ++ tree_edges w.now.rows w.now.edges) }
+{
+    let mut edges = Items::new(alloc);
+    push_tree_edges(u.rows.as_slice(), u.edges.as_slice(), &mut edges)?;
+    push_tree_edges(w.rows.as_slice(), w.edges.as_slice(), &mut edges)?;
+    Ok(edges)
+}
+
+// The rewrite of Propagate from what is planted at both ends. At most quadratic in the edges of the rows.
+pub(crate) fn rewrite_of(
+    alloc: Global,
+    pipe: usize,
+    u: &PlantedEnd,
+    w: &PlantedEnd,
+    cells: &[usize],
+    names: &[usize],
+) -> Result<Rewrite, Memory>
+    ensures { IfOk result (λ r. r ≡ propagating pipe u.now w.now cells.now names.now) }
+{
+    let mut drop_pipes = Items::new(alloc);
+    drop_pipes.push(pipe)?;
+    let mut drop_verts = Items::new(alloc);
+    drop_verts.push(u.end)?;
+    drop_verts.push(w.end)?;
+    let mut add_pipes = Items::new(alloc);
+    push_pipes(
+        alloc,
+        names,
+        u.rows.as_slice(),
+        w.rows.as_slice(),
+        &mut add_pipes,
+    )?;
+    Ok(Rewrite {
+        drop_pipes,
+        drop_verts,
+        add_verts: both_verts(alloc, u, w, cells)?,
+        set_kinds: Items::new(alloc),
+        moves: both_moves(alloc, u, w)?,
+        add_edges: both_edges(alloc, u, w)?,
+        add_pipes,
+    })
 }
