@@ -7,3 +7,6 @@ mod propagates;
 mod rewriting;
 
 pub use propagates::propagate_keeps_solvable;
+
+#[cfg(test)]
+mod tests;
