@@ -1,2 +1,4 @@
 -- what functions inside promise each other
+pub mod Growing
+pub mod Rewriting
 pub mod TreeWords
