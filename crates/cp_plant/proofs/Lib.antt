@@ -10,3 +10,4 @@ mod FoundVertices
 mod RowNodes
 mod TreeReadings
 mod EarlierRows
+mod SolutionsBack

@@ -1,12 +1,11 @@
 -- What is read of a tree with named nodes, step by step, is its word.
-use Rattle.std.proofs.Common.{◌≡◌, ◌≢◌, ℕ, zero, suc, ◌+◌, eqb, cond, List, [], ◌∷◌, ◌++◌, append_assoc, length, map, reverse, sym, refl, ap, ◌∙◌, subst, ap₂, inl, ⊎_elim, arith}
+use Rattle.std.proofs.Common.{◌≡◌, ◌≢◌, ℕ, suc, ◌+◌, eqb, List, [], ◌∷◌, ◌++◌, append_assoc, length, reverse, sym, refl, ap, ◌∙◌, ap₂, inl, ⊎_elim, arith}
 use Rattle.std.specs.Prelude.{None, Some, take}
 use Rattle.std.specs.List.{All, Contains}
 use Rattle.std.proofs.lemmas.Bool.{cases_eq, cond-false, cond-true, eq-eqb, ne_eqb}
 use Rattle.std.proofs.lemmas.List.{append-nil, length-append, reverse-append}
-use Rattle.cp_lists.specs.CyclicLists.{Distinct, Has, Lacks}
+use Rattle.cp_lists.specs.CyclicLists.{Distinct, Has}
 use Rattle.cp_lists.specs.Turns.{IsTurn}
-use Rattle.cp_lists.proofs.DistinctLists.{Distinct-middle}
 use Rattle.cp_lists.proofs.TurnedLists.{turn-Distinct, turn-Has, turn-sym, turn-trans, turn_from_parts, turn_same}
 use Rattle.cp_board.specs.Plantings.{Planted}
 use Rattle.cp_plantlaw.specs.NamedTrees.{Named, rows, tops, word}

@@ -2,3 +2,4 @@
 pub mod Growing
 pub mod Rewriting
 pub mod TreeWords
+pub mod PropagateSteps

@@ -9,6 +9,7 @@ mod rewriting;
 mod turning_back;
 
 pub use propagates::propagate_keeps_solvable;
+pub use turning_back::{back, propagate_back};
 
 #[cfg(test)]
 mod tests;
