@@ -1,9 +1,9 @@
--- The links of the instances of a store, when a rewrite comes and when one is taken back.
-use Rattle.std.proofs.Common.{◌≡◌, ℕ, ◌+◌, ◌^◌, ◌<◌, ◌≤◌, Bool, true, false, ◌||◌, ◌&&◌, eqb, ltb, List, [], ◌∷◌, ◌++◌, length, map, take, reverse, slice_index_or, sym, refl, ap, ◌∙◌, subst, arith}
+-- Links that are kept, links by equal tests, and those of the edges of an instance.
+use Rattle.std.proofs.Common.{◌≡◌, ℕ, ◌+◌, ◌^◌, ◌<◌, Bool, true, false, ◌||◌, ◌&&◌, eqb, ltb, List, [], ◌∷◌, ◌++◌, length, map, take, slice_index_or, sym, refl, ap, ◌∙◌, subst, arith}
 use Rattle.std.specs.Prelude.{filter}
 use Rattle.std.specs.List.{All}
 use Rattle.std.proofs.lemmas.Bool.{and_parts, and_from, cond_both, eqb-true, ltb-true, lt-ltb}
-use Rattle.std.proofs.lemmas.List.{reverse-append, take_more}
+use Rattle.std.proofs.lemmas.List.{take_more}
 use Rattle.std.proofs.lemmas.List.Elements.{All-nil, All-cons, All-head, All-tail, All-filter}
 use Rattle.cp_board.specs.declared.parts.EdgeRow.{EdgeRow}
 use Rattle.cp_board.specs.declared.rewrite.EdgeMove.{EdgeMove}
@@ -13,15 +13,12 @@ use Rattle.cp_board.proofs.ListTests.{rises, IsStrictlyIncreasing-from_test, Con
 use Rattle.cp_board.proofs.NamedLists.{rises_from, rises-filter}
 use Rattle.cp_sync.proofs.EqualOrders.{rising_same, eqb_comm}
 use Rattle.cp_store.specs.declared.links.Link.{Link}
-use Rattle.cp_store.specs.declared.parts.Change.{Change}
 use Rattle.cp_store.specs.Ranks.{rank}
 use Rattle.cp_store.specs.Forests.{items_at, Keeps}
 use Rattle.cp_store.specs.Links.{link_number, AreLinks, HasLinks, with_link, without_link}
 use Rattle.cp_store.specs.EdgeLinks.{has_end, joins, moved_links, added_links}
-use Rattle.cp_store.specs.Parts.{undone}
-use Rattle.cp_store.specs.Indexes.{AreLinkedBefore, IsLinked}
 use Rattle.cp_store.proofs.LinkChanges.{eqb-rank}
-use Rattle.cp_store.proofs.KeyNames.{names_under}
+use Rattle.cp_store.specs.Links.{names_under}
 use Rattle.cp_store.proofs.EdgeMoves.{row_name}
 use Rattle.cp_store.proofs.EdgeTests.{edges-links}
 use Rattle.cp_store.proofs.StoredRewrites.{has-Contains}
@@ -64,99 +61,13 @@ HasLinks-keeps ls ms root test keeps has = record {
 }
 
 -- links by another test that takes the same
-pub HasLinks-same : (ls : List (List Link)) (root : ℕ) (test other : ℕ → ℕ → Bool) → ((v n : ℕ) → test v n ≡ other v n)
+pub HasLinks-same : (ls : List (List Link)) (root : ℕ) (test other : ℕ → ℕ → Bool)
+    → ((v n : ℕ) → n < 18446744073709551616 → test v n ≡ other v n)
     → HasLinks ls root test → HasLinks ls root other
 HasLinks-same ls root test other same has = record {
   within = has.within;
-  links = record { rise = has.links.rise; fit = has.links.fit; each = λ v n lt. has.links.each v n lt ∙ same v n };
+  links = record { rise = has.links.rise; fit = has.links.fit; each = λ v n lt. has.links.each v n lt ∙ same v n lt };
 }
-
--- trees among the first nodes stay where these are kept
-AreLinkedBefore-through : (ls ms : List (List Link)) (mark : ℕ) (cs : List Change) (i : Synchronized) → mark ≤ length ms
-    → ((root : ℕ) → root ≤ mark → items_at ms root ≡ items_at ls root)
-    → AreLinkedBefore ls mark cs i → AreLinkedBefore ms mark cs i
-AreLinkedBefore-through ls ms mark [] i long same are = tt
-AreLinkedBefore-through ls ms mark (c ∷ cs) i long same are = (
-  are.0,
-  are.1,
-  record {
-    within = omega (arith, are.0, are.1, long);
-    links = subst (AreLinks (joins (undone c i).edges)) (sym (same c.ends (omega (arith, are.0, are.1)))) are.2.links;
-  },
-  AreLinkedBefore-through ls ms c.mark cs (undone c i) (omega (arith, are.0, long))
-      (λ root le. same root (omega (arith, le, are.0))) are.3,
-)
-
--- the trees before the changes lie among more nodes too
-AreLinkedBefore-more : (ls : List (List Link)) (mark more : ℕ) (cs : List Change) (i : Synchronized) → mark ≤ more
-    → AreLinkedBefore ls mark cs i → AreLinkedBefore ls more cs i
-AreLinkedBefore-more ls mark more [] i le are = tt
-AreLinkedBefore-more ls mark more (c ∷ cs) i le are = (omega (arith, le, are.0), are.1, are.2, are.3)
-
--- more nodes, and the same instance
-pub IsLinked-keeps : (ls ms : List (List Link)) (ends : ℕ) (log : List Change) (i j : Synchronized) → Keeps ls ms
-    → j ≡ i
-    → IsLinked ls ends log i → IsLinked ms ends log j
-IsLinked-keeps ls ms ends log i j keeps same is =
-    subst (IsLinked ms ends log) (sym same) record {
-      now = HasLinks-keeps ls ms ends (joins i.edges) keeps is.now;
-      before = AreLinkedBefore-more ms (length ls) (length ms) (reverse log) i keeps.longer
-          (AreLinkedBefore-through ls ms (length ls) (reverse log) i keeps.longer keeps.same is.before);
-    }
-
--- one change more
-pub IsLinked-pushed : (ls ms : List (List Link)) (ends new : ℕ) (log : List Change) (c : Change) (i j : Synchronized)
-    → Keeps ls ms
-    → c.mark ≡ length ls → c.ends ≡ ends → undone c j ≡ i
-    → HasLinks ms new (joins j.edges)
-    → IsLinked ls ends log i
-    → IsLinked ms new (log ++ c ∷ []) j
-IsLinked-pushed ls ms ends new log c i j keeps mark was back has is =
-    let old = IsLinked-keeps ls ms ends log i i keeps refl is in
-    let through = AreLinkedBefore-through ls ms (length ls) (reverse log) i keeps.longer keeps.same is.before in
-    record {
-      now = has;
-      before = subst (λ cs. AreLinkedBefore ms (length ms) cs j) (sym (reverse-append log (c ∷ []))) (
-        omega (arith, mark, keeps.longer),
-        omega (arith, mark, was, is.now.within),
-        subst (λ k. HasLinks ms c.ends (joins k.edges)) (sym back)
-            (subst (λ r. HasLinks ms r (joins i.edges)) (sym was) old.now),
-        subst (λ k. AreLinkedBefore ms c.mark (reverse log) k) (sym back)
-            (subst (λ k. AreLinkedBefore ms k (reverse log) i) (sym mark) through),
-      );
-    }
-
--- what is known of the last change
-last_change : (ls : List (List Link)) (ends : ℕ) (whole log : List Change) (c : Change) (i : Synchronized)
-    → whole ≡ log ++ c ∷ []
-    → IsLinked ls ends whole i → AreLinkedBefore ls (length ls) (c ∷ reverse log) i
-last_change ls ends whole log c i last is =
-    subst (λ cs. AreLinkedBefore ls (length ls) cs i) (ap reverse last ∙ reverse-append log (c ∷ [])) is.before
-
--- the mark of the last change lies among the nodes
-pub mark-popped : (ls : List (List Link)) (ends : ℕ) (whole log : List Change) (c : Change) (i : Synchronized)
-    → whole ≡ log ++ c ∷ []
-    → IsLinked ls ends whole i → c.mark ≤ length ls
-mark-popped ls ends whole log c i last is = (last_change ls ends whole log c i last is).0
-
--- one change fewer
-pub IsLinked-popped : (ls ms : List (List Link)) (ends : ℕ) (whole log : List Change) (c : Change) (i j : Synchronized)
-    → whole ≡ log ++ c ∷ []
-    → length ms ≡ c.mark → Keeps ms ls → j ≡ undone c i
-    → IsLinked ls ends whole i
-    → IsLinked ms c.ends log j
-IsLinked-popped ls ms ends whole log c i j last size keeps same is =
-    let are = last_change ls ends whole log c i last is in
-    let kept : (root : ℕ) → root ≤ c.mark
-    → items_at ms root ≡ items_at ls root = λ root le. sym (keeps.same root (omega (arith, le, size))) in
-    subst (IsLinked ms c.ends log) (sym same) record {
-      now = record {
-        within = omega (arith, size, are.1);
-        links = subst (AreLinks (joins (undone c i).edges)) (sym (kept c.ends are.1)) are.2.links;
-      };
-      before = subst (λ k. AreLinkedBefore ms k (reverse log) (undone c i)) (sym size)
-          (AreLinkedBefore-through ls ms c.mark (reverse log) (undone c i) (omega (arith, size)) kept are.3);
-    }
 
 -- a forest without nodes has a tree without links
 pub HasLinks-none : HasLinks [] 0 (λ v n. false)
@@ -174,7 +85,7 @@ HasLinks-none = record {
 pub HasLinks-edges : (ls : List (List Link)) (root : ℕ) (es : List EdgeRow)
     → HasLinks ls root (added_links es (λ v n. false)) → HasLinks ls root (joins es)
 HasLinks-edges ls root es = HasLinks-same ls root (added_links es (λ v n. false)) (joins es)
-    (edges-links es [] (λ v n. false) (λ v n. refl))
+    (λ v n lt. edges-links es [] (λ v n. false) (λ v n. refl) v n)
 
 -- names of links of one key rise
 names-rise : (key : ℕ) (xs : List Link) → All (λ x. x.key ≡ key) xs → rises (map link_number xs) ≡ true
@@ -201,7 +112,7 @@ All-of_key key (x ∷ xs) =
     (λ f. All-of_key key xs)
 
 -- a name has the key where there is a link
-has-names_under : (key n : ℕ) (xs : List Link) → n < 18446744073709551616 → All (λ x. x.name < 18446744073709551616) xs
+pub has-names_under : (key n : ℕ) (xs : List Link) → n < 18446744073709551616 → All (λ x. x.name < 18446744073709551616) xs
     → has (names_under key xs) n ≡ has (map link_number xs) (rank (key, n))
 has-names_under key n [] lt fit = refl
 has-names_under key n (x ∷ xs) lt fit =
@@ -240,14 +151,14 @@ has-names_at (e ∷ es) v n =
     neither false = refl
 
 -- what holds of the values of all items holds of all values
-All-values : {A : Type 0} (f : A → ℕ) (holds : ℕ → Type 0) (xs : List A) → All (λ x. holds (f x)) xs
+pub All-values : {A : Type 0} (f : A → ℕ) (holds : ℕ → Type 0) (xs : List A) → All (λ x. holds (f x)) xs
     → All holds (map f xs)
 All-values f holds [] all = All-nil holds
 All-values f holds (x ∷ xs) all = All-cons holds (f x) (map f xs) (All-head (λ y. holds (f y)) x xs all)
     (All-values f holds xs (All-tail (λ y. holds (f y)) x xs all))
 
 -- what holds of all values of items holds of the values of all items
-All-items : {A : Type 0} (f : A → ℕ) (holds : ℕ → Type 0) (xs : List A) → All holds (map f xs)
+pub All-items : {A : Type 0} (f : A → ℕ) (holds : ℕ → Type 0) (xs : List A) → All holds (map f xs)
     → All (λ x. holds (f x)) xs
 All-items f holds [] all = All-nil (λ x. holds (f x))
 All-items f holds (x ∷ xs) all = All-cons (λ y. holds (f y)) x xs (All-head holds (f x) (map f xs) all)

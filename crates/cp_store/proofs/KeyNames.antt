@@ -9,13 +9,9 @@ use Rattle.cp_board.proofs.NamedLists.{under_all}
 use Rattle.cp_board.proofs.Rules.{All-first, All-second}
 use Rattle.cp_store.specs.declared.links.Link.{Link}
 use Rattle.cp_store.specs.Forests.{items_at, IsOpened}
-use Rattle.cp_store.specs.Links.{link_number, IsLinkTree}
+use Rattle.cp_store.specs.Links.{link_number, IsLinkTree, names_under}
 use Rattle.cp_store.proofs.Sides.{below, HasSides}
 use Rattle.cp_store.proofs.Openings.{sides, rise-before, rise-behind}
-
--- the names that have a key
-abbrev pub names_under : ℕ → List Link → List ℕ
-names_under key xs = map (λ x. x.name) (filter (λ x. eqb x.key key) xs)
 
 -- the names that have a key in two lists of links
 names_under-append : (key : ℕ) (xs ys : List Link)

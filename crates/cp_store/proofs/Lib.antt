@@ -18,3 +18,6 @@ mod LinkChanges
 mod KeyNames
 mod EdgeTests
 mod Indexes
+mod StoredIndexes
+mod PipeTests
+mod PipeReads

@@ -7,6 +7,7 @@ pub mod Ranks
 pub mod Forests
 pub mod Links
 pub mod EdgeLinks
+pub mod PipeLinks
 pub mod Rewriting
 pub mod Parts
 pub mod Indexes

@@ -1,6 +1,6 @@
 -- Links from keys to names, in the order of their keys and names.
-use Rattle.std.specs.Prelude.{◌≡◌, ℕ, ◌<◌, ◌≤◌, Bool, not, ◌&&◌, ◌||◌, eqb, List, length, map}
-use Rattle.std.specs.List.{All}
+use Rattle.std.specs.Prelude.{◌≡◌, ℕ, ◌-◌, ◌<◌, ◌≤◌, Bool, not, ◌&&◌, ◌||◌, eqb, List, length, map}
+use Rattle.std.specs.List.{All, filter}
 use Rattle.std.specs.List.Sorted.{IsStrictlyIncreasing}
 use Rattle.cp_store.specs.declared.links.Link.{Link}
 use Rattle.cp_board.specs.Names.{has}
@@ -35,3 +35,12 @@ pub record IsLinkTree (ls : List (List Link)) (root : ℕ) : Type 0 where
   pub within : root ≤ length ls
   pub rise : IsStrictlyIncreasing (map link_number (items_at ls root))
   pub fit : All (λ x. x.name < 18446744073709551616) (items_at ls root)
+
+-- the test by names that are counted down from the greatest number of 64 bits: of links of one key the last one has
+-- the least name
+abbrev pub down : (ℕ → ℕ → Bool) → ℕ → ℕ → Bool
+down test key n = test key (18446744073709551615 - n)
+
+-- the names that have a key
+abbrev pub names_under : ℕ → List Link → List ℕ
+names_under key xs = map (λ x. x.name) (filter (λ x. eqb x.key key) xs)

@@ -1,5 +1,5 @@
 // The links from the ends of edges to the names of the edges.
-ghost use Rattle.std.specs.Prelude.{◌≡◌, ℕ, Bool, length, IfOk, OnErr};
+ghost use Rattle.std.specs.Prelude.{ℕ, Bool, IfOk};
 ghost use Rattle.cp_store.specs.Forests.{Keeps};
 ghost use Rattle.cp_store.specs.Links.{IsLinkTree, HasLinks};
 ghost use Rattle.cp_store.specs.EdgeLinks.{moved_links, added_links};
@@ -51,7 +51,11 @@ pub(crate) fn with_edges(
 }
 
 // The links after a rewrite. Logarithmic for each end of an edge that moves or comes.
-fn rewritten_links(forest: &mut Forest<Link>, root: usize, w: &Rewrite) -> Result<usize, Memory>
+pub(crate) fn rewritten_links(
+    forest: &mut Forest<Link>,
+    root: usize,
+    w: &Rewrite,
+) -> Result<usize, Memory>
     requires { IsLinkTree forest.old root }
     ensures keeps { Keeps forest.old forest.new }
     ensures links { IfOk result (λ new. (test : ℕ → ℕ → Bool) → HasLinks forest.old root test
@@ -59,27 +63,4 @@ fn rewritten_links(forest: &mut Forest<Link>, root: usize, w: &Rewrite) -> Resul
 {
     let moved = with_moves(forest, root, w.moves.items())?;
     with_edges(forest, moved, w.add_edges.items())
-}
-
-// The links after a rewrite. Logarithmic for each end of an edge that moves or comes. After want of memory no node is
-// left of those that were made.
-pub(crate) fn with_rewrite(
-    forest: &mut Forest<Link>,
-    root: usize,
-    w: &Rewrite,
-) -> Result<usize, Memory>
-    requires { IsLinkTree forest.old root }
-    ensures keeps { Keeps forest.old forest.new }
-    ensures length { OnErr result (length forest.new ≡ length forest.old) }
-    ensures links { IfOk result (λ new. (test : ℕ → ℕ → Bool) → HasLinks forest.old root test
-        → HasLinks forest.new new (added_links w.now.add_edges (moved_links w.now.moves test))) }
-{
-    let mark = forest.len();
-    match rewritten_links(forest, root, w) {
-        Ok(new) => Ok(new),
-        Err(Memory) => {
-            forest.cut(mark);
-            Err(Memory)
-        }
-    }
 }

@@ -1,51 +1,39 @@
 // The pipe of greatest degree.
-ghost use Rattle.std.specs.Prelude.{◌++◌, ◌∷◌, [], List, Some};
+ghost use Rattle.std.specs.Prelude.{◌≤◌, ◌<◌, length, List};
+ghost use Rattle.std.specs.List.{All};
 ghost use Rattle.cp_board.specs.declared.parts.Pipe.{Pipe};
-ghost use Rattle.cp_store.specs.Exchanges.{with_item, items_of};
+ghost use Rattle.cp_store.specs.Forests.{items_at};
+ghost use Rattle.cp_store.specs.Links.{IsLinkTree, HasLinks, down};
+ghost use Rattle.cp_store.specs.PipeLinks.{IsLast, has_degree, pipe_links};
 ghost use Rattle.cp_store.specs.BestPipe.{IsBest};
 
-use crate::entry::Entry;
-use crate::table::Table;
-use cp_board::Pipe;
+use crate::forest::Forest;
+use crate::links::Link;
 
-// Degree and name of the best of some pipes and of one more.
-fn better(best: Option<(usize, usize)>, p: &Pipe) -> (usize, usize)
-    ensures { (ps : List Pipe) → IsBest ps best → IsBest (ps ++ p.now ∷ []) (Some result) }
+// The last link of a tree, or `None` where it has none. Logarithmic.
+fn last_link(forest: &Forest<Link>, root: usize) -> Option<Link>
+    requires { root ≤ length forest.now }
+    ensures { IsLast (items_at forest.now root) result }
 {
-    let degree = p.pairs.len();
-    match best {
-        None => (degree, p.name),
-        Some((most, name)) => {
-            if most < degree {
-                (degree, p.name)
-            } else if degree < most {
-                (most, name)
-            } else if p.name < name {
-                (most, p.name)
-            } else {
-                (most, name)
-            }
-        }
+    if root == 0 {
+        return None;
+    }
+    let node = forest.node(root);
+    match last_link(forest, node.behind) {
+        None => Some(node.item),
+        Some(link) => Some(link),
     }
 }
 
-// Degree and name of the best of some pipes and of the one of the entry, if it has one.
-fn better_of(best: Option<(usize, usize)>, entry: &Entry<Pipe>) -> Option<(usize, usize)>
-    ensures { (ps : List Pipe) → IsBest ps best → IsBest (ps ++ with_item entry.now.item []) result }
+// Degree and name of the pipe of greatest degree and least name, or `None` where there is no pipe, from the links of
+// the degrees to the names, counted down. Logarithmic.
+pub(crate) fn best_pipe(forest: &Forest<Link>, ranks: usize) -> Option<(usize, usize)>
+    requires { IsLinkTree forest.now ranks }
+    ensures { (ps : List Pipe) → All (λ p. p.name < 18446744073709551616) ps
+        → HasLinks forest.now ranks (down (pipe_links has_degree ps)) → IsBest ps result }
 {
-    match &entry.item {
-        None => best,
-        Some(p) => Some(better(best, p)),
+    match last_link(forest, ranks) {
+        None => None,
+        Some(link) => Some((link.key, usize::MAX - link.name)),
     }
-}
-
-// Degree and name of the pipe of greatest degree and least name, or `None` where there is no pipe. Linear.
-pub(crate) fn best_pipe(table: &Table<Pipe>) -> Option<(usize, usize)>
-    ensures { IsBest (items_of table.now.entries.items) result }
-{
-    let mut best = None;
-    for entry in table.entries.as_slice() {
-        best = better_of(best, entry);
-    }
-    best
 }

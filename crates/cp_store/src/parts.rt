@@ -10,6 +10,7 @@ ghost use Rattle.cp_store.specs.Parts.{told, AreTables, undone, HasRoom, HasMore
 
 use crate::changes::{exchange_all, reserve_entries, take_back};
 use crate::entry::Entry;
+use crate::links::{Roots, no_roots};
 use crate::moves::move_ends;
 use crate::table::Table;
 use cp_base::Memory;
@@ -33,8 +34,8 @@ pub(crate) struct Change {
     // What stood under the names of the new edges.
     pub(crate) edges: Vec<Entry<EdgeRow>>,
     pub(crate) pipes: Vec<Entry<Pipe>>,
-    // The tree of the links of the edges, and the number of nodes of the trees.
-    pub(crate) ends: usize,
+    // The trees of the links, and the number of nodes of the trees.
+    pub(crate) roots: Roots,
     pub(crate) mark: usize,
 }
 
@@ -94,7 +95,7 @@ pub(crate) fn empty_for(alloc: Global, plan: &Change, moves: usize) -> Result<Ch
         moved,
         edges,
         pipes,
-        ends: 0,
+        roots: no_roots(),
         mark: 0,
     })
 }
@@ -121,16 +122,16 @@ pub(crate) fn make_change(parts: &mut Parts, plan: Change, moves: &[EdgeMove], d
     exchange_all(&mut parts.pipes, plan.pipes, &mut done.pipes);
 }
 
-// The change with the tree of the links before it, and the number of nodes.
-pub(crate) fn with_links(change: Change, ends: usize, mark: usize) -> Change
-    ensures { result ≡ record change { ends = ends; mark = mark } }
+// The change with the trees of the links before it, and the number of nodes.
+pub(crate) fn with_links(change: Change, roots: Roots, mark: usize) -> Change
+    ensures { result ≡ record change { roots = roots; mark = mark } }
 {
     Change {
         verts: change.verts,
         moved: change.moved,
         edges: change.edges,
         pipes: change.pipes,
-        ends,
+        roots,
         mark,
     }
 }

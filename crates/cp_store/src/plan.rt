@@ -5,6 +5,7 @@ ghost use Rattle.cp_store.specs.Parts.{IsPlanOf};
 
 use crate::copies::Part;
 use crate::entry::Entry;
+use crate::links::no_roots;
 use crate::named::Named;
 use crate::parts::Change;
 use cp_base::Memory;
@@ -59,7 +60,7 @@ pub(crate) fn plan_of(alloc: Global, w: &Rewrite) -> Result<Change, Memory>
         moved: Vec::new(alloc),
         edges,
         pipes,
-        ends: 0,
+        roots: no_roots(),
         mark: 0,
     })
 }

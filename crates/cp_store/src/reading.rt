@@ -1,7 +1,5 @@
 // What a table tells.
 ghost use Rattle.std.specs.Prelude.{◌≡◌, ◌≤◌, ◌++◌, [], length, IfOk, OnOk};
-ghost use Rattle.std.specs.Option.{option_map};
-ghost use Rattle.cp_board.specs.Instances.{pipe_with};
 ghost use Rattle.cp_board.specs.Runs.{slots};
 ghost use Rattle.cp_store.specs.Exchanges.{with_item, items_of};
 ghost use Rattle.cp_store.specs.Parts.{told, AreTables};
@@ -11,7 +9,6 @@ use crate::entry::Entry;
 use crate::parts::Parts;
 use crate::table::Table;
 use cp_base::{Items, Memory};
-use cp_board::Pipe;
 use std::alloc::Global;
 
 // How many items the entry has.
@@ -66,20 +63,6 @@ pub(crate) fn copied_table<T: Part + Drop>(
         append_copy(alloc, entry, &mut items)?;
     }
     Ok(items)
-}
-
-// The name of the pipe of which `v` is an end. Linear in the entries.
-pub(crate) fn pipe_ending_at(table: &Table<Pipe>, v: usize) -> Option<usize>
-    ensures { result ≡ option_map (λ p. p.name) (pipe_with (items_of table.now.entries.items) v) }
-{
-    for entry in table.entries.as_slice() {
-        if let Some(p) = &entry.item {
-            if p.a == v || p.b == v {
-                return Some(p.name);
-            }
-        }
-    }
-    None
 }
 
 // The number of vertices, edges and pipes. Linear in the entries.

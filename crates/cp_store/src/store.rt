@@ -5,11 +5,11 @@ ghost use Rattle.cp_board.specs.Rewrites.{rewritten, IsRewriteOf};
 ghost use Rattle.cp_board.specs.Runs.{slots};
 ghost use Rattle.cp_store.specs.Histories.{present_of};
 
-use crate::edge_links::{with_edges, with_rewrite};
 use crate::forest::Forest;
 use crate::greatest::best_pipe;
-use crate::linking::push_names;
-use crate::links::Link;
+use crate::indexing::{roots_of, with_rewrite};
+use crate::linking::{name_under, push_names};
+use crate::links::{Link, Roots};
 use crate::lists::table_of;
 use crate::lookups::{cell_under, ends_under, has_list, pairs_under, pipe_ends_under, psi_under};
 use crate::names::live_names;
@@ -17,7 +17,7 @@ use crate::parts::{
     Change, Parts, empty_for, make_change, reserve_change, undo_change, with_links,
 };
 use crate::plan::plan_of;
-use crate::reading::{copied_table, pipe_ending_at, slots_of};
+use crate::reading::{copied_table, slots_of};
 use cp_base::{CycList, Memory};
 use cp_board::{NameKind, Rewrite};
 use cp_sync::{Board, Instance, PartsFault};
@@ -30,22 +30,23 @@ use std::marker::Model;
 pub struct Store {
     parts: Parts,
     log: Vec<Change>,
-    // Links from the ends of edges to the edges: those of the present edges are the tree `ends`.
+    // Links from the ends of edges to the edges, and from degrees and ends of pipes to the pipes: those of the present
+    // instance are the trees of `roots`.
     links: Forest<Link>,
-    ends: usize,
+    roots: Roots,
 }
 
 impl Model for Store {
     ghost use Rattle.std.specs.Prelude.{List, reverse};
     ghost use Rattle.cp_board.specs.Instances.{Synchronized};
     ghost use Rattle.cp_store.specs.Parts.{told, states, IsStore};
-    ghost use Rattle.cp_store.specs.Indexes.{IsLinked};
+    ghost use Rattle.cp_store.specs.Indexes.{IsIndexed};
 
     ghost Value = { List Synchronized };
 
     ghost view = { λ s. states (reverse s.log.items) (told s.parts) };
 
-    ghost invariant = { λ s. IsStore s.parts s.log.items × IsLinked s.links s.ends s.log.items (told s.parts) };
+    ghost invariant = { λ s. IsStore s.parts s.log.items × IsIndexed s.links s.roots s.log.items (told s.parts) };
 }
 
 impl Store {
@@ -58,7 +59,7 @@ impl Store {
         let edges = table_of(alloc, i.edge_rows())?;
         let pipes = table_of(alloc, i.pipe_rows())?;
         let mut links = Forest::new(alloc);
-        let ends = with_edges(&mut links, 0, i.edge_rows())?;
+        let roots = roots_of(&mut links, i.edge_rows(), i.pipe_rows())?;
         Ok(Store {
             parts: Parts {
                 verts,
@@ -67,7 +68,7 @@ impl Store {
             },
             log: Vec::new(alloc),
             links,
-            ends,
+            roots,
         })
     }
 
@@ -117,7 +118,7 @@ impl Store {
             None => false,
             Some(change) => {
                 self.links.cut(change.mark);
-                self.ends = change.ends;
+                self.roots = change.roots;
                 undo_change(&mut self.parts, change);
                 true
             }
@@ -135,19 +136,19 @@ impl Store {
         self.log.reserve(1)?;
         reserve_change(&mut self.parts, &plan)?;
         let mark = self.links.len();
-        let ends = with_rewrite(&mut self.links, self.ends, w)?;
+        let roots = with_rewrite(&mut self.links, self.roots, &self.parts.pipes, w)?;
         make_change(&mut self.parts, plan, w.moves.items(), &mut done);
-        self.log.push_reserved(with_links(done, self.ends, mark));
-        self.ends = ends;
+        self.log.push_reserved(with_links(done, self.roots, mark));
+        self.roots = roots;
         Ok(())
     }
 }
 
-/// `is_q`, `cell`, `psi`, `ends`, `pipe_ends`, `pairs` and `edges_at` take logarithmic time, beside the length of a
-/// list that they give, `pipe_at` and `max_pipe` linear time in the names of pipes, and `verts` and `edges` in those of
-/// vertices and edges. `rewrite` takes logarithmic time for each part that it drops, adds or changes and for each end
-/// of an edge that moves or comes, beside copies of what it brings, and time linear in the names of a kind for each
-/// new name that lies below others and was never live. `free_names` copies the present instance.
+/// `is_q`, `cell`, `psi`, `ends`, `pipe_ends`, `pairs`, `edges_at`, `pipe_at` and `max_pipe` take logarithmic time,
+/// beside the length of a list that they give, and `verts` and `edges` linear time in the names of vertices and edges.
+/// `rewrite` takes logarithmic time for each part that it drops, adds or changes and for each end of an edge that
+/// moves or comes, beside copies of what it brings, and time linear in the names of a kind for each new name that lies
+/// below others and was never live. `free_names` copies the present instance.
 impl Board for Store {
     ghost instance = { λ s. present_of s };
 
@@ -164,7 +165,7 @@ impl Board for Store {
     fn edges_at(&self, alloc: Global, v: usize) -> Result<Vec<usize>, Memory> {
         self.present_follows_rules();
         let mut names = Vec::new(alloc);
-        push_names(&self.links, self.ends, v, &mut names)?;
+        push_names(&self.links, self.roots.ends, v, &mut names)?;
         Ok(names)
     }
 
@@ -187,7 +188,7 @@ impl Board for Store {
     }
 
     fn pipe_at(&self, v: usize) -> Option<usize> {
-        pipe_ending_at(&self.parts.pipes, v)
+        name_under(&self.links, self.roots.pipes.poles, v)
     }
 
     fn pipe_ends(&self, p: usize) -> (usize, usize) {
@@ -206,7 +207,7 @@ impl Board for Store {
 
     fn max_pipe(&self) -> Option<usize> {
         self.present_follows_rules();
-        match best_pipe(&self.parts.pipes) {
+        match best_pipe(&self.links, self.roots.pipes.ranks) {
             None => None,
             Some((_, name)) => Some(name),
         }

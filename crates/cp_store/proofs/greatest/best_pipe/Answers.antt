@@ -1,14 +1,10 @@
-use Rattle.std.proofs.Common.{◌≡◌, ◌<◌, length, take, slice_index_or, sym, subst}
-use Rattle.cp_store.specs.Exchanges.{items_of}
-use Rattle.cp_store.specs.BestPipe.{IsBest}
-use Rattle.cp_store.proofs.ReadItems.{items-more}
+use Rattle.cp_store.proofs.PipeReads.{no_pipes, best_of-last}
 use Rattle.cp_store.proofs.greatest.best_pipe.Goals as goal
 
-pub loop-entry-preserved : goal.loop-entry-preserved
-loop-entry-preserved c =
-    let es = c.args.table.now.entries.items in
-    let k = c.loop-entry.entry-index in
-    let e = c.entry-item.result in
-    let lt = subst (λ xs. k < length xs) c.as_slice-entry-items.ensures.value c.loop-entry-test.true in
-    let is = subst (λ xs. e ≡ slice_index_or xs k e) c.as_slice-entry-items.ensures.value c.entry-item.is in
-    subst (λ xs. IsBest xs c.better_of-best.result) (sym (items-more es k e lt is)) (c.better_of-best.ensures (items_of (take k es)) c.loop-entry.invariant)
+pub returns-in-None : goal.returns-in-None
+returns-in-None c ps fits has =
+    no_pipes c.args.forest.now c.args.ranks ps fits has c.in-None.ensures
+
+pub returns-in-Some : goal.returns-in-Some
+returns-in-Some c ps fits has =
+    best_of-last c.args.forest.now c.args.ranks ps c.in-Some.ensures.0 c.in-Some.link fits has c.in-Some.ensures.1

@@ -4,6 +4,7 @@ use Rattle.cp_board.specs.declared.rewrite.EdgeMove.{EdgeMove}
 use Rattle.cp_board.specs.declared.rewrite.Rewrite.{Rewrite}
 use Rattle.cp_board.specs.Names.{has}
 use Rattle.cp_board.specs.Instances.{Synchronized, IsSynchronized, names_of_edges}
+use Rattle.cp_board.specs.Changes.{other_pipes}
 use Rattle.cp_board.specs.Rewrites.{rewritten, IsRewriteOf, after_moves}
 use Rattle.cp_store.specs.declared.parts.Change.{Change}
 use Rattle.cp_store.specs.declared.parts.Parts.{Parts}
@@ -14,11 +15,14 @@ use Rattle.cp_store.proofs.StoredStates.{present-states, states-pushed, IsStore-
 use Rattle.cp_store.proofs.StoredRewrites.{told-rewritten, moves-live, plan-named}
 use Rattle.cp_store.specs.Links.{HasLinks}
 use Rattle.cp_store.specs.EdgeLinks.{joins}
-use Rattle.cp_store.specs.Indexes.{IsLinked}
+use Rattle.cp_store.specs.PipeLinks.{HasPipeLinks}
+use Rattle.cp_store.specs.Indexes.{IsIndexed}
 use Rattle.cp_store.proofs.Grown.{Keeps-same}
 use Rattle.cp_store.proofs.LinkChanges.{IsLinkTree-links}
 use Rattle.cp_store.proofs.EdgeTests.{links-rewritten}
-use Rattle.cp_store.proofs.Indexes.{HasLinks-same, IsLinked-keeps, IsLinked-pushed}
+use Rattle.cp_store.proofs.Indexes.{HasLinks-same}
+use Rattle.cp_store.proofs.PipeTests.{HasPipeLinks-by_name}
+use Rattle.cp_store.proofs.StoredIndexes.{IsIndexed-keeps, IsIndexed-pushed, HasPipeLinks-indexed}
 use Rattle.cp_store.proofs.store.Store.rewrite_present.Goals as goal
 
 pub reserve_change-requires-clause-verts : goal.reserve_change-requires-clause-verts
@@ -33,27 +37,37 @@ reserve_change-requires-clause-pipes c = (plan-named c.args.w.now c.in_ok-plan.p
 pub invariant_of-self-in_err-reserve_change : goal.invariant_of-self-in_err-reserve_change
 invariant_of-self-in_err-reserve_change c =
     let links = c.self.inside.links in
-    let ends = c.self.inside.ends in
-    subst (λ l. IsStore c.reserve_change.new.parts l × IsLinked links ends l (told c.reserve_change.new.parts))
+    let roots = c.self.inside.roots in
+    subst (λ l. IsStore c.reserve_change.new.parts l × IsIndexed links roots l (told c.reserve_change.new.parts))
     (sym c.reserve.ensures.items) (
       IsStore-more c.self.inside.parts c.reserve_change.new.parts c.self.inside.log.items c.self.invariant.0
           c.reserve_change.ensures.tables c.reserve_change.ensures.more c.reserve_change.ensures.told,
-      IsLinked-keeps links links ends c.self.inside.log.items (told c.self.inside.parts)
+      IsIndexed-keeps links links roots c.self.inside.log.items (told c.self.inside.parts)
           (told c.reserve_change.new.parts) (Keeps-same links) c.reserve_change.ensures.told c.self.invariant.1,
     )
 
-pub with_rewrite-requires : goal.with_rewrite-requires
-with_rewrite-requires c = IsLinkTree-links c.self.inside.links c.self.inside.ends _ c.self.invariant.1.now
+pub with_rewrite-requires-clause-table : goal.with_rewrite-requires-clause-table
+with_rewrite-requires-clause-table c = c.reserve_change.ensures.tables.pipes
 
-pub invariant_of-self-in_err-ends : goal.invariant_of-self-in_err-ends
-invariant_of-self-in_err-ends c =
+pub with_rewrite-requires-clause-ends : goal.with_rewrite-requires-clause-ends
+with_rewrite-requires-clause-ends c =
+    IsLinkTree-links c.self.inside.links c.self.inside.roots.ends _ c.self.invariant.1.ends.now
+
+pub with_rewrite-requires-clause-pipes : goal.with_rewrite-requires-clause-pipes
+with_rewrite-requires-clause-pipes c =
+    subst (λ i. HasPipeLinks c.self.inside.links c.self.inside.roots.pipes i.pipes) (sym c.reserve_change.ensures.told)
+    (HasPipeLinks-indexed c.self.inside.links c.self.inside.roots c.self.inside.log.items (told c.self.inside.parts)
+    c.self.invariant.1)
+
+pub invariant_of-self-in_err-roots : goal.invariant_of-self-in_err-roots
+invariant_of-self-in_err-roots c =
     let links = c.self.inside.links in
-    let ends = c.self.inside.ends in
+    let roots = c.self.inside.roots in
     subst (λ l. IsStore c.reserve_change.new.parts l
-    × IsLinked c.with_rewrite.new.forest ends l (told c.reserve_change.new.parts)) (sym c.reserve.ensures.items) (
+    × IsIndexed c.with_rewrite.new.forest roots l (told c.reserve_change.new.parts)) (sym c.reserve.ensures.items) (
       IsStore-more c.self.inside.parts c.reserve_change.new.parts c.self.inside.log.items c.self.invariant.0
           c.reserve_change.ensures.tables c.reserve_change.ensures.more c.reserve_change.ensures.told,
-      IsLinked-keeps links c.with_rewrite.new.forest ends c.self.inside.log.items (told c.self.inside.parts)
+      IsIndexed-keeps links c.with_rewrite.new.forest roots c.self.inside.log.items (told c.self.inside.parts)
           (told c.reserve_change.new.parts) c.with_rewrite.ensures.keeps c.reserve_change.ensures.told
           c.self.invariant.1,
     )
@@ -106,7 +120,10 @@ invariant_of-self-2 c =
     ∙ c.reserve_change.ensures.told in
     let room = c.make_change.ensures.room in
     let links = c.self.inside.links in
-    subst (λ l. IsStore r l × IsLinked c.with_rewrite.new.forest c.in_ok-ends.ends l (told r))
+    let ls = c.with_rewrite.new.forest in
+    let new = c.in_ok-roots.roots in
+    let w = c.args.w.now in
+    subst (λ l. IsStore r l × IsIndexed ls new l (told r))
     (sym (c.push_reserved.ensures.items ∙ ap (λ l. l ++ kept ∷ []) c.reserve.ensures.items)) (
       IsStore-pushed p r log kept c.self.invariant.0 c.make_change.ensures.tables
           (HasMoreRoom-next p q r c.reserve_change.ensures.more c.make_change.ensures.more)
@@ -114,13 +131,16 @@ invariant_of-self-2 c =
           (record { verts = room.verts; moved = room.moved; edges = room.edges; pipes = room.pipes }))
           back
           (subst IsSynchronized (sym now) fits.rules),
-      IsLinked-pushed links c.with_rewrite.new.forest c.self.inside.ends c.in_ok-ends.ends log kept (told p)
-          (told r) c.with_rewrite.ensures.keeps (ap (λ k. k.mark) is ∙ c.len-mark.ensures) (ap (λ k. k.ends) is)
-          back
-          (subst (λ i. HasLinks c.with_rewrite.new.forest c.in_ok-ends.ends (joins i.edges)) (sym now)
-          (HasLinks-same c.with_rewrite.new.forest c.in_ok-ends.ends _ (joins (rewritten c.args.w.now (told p)).edges)
-          (links-rewritten (told p) c.args.w.now (IsStore-rules p log c.self.invariant.0) fits)
-          (c.in_ok-ends.ensures.links (joins (told p).edges) c.self.invariant.1.now)))
+      IsIndexed-pushed links ls c.self.inside.roots new log kept (told p) (told r) c.with_rewrite.ensures.keeps
+          (ap (λ k. k.mark) is ∙ c.len-mark.ensures) (ap (λ k. k.roots) is) back
+          (subst (λ i. HasLinks ls new.ends (joins i.edges)) (sym now)
+          (HasLinks-same ls new.ends _ (joins (rewritten w (told p)).edges)
+          (λ v n lt. links-rewritten (told p) w (IsStore-rules p log c.self.invariant.0) fits v n)
+          (c.in_ok-roots.ensures.ends (joins (told p).edges) c.self.invariant.1.ends.now)))
+          (subst (λ i. HasPipeLinks ls new.pipes i.pipes) (sym now)
+          (HasPipeLinks-by_name ls new.pipes (other_pipes (told p) w.drop_pipes ++ w.add_pipes)
+          (subst (λ i. HasPipeLinks ls new.pipes (other_pipes i w.drop_pipes ++ w.add_pipes))
+          c.reserve_change.ensures.told c.in_ok-roots.ensures.pipes)))
           c.self.invariant.1,
     )
 
