@@ -10,3 +10,11 @@ mod FoundVertices
 mod RowNodes
 mod TreeReadings
 mod EarlierRows
+mod NamedOrders
+mod RowKinds
+mod PropagateRewrites
+mod EdgeMoves
+mod LiveRows
+mod PropagatedMoves
+mod ToldPlantings
+mod ToldEnds

@@ -7,7 +7,7 @@ mod PermutedRows
 mod BranchLayers
 mod LaidTrees
 mod ReadTrees
-mod ToldTrees
+pub mod ToldTrees
 mod PairedTrees
 mod EndPartners
 mod RowPairs
