@@ -10,7 +10,6 @@ use Rattle.cp_board.specs.declared.rewrite.EdgeMove.{EdgeMove}
 use Rattle.cp_board.specs.Names.{has}
 use Rattle.cp_board.specs.Rewrites.{moved_end, after_moves, IsMove, AreMoves}
 use Rattle.cp_board.proofs.EdgesOfVertices.{touch}
-use Rattle.cp_plantlaw.proofs.FreshNames.{has-false}
 
 -- the move of an edge
 abbrev pub move : ℕ → ℕ → ℕ → EdgeMove

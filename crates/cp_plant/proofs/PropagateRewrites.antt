@@ -1,15 +1,14 @@
 -- The rewrite of Propagate fits the instance, and gives what the step makes of it.
 use Rattle.std.proofs.Common.{◌≡◌, ◌≢◌, ◌⊎◌, ℕ, suc, ◌+◌, ◌*◌, ◌^◌, ◌<◌, ◌≤◌, Bool, true, false, not, eqb, cond, List, [], ◌∷◌, ◌++◌, append_assoc, length, map, reverse, sym, refl, ap, ap₂, ◌∙◌, subst, inl, inr, ⊎_elim, arith, IsPermutation}
-use Rattle.std.specs.Prelude.{Some, filter, take}
-use Rattle.std.specs.List.{All, AllZip, Contains, flat_map, range_with_len, zip}
-use Rattle.std.proofs.lemmas.Bool.{cond-true}
+use Rattle.std.specs.Prelude.{Some, filter}
+use Rattle.std.specs.List.{All, Contains, flat_map, range_with_len, zip}
 use Rattle.std.proofs.lemmas.Grind.{flat_map-append}
 use Rattle.std.proofs.lemmas.List.{append-nil, length-append, length-map, map-append, map-id}
 use Rattle.std.proofs.lemmas.List.Elements.{All-cons, All-filter, All-head, All-nil, All-same, All-tail, All-take, filter-append}
 use Rattle.std.proofs.lemmas.List.FromFn.{get_or-range_with_len, length-range_with_len}
-use Rattle.std.proofs.lemmas.List.Sorted.{IsPermutation-append, IsPermutation-append_comm, IsPermutation-append_left, IsPermutation-append_right, IsPermutation-refl, IsPermutation-trans}
+use Rattle.std.proofs.lemmas.List.Sorted.{IsPermutation-append, IsPermutation-append_comm, IsPermutation-append_left, IsPermutation-append_right, IsPermutation-trans}
 use Rattle.cp_lists.specs.CyclicLists.{Distinct, Has, Lacks}
-use Rattle.cp_lists.proofs.DistinctLists.{Has-Contains, Has-append_cases, Lacks-from, has_lacks}
+use Rattle.cp_lists.proofs.DistinctLists.{Has-Contains, Lacks-from, has_lacks}
 use Rattle.cp_base.specs.declared.shape.Shape.{Shape}
 use Rattle.cp_conn.proofs.DistinctSubsets.{subset_length}
 use Rattle.cp_conn.proofs.NamedGraphs.{map_has}
@@ -22,18 +21,18 @@ use Rattle.cp_board.specs.declared.rewrite.Rewrite.{Rewrite}
 use Rattle.cp_board.specs.declared.steps.Step.TheVariants.{Propagate}
 use Rattle.cp_board.specs.Changes.{edges_by_name, free_vert, moved_edges, other_pipes, other_verts, pipes_by_name, verts_by_name}
 use Rattle.cp_board.specs.Instances.{Synchronized, IsSynchronized, HasRightEnds, cell_of, cells, edge_names, edges_of, kind_in, names_of_edges, names_of_verts, pipe_named, pipe_names, vert_names}
-use Rattle.cp_board.specs.Names.{AreNew, by_name, has, new_names}
+use Rattle.cp_board.specs.Names.{AreNew, has, new_names}
 use Rattle.cp_board.specs.Plantings.{Planted, fixed_nodes, free_nodes, holder, tree_edges}
 use Rattle.cp_board.specs.Propagations.{IsPropagated, fixed_verts, node_pipes}
 use Rattle.cp_board.specs.Reductions.{Performs}
 use Rattle.cp_board.specs.Rewrites.{AreMoves, IsRewriteOf, after_moves, first_ones, rewritten, verts_with}
-use Rattle.cp_board.specs.Steps.{IsFitting, opposite, partner}
+use Rattle.cp_board.specs.Steps.{IsFitting, opposite}
 use Rattle.cp_board.proofs.PlantedRows.{planted_sizes}
 use Rattle.cp_plantlaw.proofs.FreshNames.{fresh_once, fresh_other, has-false, has-true}
 use Rattle.cp_plantlaw.proofs.PropagateSteps.{found-Contains}
 use Rattle.cp_plantlaw.proofs.PropagatedEnds.{live_u, live_w, names_once, u_not_w, verts_u, verts_w}
 use Rattle.cp_plantlaw.proofs.PropagatedRows.{all_verts, forms, free_forms, fixed_count, new_fixed, new_free, old_verts, row_verts, verts_ordered}
-use Rattle.cp_plantlaw.proofs.PropagatedRules.{AreSmall, IsSynchronized-propagated, kind_free}
+use Rattle.cp_plantlaw.proofs.PropagatedRules.{IsSynchronized-propagated, kind_free}
 use Rattle.cp_plantlaw.proofs.ToldTrees.{HaveOneForm, zip_length}
 use Rattle.cp_plant.specs.Rewriting.{ArePlanted, PlantedEnd, planted_pipes, planted_verts, propagating}
 use Rattle.cp_plant.proofs.NamedOrders.{by_name-permuted}

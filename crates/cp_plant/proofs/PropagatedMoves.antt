@@ -1,6 +1,6 @@
 -- After the moves of Propagate each edge of an end of the pipe ends at the vertex that holds it.
-use Rattle.std.proofs.Common.{◌≡◌, ◌≢◌, ℕ, Bool, true, false, ◌||◌, cond, eqb, List, [], ◌∷◌, ◌++◌, map, slice_index_or, sym, refl, ap, ◌∙◌, subst, inl, inr, ⊎_elim}
-use Rattle.std.specs.List.{All, Contains}
+use Rattle.std.proofs.Common.{◌≡◌, ◌≢◌, ℕ, Bool, true, false, ◌||◌, cond, eqb, List, ◌∷◌, ◌++◌, map, slice_index_or, sym, refl, ap, ◌∙◌, subst, inl, inr, ⊎_elim}
+use Rattle.std.specs.List.{Contains}
 use Rattle.std.proofs.lemmas.List.Kept.{IsStrictlyIncreasing-filter}
 use Rattle.std.proofs.lemmas.Bool.{cases_eq, cond-true, cond-false, eq-eqb, ne_eqb, eqb-true, or_cases, or_left, or_right}
 use Rattle.cp_base.specs.declared.shape.Shape.{Shape}
@@ -15,7 +15,7 @@ use Rattle.cp_board.specs.declared.rewrite.EdgeMove.{EdgeMove}
 use Rattle.cp_board.specs.Names.{has, rising}
 use Rattle.cp_board.specs.Changes.{moved_edges}
 use Rattle.cp_board.specs.Instances.{Synchronized, IsSynchronized, edge_names, graph, vert_names, edges_of}
-use Rattle.cp_board.specs.Plantings.{Planted, holder}
+use Rattle.cp_board.specs.Plantings.{holder}
 use Rattle.cp_board.specs.Propagations.{IsPropagated}
 use Rattle.cp_board.specs.Rewrites.{after_moves, IsMove, AreMoves}
 use Rattle.cp_board.specs.Steps.{IsEnd, opposite}
@@ -23,7 +23,7 @@ use Rattle.cp_board.proofs.EdgesOfVertices.{touch, moved_row}
 use Rattle.cp_board.proofs.NamedLists.{rises_from}
 use Rattle.cp_board.proofs.NumberOfNewNames.{Distinct-from_rises}
 use Rattle.cp_plantlaw.proofs.FreshNames.{fresh_once, fresh_other}
-use Rattle.cp_plantlaw.proofs.PropagatedEnds.{held_u, held_w, holder_in, live_u, live_w, u_not_w, verts_u, verts_w}
+use Rattle.cp_plantlaw.proofs.PropagatedEnds.{held_u, held_w, holder_in, live_w, u_not_w, verts_u, verts_w}
 use Rattle.cp_plant.specs.Rewriting.{end_moves}
 use Rattle.cp_plant.proofs.EdgeMoves.{move, moves_by, moved_by, moved_once, after_moves-map, moved_by-append, All-moves_by, edges_moved, AreMoves-apart, AreMoves-append, end_to, row_to, moved_row_to, map_agree}
 use Rattle.cp_plant.proofs.LiveRows.{IsLiveRow, edge_row, own_touch, row_at, rows_live}

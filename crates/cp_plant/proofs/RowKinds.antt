@@ -1,5 +1,5 @@
 -- The vertices and pipes that stand for rows in the order of the rows: those of P-nodes and of Q-nodes apart.
-use Rattle.std.proofs.Common.{◌≡◌, ℕ, suc, ◌+◌, Bool, true, false, List, [], ◌∷◌, ◌++◌, length, map, reverse, slice_index, sym, refl, ap, ap₂, ◌∙◌, subst, ⊎_elim, arith, IsPermutation}
+use Rattle.std.proofs.Common.{◌≡◌, ℕ, suc, ◌+◌, Bool, true, false, List, [], ◌∷◌, ◌++◌, length, map, slice_index, sym, refl, ap, ap₂, ◌∙◌, subst, ⊎_elim, arith, IsPermutation}
 use Rattle.std.specs.List.{AllZip, flat_map, zip}
 use Rattle.std.proofs.lemmas.Bool.{cases_Bool}
 use Rattle.std.proofs.lemmas.List.Sorted.{IsPermutation-cons, IsPermutation-middle, IsPermutation-refl, IsPermutation-sym, IsPermutation-trans}
@@ -135,7 +135,7 @@ pipes_of_planted names n [] [] [] behind e z = refl
 pipes_of_planted names n [] [] (c ∷ rest) behind e z = absurd (omega (arith, e))
 pipes_of_planted names n [] (b ∷ ws) rest behind e z = absurd z
 pipes_of_planted names n (a ∷ us) [] rest behind e z = absurd z
-pipes_of_planted names n (a ∷ us) (b ∷ ws) rest behind e z = 
+pipes_of_planted names n (a ∷ us) (b ∷ ws) rest behind e z =
     let again : PipesAgain names us ws = λ k more f g. pipes_of_planted names k us ws more f g z.1 in
     ⊎_elim (fixed again rest behind e) (free again rest behind e) (cases_Bool a.fixed)
   where

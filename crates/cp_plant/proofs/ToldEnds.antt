@@ -1,14 +1,14 @@
 -- What a board tells of a pipe, its ends and new names plants the shape at both ends.
-use Rattle.std.proofs.Common.{◌≡◌, ℕ, zero, suc, ◌+◌, ◌^◌, ◌<◌, ◌≤◌, Bool, true, false, cond, eqb, List, [], ◌∷◌, ◌++◌, length, map, sym, refl, ap, ap₂, ◌∙◌, subst, subst₂, inl, inr, ⊎_elim, arith, drop, take}
+use Rattle.std.proofs.Common.{◌≡◌, ℕ, zero, suc, ◌^◌, ◌<◌, ◌≤◌, Bool, true, false, cond, eqb, List, [], ◌∷◌, ◌++◌, length, map, sym, refl, ap, ap₂, ◌∙◌, subst, subst₂, inl, inr, ⊎_elim, arith}
 use Rattle.std.specs.Prelude.{Some}
-use Rattle.std.specs.List.{All, Contains, flat_map}
+use Rattle.std.specs.List.{Contains, flat_map}
 use Rattle.std.specs.Option.{option_map_or}
-use Rattle.std.proofs.lemmas.Bool.{cases_Bool, cases_eq, cond-false, cond-true, eq-eqb, ne_eqb}
-use Rattle.std.proofs.lemmas.List.{length-map, take-append-drop}
+use Rattle.std.proofs.lemmas.Bool.{cases_eq, eq-eqb, ne_eqb}
+use Rattle.std.proofs.lemmas.List.{length-map}
 use Rattle.std.proofs.lemmas.List.Elements.{All-contains}
 use Rattle.std.proofs.lemmas.List.Sorted.{IsPermutation-sym, length_permutation}
 use Rattle.cp_lists.specs.CyclicLists.{Has}
-use Rattle.cp_lists.proofs.DistinctLists.{Has-Contains, Has-append_left, Has-append_right}
+use Rattle.cp_lists.proofs.DistinctLists.{Has-append_left, Has-append_right}
 use Rattle.cp_lists.proofs.PermutedLists.{Has-IsPermutation}
 use Rattle.cp_base.specs.declared.shape.Branch.{Branch}
 use Rattle.cp_base.specs.declared.shape.Branch.TheVariants.{Leaf}
@@ -21,7 +21,7 @@ use Rattle.cp_board.specs.declared.parts.Vert.{Vert}
 use Rattle.cp_board.specs.Instances.{Synchronized, IsSynchronized, HasRightEnds, HasRightPairs, edge_names, edges_of, graph, pairs_of, pipe_ends_of, pipe_named, pipe_names, vert_names}
 use Rattle.cp_board.specs.Names.{AreNew, new_names}
 use Rattle.cp_board.specs.Plantings.{Planted, Plants, PlantsAll}
-use Rattle.cp_board.specs.Steps.{IsFitting, degree, opposite, partner}
+use Rattle.cp_board.specs.Steps.{IsFitting, opposite, partner}
 use Rattle.cp_board.proofs.NamedLists.{arranged}
 use Rattle.cp_board.proofs.NumberOfNewNames.{length-new_names}
 use Rattle.cp_board.proofs.ShapeEquations.{leaves_Leaf, leaves_P, leaves_Q}

@@ -1,7 +1,6 @@
 -- What is planted at both ends of a pipe makes the rewrite of the step.
 use Rattle.std.proofs.Common.{◌≡◌, ℕ, suc, ◌+◌, not, cond, arith, ◌^◌, ◌<◌, Bool, true, false, eqb, List, [], ◌∷◌, ◌++◌, length, sym, refl, ap, ap₂, ◌∙◌, subst, subst₂, ⊎_elim}
 use Rattle.std.specs.Prelude.{None, Some, find}
-use Rattle.std.specs.List.{Contains}
 use Rattle.std.proofs.lemmas.Bool.{cases_Bool, cond-false, cond-true, eqb-true}
 use Rattle.std.proofs.lemmas.List.Elements.{Contains-append_right}
 use Rattle.cp_lists.specs.CyclicLists.{Has}
@@ -9,12 +8,12 @@ use Rattle.cp_lists.proofs.DistinctLists.{Has-Contains}
 use Rattle.cp_base.specs.declared.shape.Shape.{Shape}
 use Rattle.cp_board.specs.declared.parts.Pipe.{Pipe}
 use Rattle.cp_board.specs.declared.steps.Step.TheVariants.{Propagate}
-use Rattle.cp_board.specs.Instances.{Synchronized, IsSynchronized, cells, edge_names, edges_of, names_of_verts, pipe_named, pipe_names, vert_names}
+use Rattle.cp_board.specs.Instances.{Synchronized, IsSynchronized, cells, edge_names, names_of_verts, pipe_named, pipe_names, vert_names}
 use Rattle.cp_board.specs.Names.{AreNew, new_names}
 use Rattle.cp_board.specs.Plantings.{Planted, fixed_nodes, free_nodes}
 use Rattle.cp_board.specs.Reductions.{Performs}
 use Rattle.cp_board.specs.Rewrites.{verts_with}
-use Rattle.cp_board.specs.Steps.{IsFitting, opposite}
+use Rattle.cp_board.specs.Steps.{IsFitting}
 use Rattle.cp_board.proofs.NumberOfNewNames.{length-new_names}
 use Rattle.cp_plant.specs.Rewriting.{ArePlanted, PlantedEnd, planted_verts, propagating}
 use Rattle.cp_plant.proofs.PropagatedMoves.{moved_all, moves_fit}

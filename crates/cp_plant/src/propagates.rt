@@ -37,14 +37,7 @@ pub fn propagate<B: Board>(
     let fixed = fixed_count(rows);
     let cells = board.free_names(alloc, NameKind::Cell, fixed)?;
     let names = board.free_names(alloc, NameKind::Pipe, nodes - fixed)?;
-    let rewrite = rewrite_of(
-        alloc,
-        pipe,
-        &u,
-        &w,
-        cells.as_slice(),
-        names.as_slice(),
-    )?;
+    let rewrite = rewrite_of(alloc, pipe, &u, &w, cells.as_slice(), names.as_slice())?;
     Ok(rewrite)
 }
 

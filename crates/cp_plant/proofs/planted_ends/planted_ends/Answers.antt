@@ -1,8 +1,8 @@
 -- What the board tells of the pipe and of new names plants the shape at both ends.
-use Rattle.std.proofs.Common.{◌≡◌, ℕ, ◌+◌, ◌-◌, ◌^◌, ◌<◌, ◌≤◌, List, [], ◌∷◌, ◌++◌, length, sym, ap, ap₂, ◌∙◌, subst, arith}
+use Rattle.std.proofs.Common.{◌≡◌, ℕ, ◌+◌, ◌-◌, List, ◌∷◌, ◌++◌, length, sym, ap, ap₂, ◌∙◌, subst, arith}
 use Rattle.std.specs.Prelude.{Some}
 use Rattle.std.proofs.lemmas.List.{take-append-drop}
-use Rattle.cp_board.specs.Instances.{edge_names, edges_of, vert_names}
+use Rattle.cp_board.specs.Instances.{edge_names, vert_names}
 use Rattle.cp_board.specs.Plantings.{Plants}
 use Rattle.cp_board.specs.Steps.{IsFitting}
 use Rattle.cp_board.proofs.NumberOfNewNames.{length-new_names}

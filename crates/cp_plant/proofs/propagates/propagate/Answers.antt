@@ -1,8 +1,8 @@
 -- What is planted at both ends, with the new cells and names of pipes, makes the rewrite of the step.
-use Rattle.std.proofs.Common.{◌≡◌, ℕ, ◌+◌, ◌-◌, ◌^◌, ◌<◌, List, length, sym, ap, ◌∙◌, subst, arith}
+use Rattle.std.proofs.Common.{◌≡◌, ℕ, ◌-◌, length, sym, ap, ◌∙◌, subst, arith}
 use Rattle.cp_board.specs.declared.steps.Step.TheVariants.{Propagate}
 use Rattle.cp_board.specs.Instances.{cells, pipe_names}
-use Rattle.cp_board.specs.Plantings.{Planted, fixed_nodes, free_nodes}
+use Rattle.cp_board.specs.Plantings.{fixed_nodes, free_nodes}
 use Rattle.cp_board.specs.Reductions.{Performs}
 use Rattle.cp_board.proofs.NumberOfNewNames.{length-new_names}
 use Rattle.cp_plant.specs.Rewriting.{PlantedEnd}
