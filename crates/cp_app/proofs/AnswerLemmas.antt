@@ -16,7 +16,6 @@ use Rattle.cp_gml.proofs.Same.{same_entries}
 use Rattle.cp_gml.proofs.Unique.{one_list, list_or_fault, one_fault}
 use Rattle.cp_report.specs.declared.report.Report.{Report}
 use Rattle.cp_report.specs.declared.report.Report.TheVariants.{Yes, No}
-use Rattle.cp_skel.specs.Skeletons.{left}
 use Rattle.cp_report.specs.Texts.{report_text, BeginsWith}
 use Rattle.cp_report.proofs.LawLemmas as laws
 use Rattle.cp_cgraph.specs.GraphTexts.{IsGraphText, IsGraphFault}
@@ -29,7 +28,7 @@ use Rattle.cp_app.specs.Answer.{Answer, Checked, Judged, Refusal, Solved, IsChec
 use Rattle.cp_app.specs.Answer.Checked.{bad_report, read}
 use Rattle.cp_app.specs.Answer.Judged.{refused, accepted, rejected}
 use Rattle.cp_app.specs.Answer.Refusal.{grammar, graph}
-use Rattle.cp_app.specs.Answer.Solved.{refused, unsolved, solved}
+use Rattle.cp_app.specs.Answer.Solved.{refused, solved}
 use Rattle.cp_app.specs.Texts.{bad_report_line, refused_line, rejected_line}
 use Rattle.cp_check.specs.declared.verdict.Reject.{Reject}
 use Rattle.cp_app.specs.Run.{IsAnswer, IsJudged, IsSolvedEnd}
@@ -152,16 +151,9 @@ same_report g (Yes l) (Yes k) a b = (refl, λ other. absurd (other refl))
 one_solution : (text : List ℕ) {e f : End} {s t : List ℕ} → Solved text e s → Solved text f t
     → (e ≡ f) × (e ≢ ends.Yes → s ≡ t)
 one_solution text (refused a) (refused b) = let same = one_refusal text a b in (same.0, λ other. same.1)
-one_solution text (refused a) (unsolved h is2 left2) = absurd (graph_no_refusal text h is2 a)
-one_solution text (refused a) (solved h is2 left2 q b) = absurd (graph_no_refusal text h is2 a)
-one_solution text (unsolved g is1 left1) (refused b) = absurd (graph_no_refusal text g is1 b)
-one_solution text (unsolved g is1 left1) (unsolved h is2 left2) = (refl, λ other. refl)
-one_solution text (unsolved g is1 left1) (solved h is2 left2 q b) =
-    absurd (left1 (ap left (one_graph_text text g h is1 is2) ∙ left2))
-one_solution text (solved g is1 left1 r a) (refused b) = absurd (graph_no_refusal text g is1 b)
-one_solution text (solved g is1 left1 r a) (unsolved h is2 left2) =
-    absurd (left2 (ap left (one_graph_text text h g is2 is1) ∙ left1))
-one_solution text (solved g is1 left1 r a) (solved h is2 left2 q b) =
+one_solution text (refused a) (solved h is2 q b) = absurd (graph_no_refusal text h is2 a)
+one_solution text (solved g is1 r a) (refused b) = absurd (graph_no_refusal text g is1 b)
+one_solution text (solved g is1 r a) (solved h is2 q b) =
     same_report h r q (subst (λ x. IsSolvedReport x r) (one_graph_text text g h is1 is2) a) b
 
 -- words that are no command ask for nothing
@@ -223,9 +215,7 @@ own_answers Check bytes end text (bad_report kind number is) =
     record { usage = λ e. cc; too_long = λ e. cc; read = λ e. cc; write = λ e. cc; memory = λ e. cc }
 own_answers Check bytes end text (read r n begins is) = own_judged r (drop n bytes) is
 own_answers Solve bytes end text (refused is) = own_refusal bytes is
-own_answers Solve bytes end text (unsolved g is some) =
-    record { usage = λ e. cc; too_long = λ e. cc; read = λ e. cc; write = λ e. cc; memory = λ e. cc }
-own_answers Solve bytes end text (solved g is none r a) = own_report r
+own_answers Solve bytes end text (solved g is r a) = own_report r
 
 -- the ends that all commands share differ
 pub shared_apart : commands.AreApart shared_ends
@@ -271,21 +261,20 @@ solved_report : (r : Report) → IsSolvedEnd (end_of r)
 solved_report No = inr refl
 solved_report (Yes l) = inl refl
 
--- the text of a graph of which no edge leaves a cluster is solved
-solved_graph : (text : List ℕ) (g : Clustered) → IsGraphText text g → left g ≡ [] → {end : End} {line : List ℕ}
+-- the text of a graph is solved
+solved_graph : (text : List ℕ) (g : Clustered) → IsGraphText text g → {end : End} {line : List ℕ}
     → Solved text end line → IsSolvedEnd end
-solved_graph text g is none (refused fault) = absurd (graph_no_refusal text g is fault)
-solved_graph text g is none (unsolved h other some) = absurd (some (ap left (one_graph_text text h g other is) ∙ none))
-solved_graph text g is none (solved h other left2 r a) = solved_report r
+solved_graph text g is (refused fault) = absurd (graph_no_refusal text g is fault)
+solved_graph text g is (solved h other r a) = solved_report r
 
 -- `solve` solves it
 pub solved_answer : (words : List (List ℕ)) (bytes : List ℕ) (g : Clustered) → IsSolve words
-    → length bytes ≤ most_bytes → IsGraphText bytes g → left g ≡ [] → {end : End} {text : List ℕ}
+    → length bytes ≤ most_bytes → IsGraphText bytes g → {end : End} {text : List ℕ}
     → Answer words bytes end text → IsSolvedEnd end
-solved_answer words bytes g solve short is none (usage nothing) = absurd (nothing Solve solve)
-solved_answer words bytes g solve short is none (too_long a asks long) = absurd (omega (arith, short, long))
-solved_answer words bytes g solve short is none (told Check asks k checked) = absurd (not_both words asks solve)
-solved_answer words bytes g solve short is none (told Solve asks k answer) = solved_graph bytes g is none answer
+solved_answer words bytes g solve short is (usage nothing) = absurd (nothing Solve solve)
+solved_answer words bytes g solve short is (too_long a asks long) = absurd (omega (arith, short, long))
+solved_answer words bytes g solve short is (told Check asks k checked) = absurd (not_both words asks solve)
+solved_answer words bytes g solve short is (told Solve asks k answer) = solved_graph bytes g is answer
 
 -- an end that no device caused is an answer or want of memory
 pub answer_or_memory : (P : End → Type 0) (end : End) → ¬ (end ≡ ends.ReadFault) → ¬ (end ≡ ends.WriteFault)

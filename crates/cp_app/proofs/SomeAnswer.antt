@@ -13,7 +13,6 @@ use Rattle.cp_io.specs.Streams.{most_bytes}
 use Rattle.cp_report.specs.declared.report.Report.{Report}
 use Rattle.cp_report.specs.declared.report.Report.TheVariants.{Yes, No}
 use Rattle.cp_report.specs.Texts.{report_text}
-use Rattle.cp_skel.specs.Skeletons.{left}
 use Rattle.cp_skel.specs.SolutionLayouts.{from_least}
 use Rattle.cp_report.proofs.Outcomes.{some_reading}
 use Rattle.cp_check.proofs.Outcomes.{some_verdict}
@@ -21,13 +20,13 @@ use Rattle.cp_app.specs.Answer.{Answer, Checked, Judged, Refusal, Solved}
 use Rattle.cp_app.specs.Answer.Checked.{bad_report, read}
 use Rattle.cp_app.specs.Answer.Judged.{refused, accepted, rejected}
 use Rattle.cp_app.specs.Answer.Refusal.{grammar, graph}
-use Rattle.cp_app.specs.Answer.Solved.{refused, unsolved, solved}
-use Rattle.cp_app.specs.Texts.{usage_line, bad_report_line, refused_line, unsolved_line, accepted_line, rejected_line}
+use Rattle.cp_app.specs.Answer.Solved.{refused, solved}
+use Rattle.cp_app.specs.Texts.{usage_line, bad_report_line, refused_line, accepted_line, rejected_line}
 use Rattle.cp_app.specs.declared.command.Asked.TheVariants.{Check, Solve}
 use Rattle.cp_app.specs.declared.end.End.{End}
 use Rattle.cp_app.specs.declared.end.End.TheVariants as ends
 use Rattle.cp_app.proofs.AnswerLemmas.{asks_nothing, asks_something}
-use Rattle.cp_app.proofs.LeastLayouts.{IsClustered-text, from_least-AllBeginLeast, least-IsGood, none_or_some}
+use Rattle.cp_app.proofs.LeastLayouts.{IsClustered-text, from_least-AllBeginLeast, least-IsGood}
 
 -- a text is a graph or refused
 graph_or_refusal : (text : List ℕ) → ((g : Clustered) × IsGraphText text g)
@@ -70,13 +69,10 @@ some_judgement r text none =
 some_graph_answer : (text : List ℕ) (g : Clustered) → IsGraphText text g
     → ((end : End) (line : List ℕ) → Solved text end line → ⊥) → ⊥
 some_graph_answer text g is none =
-    ⊎_elim
-    (λ unleft. none ends.No (report_text No) (solved g is unleft No (λ planar.
+    none ends.No (report_text No) (solved g is No (λ planar.
     none ends.Yes (report_text (Yes (from_least planar.0)))
-    (solved g is unleft (Yes (from_least planar.0))
-    (least-IsGood g planar.0 (IsClustered-text text g is) planar.1, from_least-AllBeginLeast planar.0)))))
-    (λ some. none (ends.Refused 31 0) unsolved_line (unsolved g is some))
-    (none_or_some (left g))
+    (solved g is (Yes (from_least planar.0))
+    (least-IsGood g planar.0 (IsClustered-text text g is) planar.1, from_least-AllBeginLeast planar.0))))
 
 -- `solve` answers all bytes
 some_solution : (text : List ℕ) → ((end : End) (line : List ℕ) → Solved text end line → ⊥) → ⊥

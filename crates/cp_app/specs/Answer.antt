@@ -20,8 +20,7 @@ use Rattle.cp_report.specs.Faults as reports
 use Rattle.cp_cgraph.specs.GraphTexts.{IsGraphText, IsGraphFault}
 use Rattle.cp_border.specs.Good.{IsGood, IsCPlanar}
 use Rattle.cp_check.specs.Judging.{IsReason, IsGoodReport}
-use Rattle.cp_skel.specs.Skeletons.{left}
-use Rattle.cp_app.specs.Texts.{usage_line, bad_report_line, refused_line, unsolved_line, accepted_line, rejected_line}
+use Rattle.cp_app.specs.Texts.{usage_line, bad_report_line, refused_line, accepted_line, rejected_line}
 use Rattle.cp_check.specs.declared.verdict.Reject.{Reject}
 use Rattle.cp_app.specs.declared.command.Asked.{Asked}
 use Rattle.cp_app.specs.declared.command.Asked.TheVariants.{Check, Solve}
@@ -80,12 +79,10 @@ abbrev pub end_of : Report → End
 end_of No = ends.No
 end_of (Yes l) = ends.Yes
 
--- what `solve` answers to the text of a graph, by the first row that applies; graphs of which an edge leaves a cluster
--- are not solved yet
+-- what `solve` answers to the text of a graph, by the first row that applies
 pub data Solved (text : List ℕ) : End → List ℕ → Type 0 where
   refused : {end : End} {line : List ℕ} → Refusal text end line → Solved text end line
-  unsolved : (g : Clustered) → IsGraphText text g → left g ≢ [] → Solved text (ends.Refused 31 0) unsolved_line
-  solved : (g : Clustered) → IsGraphText text g → left g ≡ [] → (r : Report) → IsSolvedReport g r
+  solved : (g : Clustered) → IsGraphText text g → (r : Report) → IsSolvedReport g r
       → Solved text (end_of r) (report_text r)
 
 -- the words ask for this

@@ -14,7 +14,7 @@ mod texts;
 pub use end::End;
 pub use laws::one_answer;
 pub use running::run;
-pub use solving::solve_graph;
+pub use solving::{Solver, solve_graph};
 
 #[cfg(test)]
 mod tests;

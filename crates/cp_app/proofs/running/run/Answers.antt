@@ -23,7 +23,7 @@ returns-clause-read_whole g c command =
     c.run_command.ensures.read_whole asked.0 asked.1
 
 pub returns-clause-solved : goal.returns-clause-solved
-returns-clause-solved g c = λ bytes graph solve told short is unleft calm_source calm_sink.
+returns-clause-solved g c = λ bytes graph solve told short is calm_source calm_sink.
     let words = map string_bytes c.args.words.now in
     answer_or_memory IsSolvedEnd c.run_command.result
     (λ e. calm_source (c.run_command.ensures.read_fault e).0.0)
@@ -32,7 +32,7 @@ returns-clause-solved g c = λ bytes graph solve told short is unleft calm_sourc
     let wrote = c.run_command.ensures.answer answer in
     let answers : Answer words bytes c.run_command.result wrote.0 =
     subst (λ left. IfSome left (λ b. Answer words b c.run_command.result wrote.0)) told wrote.1 in
-    solved_answer words bytes graph solve short is unleft answers)
+    solved_answer words bytes graph solve short is answers)
 
 pub returns-clause-complete : goal.returns-clause-complete
 returns-clause-complete g c = λ bytes r n graph check told short begins is calm_source calm_sink.
