@@ -24,16 +24,17 @@ use Rattle.cp_check.proofs.Verdicts.{good_no_reason, one_reason}
 use Rattle.cp_io.specs.Commands as commands
 use Rattle.cp_io.specs.Commands.Answer.{usage, too_long, told}
 use Rattle.cp_io.specs.Streams.{most_bytes}
-use Rattle.cp_app.specs.Answer.{Answer, Checked, Judged, Refusal, Solved, IsCheck, IsSolve, IsCommand, IsSolvedReport, Asks, Answers, end_of, shared_ends}
+use Rattle.cp_app.specs.Answer.{Answer, Checked, Judged, Refusal, Solved, Traced, IsCheck, IsSolve, IsTrace, IsCommand, IsSolvedReport, Asks, Answers, end_of, shared_ends}
 use Rattle.cp_app.specs.Answer.Checked.{bad_report, read}
 use Rattle.cp_app.specs.Answer.Judged.{refused, accepted, rejected}
 use Rattle.cp_app.specs.Answer.Refusal.{grammar, graph}
 use Rattle.cp_app.specs.Answer.Solved.{refused, solved}
+use Rattle.cp_app.specs.Answer.Traced.{refused, traced}
 use Rattle.cp_app.specs.Texts.{bad_report_line, refused_line, rejected_line}
 use Rattle.cp_check.specs.declared.verdict.Reject.{Reject}
 use Rattle.cp_app.specs.Run.{IsAnswer, IsJudged, IsSolvedEnd}
 use Rattle.cp_app.specs.declared.command.Asked.{Asked}
-use Rattle.cp_app.specs.declared.command.Asked.TheVariants.{Check, Solve}
+use Rattle.cp_app.specs.declared.command.Asked.TheVariants.{Check, Solve, Trace}
 use Rattle.cp_app.specs.declared.end.End.{End}
 use Rattle.cp_app.specs.declared.end.End.TheVariants as ends
 
@@ -156,36 +157,66 @@ one_solution text (solved g is1 r a) (refused b) = absurd (graph_no_refusal text
 one_solution text (solved g is1 r a) (solved h is2 q b) =
     same_report h r q (subst (λ x. IsSolvedReport x r) (one_graph_text text g h is1 is2) a) b
 
+-- a text has one end as a trace, and one line where it has none
+one_trace : (text : List ℕ) {e f : End} {s t : List ℕ} → Traced text e s → Traced text f t
+    → (e ≡ f) × (e ≢ ends.Done → s ≡ t)
+one_trace text (refused a) (refused b) = let same = one_refusal text a b in (same.0, λ other. same.1)
+one_trace text (refused a) (traced h is2 t2) = absurd (graph_no_refusal text h is2 a)
+one_trace text (traced g is1 t1) (refused b) = absurd (graph_no_refusal text g is1 b)
+one_trace text (traced g is1 t1) (traced h is2 t2) = (refl, λ other. absurd (other refl))
+
 -- words that are no command ask for nothing
 pub asks_nothing : (words : List (List ℕ)) → ¬ IsCommand words → (a : Asked) → ¬ Asks words a
 asks_nothing words none Check asks = none (inl asks)
-asks_nothing words none Solve asks = none (inr asks)
+asks_nothing words none Solve asks = none (inr (inl asks))
+asks_nothing words none Trace asks = none (inr (inr asks))
 
 -- words that are a command ask for it
 pub asks_something : (words : List (List ℕ)) → IsCommand words → (a : Asked) × Asks words a
-asks_something words is = ⊎_elim (λ check. (Check, check)) (λ solve. (Solve, solve)) is
+asks_something words is =
+    ⊎_elim
+    (λ check. (Check, check))
+    (λ others. ⊎_elim (λ solve. (Solve, solve)) (λ trace. (Trace, trace)) others)
+    is
 
 -- no words are both commands
 not_both : (words : List (List ℕ)) → IsCheck words → IsSolve words → ⊥
 not_both words check solve =
     let first : 99 ≡ 115 = ap (λ ws. get_or (get_or ws 0 []) 0 0) (sym check ∙ solve) in omega (arith, first)
 
--- words and bytes allow one end, and one text but for a layout
+-- nor `check` and `trace`
+not_check_trace : (words : List (List ℕ)) → IsCheck words → IsTrace words → ⊥
+not_check_trace words check trace =
+    let first : 99 ≡ 116 = ap (λ ws. get_or (get_or ws 0 []) 0 0) (sym check ∙ trace) in omega (arith, first)
+
+-- nor `solve` and `trace`
+not_solve_trace : (words : List (List ℕ)) → IsSolve words → IsTrace words → ⊥
+not_solve_trace words solve trace =
+    let first : 115 ≡ 116 = ap (λ ws. get_or (get_or ws 0 []) 0 0) (sym solve ∙ trace) in omega (arith, first)
+
+-- words and bytes allow one end, and one text but for a layout and a trace
 pub one_end : (words : List (List ℕ)) (bytes : List ℕ) {e f : End} {s t : List ℕ} → Answer words bytes e s
-    → Answer words bytes f t → (e ≡ f) × (e ≢ ends.Yes → s ≡ t)
-one_end words bytes (usage n1) (usage n2) = (refl, λ other. refl)
+    → Answer words bytes f t → (e ≡ f) × (e ≢ ends.Yes → e ≢ ends.Done → s ≡ t)
+one_end words bytes (usage n1) (usage n2) = (refl, λ no other. refl)
 one_end words bytes (usage n1) (too_long a2 w2 m2) = absurd (n1 a2 w2)
 one_end words bytes (usage n1) (told a2 w2 k2 is2) = absurd (n1 a2 w2)
 one_end words bytes (too_long a1 w1 m1) (usage n2) = absurd (n2 a1 w1)
-one_end words bytes (too_long a1 w1 m1) (too_long a2 w2 m2) = (refl, λ other. refl)
+one_end words bytes (too_long a1 w1 m1) (too_long a2 w2 m2) = (refl, λ no other. refl)
 one_end words bytes (too_long a1 w1 m1) (told a2 w2 k2 is2) = absurd (omega (arith, m1, k2))
 one_end words bytes (told a1 w1 k1 is1) (usage n2) = absurd (n2 a1 w1)
 one_end words bytes (told a1 w1 k1 is1) (too_long a2 w2 m2) = absurd (omega (arith, m2, k1))
 one_end words bytes (told Check w1 k1 is1) (told Check w2 k2 is2) =
-    let same = one_check bytes is1 is2 in (same.0, λ other. same.1)
+    let same = one_check bytes is1 is2 in (same.0, λ no other. same.1)
 one_end words bytes (told Check w1 k1 is1) (told Solve w2 k2 is2) = absurd (not_both words w1 w2)
 one_end words bytes (told Solve w1 k1 is1) (told Check w2 k2 is2) = absurd (not_both words w2 w1)
-one_end words bytes (told Solve w1 k1 is1) (told Solve w2 k2 is2) = one_solution bytes is1 is2
+one_end words bytes (told Solve w1 k1 is1) (told Solve w2 k2 is2) =
+    let same = one_solution bytes is1 is2 in (same.0, λ no other. same.1 no)
+one_end words bytes (told Check w1 k1 is1) (told Trace w2 k2 is2) = absurd (not_check_trace words w1 w2)
+one_end words bytes (told Solve w1 k1 is1) (told Trace w2 k2 is2) = absurd (not_solve_trace words w1 w2)
+one_end words bytes (told Trace w1 k1 is1) (told Check w2 k2 is2) = absurd (not_check_trace words w2 w1)
+one_end words bytes (told Trace w1 k1 is1) (told Solve w2 k2 is2) = absurd (not_solve_trace words w2 w1)
+one_end words bytes (told Trace w1 k1 is1) (told Trace w2 k2 is2) =
+    let same = one_trace bytes is1 is2 in (same.0, λ no other. same.1 other)
 
 -- a refusal is none of the ends that all commands share
 own_refusal : (text : List ℕ) {end : End} {line : List ℕ} → Refusal text end line → commands.IsOwn shared_ends end
@@ -216,6 +247,9 @@ own_answers Check bytes end text (bad_report kind number is) =
 own_answers Check bytes end text (read r n begins is) = own_judged r (drop n bytes) is
 own_answers Solve bytes end text (refused is) = own_refusal bytes is
 own_answers Solve bytes end text (solved g is r a) = own_report r
+own_answers Trace bytes end text (refused is) = own_refusal bytes is
+own_answers Trace bytes end text (traced g is t) =
+    record { usage = λ e. cc; too_long = λ e. cc; read = λ e. cc; write = λ e. cc; memory = λ e. cc }
 
 -- the ends that all commands share differ
 pub shared_apart : commands.AreApart shared_ends
@@ -255,6 +289,8 @@ judged_answer words bytes r n g check short begins is (too_long a asks long) = a
 judged_answer words bytes r n g check short begins is (told Check asks k checked) =
     judged_bytes bytes r n g begins is checked
 judged_answer words bytes r n g check short begins is (told Solve asks k other) = absurd (not_both words check asks)
+judged_answer words bytes r n g check short begins is (told Trace asks k other) =
+    absurd (not_check_trace words check asks)
 
 -- the end of a report tells whether there is a layout
 solved_report : (r : Report) → IsSolvedEnd (end_of r)
@@ -275,6 +311,23 @@ solved_answer words bytes g solve short is (usage nothing) = absurd (nothing Sol
 solved_answer words bytes g solve short is (too_long a asks long) = absurd (omega (arith, short, long))
 solved_answer words bytes g solve short is (told Check asks k checked) = absurd (not_both words asks solve)
 solved_answer words bytes g solve short is (told Solve asks k answer) = solved_graph bytes g is answer
+solved_answer words bytes g solve short is (told Trace asks k other) = absurd (not_solve_trace words solve asks)
+
+-- the text of a graph has a trace
+traced_graph : (text : List ℕ) (g : Clustered) → IsGraphText text g → {end : End} {line : List ℕ}
+    → Traced text end line → end ≡ ends.Done
+traced_graph text g is (refused fault) = absurd (graph_no_refusal text g is fault)
+traced_graph text g is (traced h other t) = refl
+
+-- `trace` tells it
+pub traced_answer : (words : List (List ℕ)) (bytes : List ℕ) (g : Clustered) → IsTrace words
+    → length bytes ≤ most_bytes → IsGraphText bytes g → {end : End} {text : List ℕ}
+    → Answer words bytes end text → end ≡ ends.Done
+traced_answer words bytes g trace short is (usage nothing) = absurd (nothing Trace trace)
+traced_answer words bytes g trace short is (too_long a asks long) = absurd (omega (arith, short, long))
+traced_answer words bytes g trace short is (told Check asks k checked) = absurd (not_check_trace words asks trace)
+traced_answer words bytes g trace short is (told Solve asks k other) = absurd (not_solve_trace words asks trace)
+traced_answer words bytes g trace short is (told Trace asks k answer) = traced_graph bytes g is answer
 
 -- an end that no device caused is an answer or want of memory
 pub answer_or_memory : (P : End → Type 0) (end : End) → ¬ (end ≡ ends.ReadFault) → ¬ (end ≡ ends.WriteFault)
