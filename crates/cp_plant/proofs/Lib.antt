@@ -11,3 +11,11 @@ mod RowNodes
 mod TreeReadings
 mod EarlierRows
 mod SolutionsBack
+mod NamedOrders
+mod RowKinds
+mod PropagateRewrites
+mod EdgeMoves
+mod LiveRows
+mod PropagatedMoves
+mod ToldPlantings
+mod ToldEnds

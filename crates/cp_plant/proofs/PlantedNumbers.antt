@@ -96,3 +96,16 @@ pub grown-number : (f : ℕ → ℕ) (verts edges : List ℕ) (branch : Branch) 
 grown-number f verts edges branch top rows g =
     ap length g.grown
     ∙ rows-inner_nodes f branch top (map (λ r. r.vertex) g.new) (map first_edge g.new) g.new g.plants
+
+-- where there is no row, the branch is a leaf
+no_row-Leaf : (f : ℕ → ℕ) (b : Branch) (top : ℕ) (vs es : List ℕ) (rows : List Planted) → Plants f b top vs es rows
+    → length rows ≡ 0 → (x : ℕ) × (b ≡ Leaf x)
+no_row-Leaf f _ _ _ _ _ (Plants.leaf x) e = (x, refl)
+no_row-Leaf f _ _ _ _ _ (Plants.free kids top v tops vs es rows all) e = absurd (omega (arith, e))
+no_row-Leaf f _ _ _ _ _ (Plants.fixed kids top v tops vs es rows all) e = absurd (omega (arith, e))
+
+-- so no rows are grown from none of a leaf only
+pub grown-Leaf : (f : ℕ → ℕ) (verts edges : List ℕ) (branch : Branch) (top : ℕ) (rows : List Planted)
+    → IsGrown f verts edges branch top [] rows → length rows ≡ 0 → (x : ℕ) × (branch ≡ Leaf x)
+grown-Leaf f verts edges branch top rows g e =
+    no_row-Leaf f branch top (map (λ r. r.vertex) g.new) (map first_edge g.new) g.new g.plants (ap length (sym g.grown) ∙ e)

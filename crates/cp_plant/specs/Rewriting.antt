@@ -1,5 +1,5 @@
 -- The parts of the rewrite that Propagate makes: a vertex and a move at a time.
-use Rattle.std.specs.Prelude.{ℕ, suc, cond, ltb, Bool, true, false, List, [], ◌∷◌, ◌++◌, map, reverse, slice_index}
+use Rattle.std.specs.Prelude.{◌≡◌, ◌<◌, ◌^◌, ℕ, suc, cond, ltb, Bool, true, false, List, [], ◌∷◌, ◌++◌, length, map, reverse, slice_index}
 use Rattle.std.specs.List.{zip}
 use Rattle.cp_lists.specs.Turns.{turned_to_least}
 use Rattle.cp_board.specs.declared.parts.Kind.{Kind}
@@ -9,7 +9,11 @@ use Rattle.cp_board.specs.declared.parts.Pipe.{Pipe}
 use Rattle.cp_board.specs.declared.rewrite.EdgeMove.{EdgeMove}
 use Rattle.cp_board.specs.declared.rewrite.Rewrite.{Rewrite}
 use Rattle.cp_board.specs.Changes.{pairs_by_first}
-use Rattle.cp_board.specs.Plantings.{Planted, holder, tree_edges}
+use Rattle.cp_base.specs.declared.shape.Shape.{Shape}
+use Rattle.cp_board.specs.Instances.{Synchronized, edge_names, edges_of, vert_names}
+use Rattle.cp_board.specs.Names.{AreNew}
+use Rattle.cp_board.specs.Plantings.{Planted, Plants, holder, tree_edges}
+use Rattle.cp_board.specs.Steps.{opposite, partner}
 
 -- edges in their order, or in its reverse in the mirror
 abbrev pub order_of : Bool → List ℕ → List ℕ
@@ -83,3 +87,19 @@ propagating pipe u w cells names = record {
   add_edges = tree_edges u.rows u.edges ++ tree_edges w.rows w.edges;
   add_pipes = planted_pipes names 0 (zip u.rows w.rows);
 }
+
+-- a shape with the edges of the end u as its leaves is planted in the place of both ends of a pipe, with new names
+pub record ArePlanted (i : Synchronized) (p : Pipe) (end : ℕ) (shape : Shape) (u w : PlantedEnd) : Type 0 where
+  pub at_u : List ℕ
+  pub at_w : List ℕ
+  pub new_verts : AreNew (vert_names i) (at_u ++ at_w)
+  pub new_edges : AreNew (edge_names i) (u.edges ++ w.edges)
+  pub end_u : u.end ≡ end
+  pub end_w : w.end ≡ opposite p end
+  pub own_u : u.own ≡ edges_of i end
+  pub own_w : w.own ≡ edges_of i (opposite p end)
+  pub planted_u : Plants (λ x. x) shape.body shape.root at_u (shape.root ∷ u.edges) u.rows
+  pub planted_w : Plants (partner p end) shape.body (partner p end shape.root)
+      at_w (partner p end shape.root ∷ w.edges) w.rows
+  pub few_new_verts : length (at_u ++ at_w) < 2 ^ 60
+  pub few_new_edges : length (u.edges ++ w.edges) < 2 ^ 60

@@ -2,13 +2,14 @@
 //! (Bläsius, Rutter 2016; Bläsius, Fink, Rutter 2021).
 #![tactic(auto)]
 
+mod planted_ends;
 mod planting;
 mod propagates;
 mod reading;
 mod rewriting;
 mod turning_back;
 
-pub use propagates::propagate_keeps_solvable;
+pub use propagates::{propagate, propagate_keeps_solvable};
 pub use turning_back::{back, propagate_back};
 
 #[cfg(test)]

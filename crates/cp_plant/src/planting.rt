@@ -1,5 +1,6 @@
 // An order tree that is put in the place of a vertex.
-ghost use Rattle.std.specs.Prelude.{◌≡◌, ◌+◌, suc, ◌++◌, ◌∷◌, [], length, slice_index, slice_set, IfOk};
+ghost use Rattle.std.specs.Prelude.{◌≡◌, ◌<◌, ◌^◌, ℕ, ◌+◌, suc, ◌++◌, ◌∷◌, [], length, slice_index, slice_set, IfOk};
+ghost use Rattle.cp_base.specs.declared.shape.Branch.TheVariants.{Leaf};
 ghost use Rattle.cp_board.specs.Plantings.{Plants};
 ghost use Rattle.cp_plant.specs.Growing.{IsGrown, inner_nodes, node_of, partner_in};
 
@@ -25,7 +26,7 @@ impl Model for PlantedNode {
 }
 
 // The partner of an edge, or the edge itself where it has none. Linear in the number of pairs.
-fn partner_of(partners: &[(usize, usize)], x: usize) -> usize
+pub(crate) fn partner_of(partners: &[(usize, usize)], x: usize) -> usize
     ensures { result ≡ partner_in partners.now x }
 {
     for pair in partners {
@@ -112,7 +113,9 @@ fn plant_node(
 
 // The number of inner nodes of a shape. Linear in the shape.
 pub(crate) fn count_nodes(alloc: Global, shape: &Shape) -> Result<usize, Memory>
-    ensures { IfOk result (λ number. number ≡ inner_nodes shape.now.body) }
+    ensures value { IfOk result (λ number. number ≡ inner_nodes shape.now.body) }
+    ensures leaf { IfOk result (λ number. number ≡ 0 → (x : ℕ) × (shape.now.body ≡ Leaf x)) }
+    ensures few { IfOk result (λ number. number < 2 ^ 60) }
 {
     let mut rows = Vec::new(alloc);
     plant_branch(alloc, &shape.body, &[], &[], &[], &mut rows)?;

@@ -19,7 +19,7 @@ use Rattle.cp_plantlaw.proofs.PropagatedRules.{AreSmall, IsSynchronized-propagat
 use Rattle.cp_plantlaw.proofs.SolvedBlocks.{Solves-IsBlockOrder}
 
 -- what is found is one of the items
-found-Contains : {A : Type 0} (test : A → Bool) (xs : List A) (x : A) → find test xs ≡ Some x → Contains xs x
+pub found-Contains : {A : Type 0} (test : A → Bool) (xs : List A) (x : A) → find test xs ≡ Some x → Contains xs x
 found-Contains {A} test [] x e = let none : None ≡ Some x = e in absurd cc
 found-Contains {A} test (y ∷ ys) x e = ⊎_elim
     (λ (t : test y ≡ true).

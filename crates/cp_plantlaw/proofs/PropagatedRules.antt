@@ -106,7 +106,7 @@ free_kind vs x once c = ap (option_map (λ (v : Vert). v.kind))
     (found_own (λ (v : Vert). v.name) vs once) c)
 
 -- and a vertex whose kind by its name is P is there
-kind_free : (vs : List Vert) (x : ℕ) → kind_in vs x ≡ Some P → Contains vs (free_vert x)
+pub kind_free : (vs : List Vert) (x : ℕ) → kind_in vs x ≡ Some P → Contains vs (free_vert x)
 kind_free [] x e = let h : None ≡ Some P = e in absurd cc
 kind_free (v ∷ vs) x e = ⊎_elim
     (λ (s : v.name ≡ x).

@@ -1,0 +1,3 @@
+mod CutEnds
+mod Pasts
+mod GreatestPipes
