@@ -39,7 +39,7 @@ walk-Distinct : (f : ℕ → ℕ) (k x : ℕ) → ((i j : ℕ) → i < j → j <
 walk-Distinct f zero x apart = tt
 walk-Distinct f (suc k) x apart = (
   Lacks-from x (walk f k (f x)) (λ h.
-  let w = walk-place f k (f x) x h in apart 0 (suc w.0) (omega arith) (omega (arith, w.1)) (sym w.2)),
+      let w = walk-place f k (f x) x h in apart 0 (suc w.0) (omega arith) (omega (arith, w.1)) (sym w.2)),
   walk-Distinct f k (f x) (λ i j lt le e. apart (suc i) (suc j) (omega (arith, lt)) (omega (arith, le)) e),
 )
 

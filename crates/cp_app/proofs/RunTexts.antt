@@ -43,5 +43,5 @@ told-IsTraceOf g first run steps text is same told from of =
       run_of (skeletons g) run.steps run.last run.outcome,
       record { first = refl; driven = whole.driven; end = outcome-ends g run.last run.outcome is whole.outcome },
       subst (λ i. IsTextOf text (run_of i run.steps run.last run.outcome)) same
-      (subst (λ xs. IsTextOf text (run_of first xs run.last run.outcome)) told of),
+          (subst (λ xs. IsTextOf text (run_of first xs run.last run.outcome)) told of),
     )

@@ -19,12 +19,7 @@ use cp_sync::Outcome;
 use std::alloc::Global;
 
 // The report of a graph by a run of reductions of its skeletons.
-fn report_of(
-    alloc: Global,
-    graph: &CGraph,
-    tables: &Skeletons,
-    run: &Run,
-) -> Result<Report, Memory>
+fn report_of(alloc: Global, graph: &CGraph, tables: &Skeletons, run: &Run) -> Result<Report, Memory>
     requires skeletons { tables.now ≡ told_skeletons graph.now }
     requires run { IsRunFrom (skeletons graph.now) run.now }
     ensures { IfOk result (IsSolvedReport graph.now) }
