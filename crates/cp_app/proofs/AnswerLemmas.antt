@@ -16,7 +16,6 @@ use Rattle.cp_gml.proofs.Same.{same_entries}
 use Rattle.cp_gml.proofs.Unique.{one_list, list_or_fault, one_fault}
 use Rattle.cp_report.specs.declared.report.Report.{Report}
 use Rattle.cp_report.specs.declared.report.Report.TheVariants.{Yes, No}
-use Rattle.cp_skel.specs.Skeletons.{left}
 use Rattle.cp_report.specs.Texts.{report_text, BeginsWith}
 use Rattle.cp_report.proofs.LawLemmas as laws
 use Rattle.cp_cgraph.specs.GraphTexts.{IsGraphText, IsGraphFault}
@@ -25,16 +24,17 @@ use Rattle.cp_check.proofs.Verdicts.{good_no_reason, one_reason}
 use Rattle.cp_io.specs.Commands as commands
 use Rattle.cp_io.specs.Commands.Answer.{usage, too_long, told}
 use Rattle.cp_io.specs.Streams.{most_bytes}
-use Rattle.cp_app.specs.Answer.{Answer, Checked, Judged, Refusal, Solved, IsCheck, IsSolve, IsCommand, IsSolvedReport, Asks, Answers, end_of, shared_ends}
+use Rattle.cp_app.specs.Answer.{Answer, Checked, Judged, Refusal, Solved, Traced, IsCheck, IsSolve, IsTrace, IsCommand, IsSolvedReport, Asks, Answers, end_of, shared_ends}
 use Rattle.cp_app.specs.Answer.Checked.{bad_report, read}
 use Rattle.cp_app.specs.Answer.Judged.{refused, accepted, rejected}
 use Rattle.cp_app.specs.Answer.Refusal.{grammar, graph}
-use Rattle.cp_app.specs.Answer.Solved.{refused, unsolved, solved}
+use Rattle.cp_app.specs.Answer.Solved.{refused, solved}
+use Rattle.cp_app.specs.Answer.Traced.{refused, traced}
 use Rattle.cp_app.specs.Texts.{bad_report_line, refused_line, rejected_line}
 use Rattle.cp_check.specs.declared.verdict.Reject.{Reject}
 use Rattle.cp_app.specs.Run.{IsAnswer, IsJudged, IsSolvedEnd}
 use Rattle.cp_app.specs.declared.command.Asked.{Asked}
-use Rattle.cp_app.specs.declared.command.Asked.TheVariants.{Check, Solve}
+use Rattle.cp_app.specs.declared.command.Asked.TheVariants.{Check, Solve, Trace}
 use Rattle.cp_app.specs.declared.end.End.{End}
 use Rattle.cp_app.specs.declared.end.End.TheVariants as ends
 
@@ -152,48 +152,71 @@ same_report g (Yes l) (Yes k) a b = (refl, λ other. absurd (other refl))
 one_solution : (text : List ℕ) {e f : End} {s t : List ℕ} → Solved text e s → Solved text f t
     → (e ≡ f) × (e ≢ ends.Yes → s ≡ t)
 one_solution text (refused a) (refused b) = let same = one_refusal text a b in (same.0, λ other. same.1)
-one_solution text (refused a) (unsolved h is2 left2) = absurd (graph_no_refusal text h is2 a)
-one_solution text (refused a) (solved h is2 left2 q b) = absurd (graph_no_refusal text h is2 a)
-one_solution text (unsolved g is1 left1) (refused b) = absurd (graph_no_refusal text g is1 b)
-one_solution text (unsolved g is1 left1) (unsolved h is2 left2) = (refl, λ other. refl)
-one_solution text (unsolved g is1 left1) (solved h is2 left2 q b) =
-    absurd (left1 (ap left (one_graph_text text g h is1 is2) ∙ left2))
-one_solution text (solved g is1 left1 r a) (refused b) = absurd (graph_no_refusal text g is1 b)
-one_solution text (solved g is1 left1 r a) (unsolved h is2 left2) =
-    absurd (left2 (ap left (one_graph_text text h g is2 is1) ∙ left1))
-one_solution text (solved g is1 left1 r a) (solved h is2 left2 q b) =
+one_solution text (refused a) (solved h is2 q b) = absurd (graph_no_refusal text h is2 a)
+one_solution text (solved g is1 r a) (refused b) = absurd (graph_no_refusal text g is1 b)
+one_solution text (solved g is1 r a) (solved h is2 q b) =
     same_report h r q (subst (λ x. IsSolvedReport x r) (one_graph_text text g h is1 is2) a) b
+
+-- a text has one end as a trace, and one line where it has none
+one_trace : (text : List ℕ) {e f : End} {s t : List ℕ} → Traced text e s → Traced text f t
+    → (e ≡ f) × (e ≢ ends.Done → s ≡ t)
+one_trace text (refused a) (refused b) = let same = one_refusal text a b in (same.0, λ other. same.1)
+one_trace text (refused a) (traced h is2 t2) = absurd (graph_no_refusal text h is2 a)
+one_trace text (traced g is1 t1) (refused b) = absurd (graph_no_refusal text g is1 b)
+one_trace text (traced g is1 t1) (traced h is2 t2) = (refl, λ other. absurd (other refl))
 
 -- words that are no command ask for nothing
 pub asks_nothing : (words : List (List ℕ)) → ¬ IsCommand words → (a : Asked) → ¬ Asks words a
 asks_nothing words none Check asks = none (inl asks)
-asks_nothing words none Solve asks = none (inr asks)
+asks_nothing words none Solve asks = none (inr (inl asks))
+asks_nothing words none Trace asks = none (inr (inr asks))
 
 -- words that are a command ask for it
 pub asks_something : (words : List (List ℕ)) → IsCommand words → (a : Asked) × Asks words a
-asks_something words is = ⊎_elim (λ check. (Check, check)) (λ solve. (Solve, solve)) is
+asks_something words is =
+    ⊎_elim
+    (λ check. (Check, check))
+    (λ others. ⊎_elim (λ solve. (Solve, solve)) (λ trace. (Trace, trace)) others)
+    is
 
 -- no words are both commands
 not_both : (words : List (List ℕ)) → IsCheck words → IsSolve words → ⊥
 not_both words check solve =
     let first : 99 ≡ 115 = ap (λ ws. get_or (get_or ws 0 []) 0 0) (sym check ∙ solve) in omega (arith, first)
 
--- words and bytes allow one end, and one text but for a layout
+-- nor `check` and `trace`
+not_check_trace : (words : List (List ℕ)) → IsCheck words → IsTrace words → ⊥
+not_check_trace words check trace =
+    let first : 99 ≡ 116 = ap (λ ws. get_or (get_or ws 0 []) 0 0) (sym check ∙ trace) in omega (arith, first)
+
+-- nor `solve` and `trace`
+not_solve_trace : (words : List (List ℕ)) → IsSolve words → IsTrace words → ⊥
+not_solve_trace words solve trace =
+    let first : 115 ≡ 116 = ap (λ ws. get_or (get_or ws 0 []) 0 0) (sym solve ∙ trace) in omega (arith, first)
+
+-- words and bytes allow one end, and one text but for a layout and a trace
 pub one_end : (words : List (List ℕ)) (bytes : List ℕ) {e f : End} {s t : List ℕ} → Answer words bytes e s
-    → Answer words bytes f t → (e ≡ f) × (e ≢ ends.Yes → s ≡ t)
-one_end words bytes (usage n1) (usage n2) = (refl, λ other. refl)
+    → Answer words bytes f t → (e ≡ f) × (e ≢ ends.Yes → e ≢ ends.Done → s ≡ t)
+one_end words bytes (usage n1) (usage n2) = (refl, λ no other. refl)
 one_end words bytes (usage n1) (too_long a2 w2 m2) = absurd (n1 a2 w2)
 one_end words bytes (usage n1) (told a2 w2 k2 is2) = absurd (n1 a2 w2)
 one_end words bytes (too_long a1 w1 m1) (usage n2) = absurd (n2 a1 w1)
-one_end words bytes (too_long a1 w1 m1) (too_long a2 w2 m2) = (refl, λ other. refl)
+one_end words bytes (too_long a1 w1 m1) (too_long a2 w2 m2) = (refl, λ no other. refl)
 one_end words bytes (too_long a1 w1 m1) (told a2 w2 k2 is2) = absurd (omega (arith, m1, k2))
 one_end words bytes (told a1 w1 k1 is1) (usage n2) = absurd (n2 a1 w1)
 one_end words bytes (told a1 w1 k1 is1) (too_long a2 w2 m2) = absurd (omega (arith, m2, k1))
 one_end words bytes (told Check w1 k1 is1) (told Check w2 k2 is2) =
-    let same = one_check bytes is1 is2 in (same.0, λ other. same.1)
+    let same = one_check bytes is1 is2 in (same.0, λ no other. same.1)
 one_end words bytes (told Check w1 k1 is1) (told Solve w2 k2 is2) = absurd (not_both words w1 w2)
 one_end words bytes (told Solve w1 k1 is1) (told Check w2 k2 is2) = absurd (not_both words w2 w1)
-one_end words bytes (told Solve w1 k1 is1) (told Solve w2 k2 is2) = one_solution bytes is1 is2
+one_end words bytes (told Solve w1 k1 is1) (told Solve w2 k2 is2) =
+    let same = one_solution bytes is1 is2 in (same.0, λ no other. same.1 no)
+one_end words bytes (told Check w1 k1 is1) (told Trace w2 k2 is2) = absurd (not_check_trace words w1 w2)
+one_end words bytes (told Solve w1 k1 is1) (told Trace w2 k2 is2) = absurd (not_solve_trace words w1 w2)
+one_end words bytes (told Trace w1 k1 is1) (told Check w2 k2 is2) = absurd (not_check_trace words w2 w1)
+one_end words bytes (told Trace w1 k1 is1) (told Solve w2 k2 is2) = absurd (not_solve_trace words w2 w1)
+one_end words bytes (told Trace w1 k1 is1) (told Trace w2 k2 is2) =
+    let same = one_trace bytes is1 is2 in (same.0, λ no other. same.1 other)
 
 -- a refusal is none of the ends that all commands share
 own_refusal : (text : List ℕ) {end : End} {line : List ℕ} → Refusal text end line → commands.IsOwn shared_ends end
@@ -223,9 +246,10 @@ own_answers Check bytes end text (bad_report kind number is) =
     record { usage = λ e. cc; too_long = λ e. cc; read = λ e. cc; write = λ e. cc; memory = λ e. cc }
 own_answers Check bytes end text (read r n begins is) = own_judged r (drop n bytes) is
 own_answers Solve bytes end text (refused is) = own_refusal bytes is
-own_answers Solve bytes end text (unsolved g is some) =
+own_answers Solve bytes end text (solved g is r a) = own_report r
+own_answers Trace bytes end text (refused is) = own_refusal bytes is
+own_answers Trace bytes end text (traced g is t) =
     record { usage = λ e. cc; too_long = λ e. cc; read = λ e. cc; write = λ e. cc; memory = λ e. cc }
-own_answers Solve bytes end text (solved g is none r a) = own_report r
 
 -- the ends that all commands share differ
 pub shared_apart : commands.AreApart shared_ends
@@ -265,27 +289,45 @@ judged_answer words bytes r n g check short begins is (too_long a asks long) = a
 judged_answer words bytes r n g check short begins is (told Check asks k checked) =
     judged_bytes bytes r n g begins is checked
 judged_answer words bytes r n g check short begins is (told Solve asks k other) = absurd (not_both words check asks)
+judged_answer words bytes r n g check short begins is (told Trace asks k other) =
+    absurd (not_check_trace words check asks)
 
 -- the end of a report tells whether there is a layout
 solved_report : (r : Report) → IsSolvedEnd (end_of r)
 solved_report No = inr refl
 solved_report (Yes l) = inl refl
 
--- the text of a graph of which no edge leaves a cluster is solved
-solved_graph : (text : List ℕ) (g : Clustered) → IsGraphText text g → left g ≡ [] → {end : End} {line : List ℕ}
+-- the text of a graph is solved
+solved_graph : (text : List ℕ) (g : Clustered) → IsGraphText text g → {end : End} {line : List ℕ}
     → Solved text end line → IsSolvedEnd end
-solved_graph text g is none (refused fault) = absurd (graph_no_refusal text g is fault)
-solved_graph text g is none (unsolved h other some) = absurd (some (ap left (one_graph_text text h g other is) ∙ none))
-solved_graph text g is none (solved h other left2 r a) = solved_report r
+solved_graph text g is (refused fault) = absurd (graph_no_refusal text g is fault)
+solved_graph text g is (solved h other r a) = solved_report r
 
 -- `solve` solves it
 pub solved_answer : (words : List (List ℕ)) (bytes : List ℕ) (g : Clustered) → IsSolve words
-    → length bytes ≤ most_bytes → IsGraphText bytes g → left g ≡ [] → {end : End} {text : List ℕ}
+    → length bytes ≤ most_bytes → IsGraphText bytes g → {end : End} {text : List ℕ}
     → Answer words bytes end text → IsSolvedEnd end
-solved_answer words bytes g solve short is none (usage nothing) = absurd (nothing Solve solve)
-solved_answer words bytes g solve short is none (too_long a asks long) = absurd (omega (arith, short, long))
-solved_answer words bytes g solve short is none (told Check asks k checked) = absurd (not_both words asks solve)
-solved_answer words bytes g solve short is none (told Solve asks k answer) = solved_graph bytes g is none answer
+solved_answer words bytes g solve short is (usage nothing) = absurd (nothing Solve solve)
+solved_answer words bytes g solve short is (too_long a asks long) = absurd (omega (arith, short, long))
+solved_answer words bytes g solve short is (told Check asks k checked) = absurd (not_both words asks solve)
+solved_answer words bytes g solve short is (told Solve asks k answer) = solved_graph bytes g is answer
+solved_answer words bytes g solve short is (told Trace asks k other) = absurd (not_solve_trace words solve asks)
+
+-- the text of a graph has a trace
+traced_graph : (text : List ℕ) (g : Clustered) → IsGraphText text g → {end : End} {line : List ℕ}
+    → Traced text end line → end ≡ ends.Done
+traced_graph text g is (refused fault) = absurd (graph_no_refusal text g is fault)
+traced_graph text g is (traced h other t) = refl
+
+-- `trace` tells it
+pub traced_answer : (words : List (List ℕ)) (bytes : List ℕ) (g : Clustered) → IsTrace words
+    → length bytes ≤ most_bytes → IsGraphText bytes g → {end : End} {text : List ℕ}
+    → Answer words bytes end text → end ≡ ends.Done
+traced_answer words bytes g trace short is (usage nothing) = absurd (nothing Trace trace)
+traced_answer words bytes g trace short is (too_long a asks long) = absurd (omega (arith, short, long))
+traced_answer words bytes g trace short is (told Check asks k checked) = absurd (not_check_trace words asks trace)
+traced_answer words bytes g trace short is (told Solve asks k other) = absurd (not_solve_trace words asks trace)
+traced_answer words bytes g trace short is (told Trace asks k answer) = traced_graph bytes g is answer
 
 -- an end that no device caused is an answer or want of memory
 pub answer_or_memory : (P : End → Type 0) (end : End) → ¬ (end ≡ ends.ReadFault) → ¬ (end ≡ ends.WriteFault)

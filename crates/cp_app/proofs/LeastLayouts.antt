@@ -1,7 +1,6 @@
--- Layouts whose lists begin with their least items, and graphs of which no edge leaves a cluster.
-use Rattle.std.proofs.Common.{◌≡◌, ◌≢◌, ℕ, List, [], ◌∷◌, get_or, length, map, sym, refl, ap, ◌∙◌, subst, ◌⊎◌, inl, inr, arith}
-use Rattle.std.specs.Prelude.{None, Some, eqb}
-use Rattle.std.specs.List.{All, find, zip}
+-- Layouts whose lists begin with their least items, and reports that have them.
+use Rattle.std.proofs.Common.{◌≡◌, ℕ, List, [], ◌∷◌, get_or, map, sym, ap, subst, arith}
+use Rattle.std.specs.List.{All}
 use Rattle.std.proofs.lemmas.List.Elements.{All-cons}
 use Rattle.cp_lists.specs.CyclicLists.{Has}
 use Rattle.cp_lists.specs.Turns.{turned_to_least}
@@ -12,11 +11,9 @@ use Rattle.cp_cgraph.specs.GraphTexts.{IsGraphText}
 use Rattle.cp_cgraph.specs.declared.layout.Layout.{Layout}
 use Rattle.cp_cgraph.proofs.Tables.{IsClustered-graph_of}
 use Rattle.cp_border.specs.Good.{IsCPlanar, IsGood}
-use Rattle.cp_board.specs.declared.parts.Pipe.{Pipe}
-use Rattle.cp_board.specs.Instances.{Synchronized, pipe_named}
-use Rattle.cp_board.specs.Runs.{IsGreatestName}
+use Rattle.cp_board.specs.Instances.{Synchronized}
 use Rattle.cp_board.specs.Solutions.{IsSolvable}
-use Rattle.cp_skel.specs.Skeletons.{below, left, skeletons, skeleton_pipe}
+use Rattle.cp_skel.specs.Skeletons.{skeletons}
 use Rattle.cp_skel.specs.SolutionLayouts.{from_least}
 use Rattle.cp_skel.proofs.PlanarSkeletons.{planar_exactly}
 use Rattle.cp_skel.proofs.TurnedLayouts.{from_least-IsTurnedLayout, turned-IsGood}
@@ -25,11 +22,6 @@ use Rattle.cp_report.specs.Texts.{report_text}
 use Rattle.cp_app.specs.Answer.{AllBeginLeast, BeginsLeast, IsSolvedReport, Solved, end_of}
 use Rattle.cp_app.specs.Answer.Solved.{solved}
 use Rattle.cp_app.specs.declared.end.End.{End}
-
--- a list is empty or not
-pub none_or_some : (xs : List ℕ) → (xs ≡ []) ⊎ (xs ≢ [])
-none_or_some [] = inl refl
-none_or_some (x ∷ xs) = inr (λ e. cc)
 
 -- a text says a clustered graph
 pub IsClustered-text : (text : List ℕ) (g : Clustered) → IsGraphText text g → IsClustered g
@@ -57,32 +49,6 @@ from_least-AllBeginLeast l = record { nodes = all-BeginLeast l.nodes; clusters =
 pub least-IsGood : (g : Clustered) (l : Layout) → IsClustered g → IsGood g l → IsGood g (from_least l)
 least-IsGood g l is good = turned-IsGood g l (from_least l) is (from_least-IsTurnedLayout l) good
 
--- where no edge leaves a cluster the skeletons have no pipe
-pub unleft-no_pipe : (g : Clustered) → left g ≡ [] → (skeletons g).pipes ≡ []
-unleft-no_pipe g none =
-    ap (λ xs. map (λ (x : ℕ × ℕ). skeleton_pipe g x.0 x.1) (zip (below (length xs)) xs)) none
-
--- and only there
-pub no_pipe-unleft : (g : Clustered) → (skeletons g).pipes ≡ [] → left g ≡ []
-no_pipe-unleft g none = of_list (left g) none
-  where
-    of_list : (xs : List ℕ) → map (λ (x : ℕ × ℕ). skeleton_pipe g x.0 x.1) (zip (below (length xs)) xs) ≡ [] → xs ≡ []
-    of_list [] e = refl
-    of_list (x ∷ xs) e = absurd (cc)
-
--- where the instance of a graph's skeletons has a greatest pipe, some edge leaves a cluster
-pub greatest-left : (g : Clustered) (i : Synchronized) (name : ℕ) → i ≡ skeletons g → IsGreatestName i name
-    → left g ≢ []
-greatest-left g i name same is none =
-    let no_pipe : i.pipes ≡ [] = ap (λ (x : Synchronized). x.pipes) same ∙ unleft-no_pipe g none in
-    let lost : pipe_named i is.0.name ≡ None = ap (λ ps. find (λ (q : Pipe). eqb q.name is.0.name) ps) no_pipe in
-    let found : pipe_named i is.0.name ≡ Some is.0 = is.2.live in
-    let apart : Some is.0 ≡ None = sym found ∙ lost in absurd (cc)
-
--- and where it has no pipe, none does
-pub no_greatest-unleft : (g : Clustered) (i : Synchronized) → i ≡ skeletons g → i.pipes ≡ [] → left g ≡ []
-no_greatest-unleft g i same none = no_pipe-unleft g (sym (ap (λ (x : Synchronized). x.pipes) same) ∙ none)
-
 -- where the skeletons have no solution the graph is not c-planar
 pub unsolvable-not_planar : (g : Clustered) (i : Synchronized) → IsClustered g → i ≡ skeletons g → ¬ IsSolvable i
     → ¬ IsCPlanar g
@@ -96,7 +62,7 @@ solution-IsSolvedReport g l k same good = (good, subst AllBeginLeast (sym same) 
 
 -- the end and the text of a report that solves a graph answer the text of the graph
 pub told-Solved : (text : List ℕ) (g : Clustered) (r : Report) (end : End) (line : List ℕ) → IsGraphText text g
-    → left g ≡ [] → IsSolvedReport g r → (end ≡ end_of r) × (line ≡ report_text r) → Solved text end line
-told-Solved text g r end line is unleft answer told =
+    → IsSolvedReport g r → (end ≡ end_of r) × (line ≡ report_text r) → Solved text end line
+told-Solved text g r end line is answer told =
     subst (λ t. Solved text end t) (sym told.1) (subst (λ e. Solved text e (report_text r)) (sym told.0)
-    (solved g is unleft r answer))
+    (solved g is r answer))

@@ -1,5 +1,8 @@
 mod AnswerLemmas
+mod CycleBounds
 mod JudgeLemmas
 mod LeastLayouts
+mod RunTexts
 mod SomeAnswer
+mod ToldNumbers
 mod WordLemmas

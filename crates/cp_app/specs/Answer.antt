@@ -1,5 +1,5 @@
 -- What a run may end with, and the text that it then writes.
-use Rattle.std.specs.Prelude.{◌≡◌, ◌≢◌, ◌⊎◌, ◌≤◌, ℕ, List, [], ◌∷◌, drop, codes, get_or}
+use Rattle.std.specs.Prelude.{◌≡◌, ◌≢◌, ◌⊎◌, ◌≤◌, ℕ, List, [], ◌∷◌, drop, codes, get_or, Option, Some, None}
 use Rattle.std.specs.List.{All}
 use Rattle.cp_lists.specs.CyclicLists.{Has}
 use Rattle.cp_cgraph.specs.Clustered.{Clustered}
@@ -20,11 +20,17 @@ use Rattle.cp_report.specs.Faults as reports
 use Rattle.cp_cgraph.specs.GraphTexts.{IsGraphText, IsGraphFault}
 use Rattle.cp_border.specs.Good.{IsGood, IsCPlanar}
 use Rattle.cp_check.specs.Judging.{IsReason, IsGoodReport}
-use Rattle.cp_skel.specs.Skeletons.{left}
-use Rattle.cp_app.specs.Texts.{usage_line, bad_report_line, refused_line, unsolved_line, accepted_line, rejected_line}
+use Rattle.cp_board.specs.declared.steps.Reason.{Reason}
+use Rattle.cp_board.specs.Instances.{Synchronized}
+use Rattle.cp_board.specs.Reasons.{IsBlamed}
+use Rattle.cp_board.specs.Runs.{IsDrivenRun}
+use Rattle.cp_skel.specs.Skeletons.{skeletons}
+use Rattle.cp_trace.specs.declared.trace.Trace as told
+use Rattle.cp_trace.specs.Traces.{IsTextOf}
+use Rattle.cp_app.specs.Texts.{usage_line, bad_report_line, refused_line, accepted_line, rejected_line}
 use Rattle.cp_check.specs.declared.verdict.Reject.{Reject}
 use Rattle.cp_app.specs.declared.command.Asked.{Asked}
-use Rattle.cp_app.specs.declared.command.Asked.TheVariants.{Check, Solve}
+use Rattle.cp_app.specs.declared.command.Asked.TheVariants.{Check, Solve, Trace}
 use Rattle.cp_app.specs.declared.end.End.{End}
 use Rattle.cp_app.specs.declared.end.End.TheVariants as ends
 
@@ -36,9 +42,13 @@ IsCheck words = words ≡ codes "check" ∷ []
 abbrev pub IsSolve : List (List ℕ) → Type 0
 IsSolve words = words ≡ codes "solve" ∷ []
 
+-- or the one command `trace`
+abbrev pub IsTrace : List (List ℕ) → Type 0
+IsTrace words = words ≡ codes "trace" ∷ []
+
 -- they are a command
 abbrev pub IsCommand : List (List ℕ) → Type 0
-IsCommand words = IsCheck words ⊎ IsSolve words
+IsCommand words = IsCheck words ⊎ (IsSolve words ⊎ IsTrace words)
 
 -- the text is no list of keys and values, or says no graph: the end and the line of its first fault
 pub data Refusal (text : List ℕ) : End → List ℕ → Type 0 where
@@ -80,23 +90,44 @@ abbrev pub end_of : Report → End
 end_of No = ends.No
 end_of (Yes l) = ends.Yes
 
--- what `solve` answers to the text of a graph, by the first row that applies; graphs of which an edge leaves a cluster
--- are not solved yet
+-- what `solve` answers to the text of a graph, by the first row that applies
 pub data Solved (text : List ℕ) : End → List ℕ → Type 0 where
   refused : {end : End} {line : List ℕ} → Refusal text end line → Solved text end line
-  unsolved : (g : Clustered) → IsGraphText text g → left g ≢ [] → Solved text (ends.Refused 31 0) unsolved_line
-  solved : (g : Clustered) → IsGraphText text g → left g ≡ [] → (r : Report) → IsSolvedReport g r
+  solved : (g : Clustered) → IsGraphText text g → (r : Report) → IsSolvedReport g r
       → Solved text (end_of r) (report_text r)
+
+-- how a run ends: no pipe is left and the graph is c-planar, or the reason is to blame at the last instance and it is
+-- not
+abbrev pub IsEndOfRun : Clustered → Synchronized → Option Reason → Type 0
+IsEndOfRun g last None = (last.pipes ≡ []) × IsCPlanar g
+IsEndOfRun g last (Some reason) = IsBlamed last reason × ¬ IsCPlanar g
+
+-- the run begins with the skeletons of the graph, each step is allowed and one that the solver may take, and it ends so
+pub record IsRunOf (g : Clustered) (t : told.Trace) : Type 0 where
+  pub first : t.first ≡ skeletons g
+  pub driven : IsDrivenRun t.last t.first t.steps
+  pub end : IsEndOfRun g t.last t.solved
+
+-- the text is that of such a run
+abbrev pub IsTraceOf : Clustered → List ℕ → Type 0
+IsTraceOf g text = (t : told.Trace) × IsRunOf g t × IsTextOf text t
+
+-- what `trace` answers to the text of a graph, by the first row that applies
+pub data Traced (text : List ℕ) : End → List ℕ → Type 0 where
+  refused : {end : End} {line : List ℕ} → Refusal text end line → Traced text end line
+  traced : {lines : List ℕ} → (g : Clustered) → IsGraphText text g → IsTraceOf g lines → Traced text ends.Done lines
 
 -- the words ask for this
 abbrev pub Asks : List (List ℕ) → Asked → Type 0
 Asks words Check = IsCheck words
 Asks words Solve = IsSolve words
+Asks words Trace = IsTrace words
 
 -- the bytes are answered so
 abbrev pub Answers : Asked → List ℕ → End → List ℕ → Type 0
 Answers Check = Checked
 Answers Solve = Solved
+Answers Trace = Traced
 
 -- the ends that all commands share
 abbrev pub shared_ends : Ends End

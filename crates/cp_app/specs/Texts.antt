@@ -24,10 +24,6 @@ bad_report_line kind number = line (codes "bad report " ++ decimal kind ++ codes
 abbrev pub refused_line : List ℕ → ℕ → ℕ → List ℕ
 refused_line name kind at = line (codes "refused " ++ decimal kind ++ codes " " ++ name ++ codes " at " ++ decimal at)
 
--- the line of a graph that is not solved yet
-abbrev pub unsolved_line : List ℕ
-unsolved_line = refused_line (codes "Unsolved") 31 0
-
 -- the line of a layout that is not good, with the reason
 abbrev pub rejected_line : Reject → List ℕ
 rejected_line NoLayout = line (codes "rejected no layout")

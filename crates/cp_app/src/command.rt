@@ -1,10 +1,11 @@
 // The commands.
 ghost use Rattle.std.specs.Prelude.{◌↔◌, IsTrue, map, string_bytes};
-ghost use Rattle.cp_app.specs.Answer.{IsCheck, IsSolve};
+ghost use Rattle.cp_app.specs.Answer.{IsCheck, IsSolve, IsTrace};
 
 use crate::End;
 use crate::answering::answer_to;
 use crate::solving::solve_text;
+use crate::tracing::trace_text;
 use cp_base::Memory;
 use cp_io::Command;
 use std::alloc::Global;
@@ -29,6 +30,16 @@ fn is_solve(words: &[String]) -> bool
     }
 }
 
+/// Whether the words are the one command `trace`.
+fn is_trace(words: &[String]) -> bool
+    ensures { IsTrue result ↔ IsTrace (map string_bytes words.now) }
+{
+    match words {
+        [word] => word.as_str() == "trace",
+        _ => false,
+    }
+}
+
 /// What the words of the command line may ask for.
 #[derive(Clone, Copy, Debug, PartialEq, Eq)]
 pub(crate) enum Asked {
@@ -36,6 +47,8 @@ pub(crate) enum Asked {
     Check,
     /// `solve`: a graph is read and solved.
     Solve,
+    /// `trace`: a graph is read, and the run that solves its skeletons is told.
+    Trace,
 }
 
 impl Command for Asked {
@@ -54,6 +67,9 @@ impl Command for Asked {
         if is_solve(words) {
             return Some(Asked::Solve);
         }
+        if is_trace(words) {
+            return Some(Asked::Trace);
+        }
         None
     }
 
@@ -61,6 +77,7 @@ impl Command for Asked {
         match self {
             Asked::Check => answer_to(alloc, bytes),
             Asked::Solve => solve_text(alloc, bytes),
+            Asked::Trace => trace_text(alloc, bytes),
         }
     }
 }

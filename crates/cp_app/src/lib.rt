@@ -10,11 +10,13 @@ mod refusing;
 mod running;
 mod solving;
 mod texts;
+mod tracing;
 
 pub use end::End;
 pub use laws::one_answer;
 pub use running::run;
-pub use solving::solve_graph;
+pub use solving::{Solver, solve_graph};
+pub use tracing::trace_graph;
 
 #[cfg(test)]
 mod tests;

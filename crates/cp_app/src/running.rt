@@ -9,8 +9,7 @@ ghost use Rattle.cp_io.specs.Commands.{read_fault_line};
 ghost use Rattle.cp_io.specs.Streams.{Took, most_bytes};
 ghost use Rattle.cp_report.specs.Texts.{BeginsWith};
 ghost use Rattle.cp_report.specs.declared.report.Report.{Report};
-ghost use Rattle.cp_skel.specs.Skeletons.{left};
-ghost use Rattle.cp_app.specs.Answer.{IsCheck, IsCommand, IsSolve};
+ghost use Rattle.cp_app.specs.Answer.{IsCheck, IsCommand, IsSolve, IsTrace};
 ghost use Rattle.cp_app.specs.Run.{IsAnswer, IsJudged, IsSolvedEnd, Wrote, WroteFront};
 
 use crate::command::Asked;
@@ -20,10 +19,11 @@ use std::alloc::Global;
 
 /// Runs the program: `words` are the words of the command line without the program's name. All
 /// texts go to the sink, those of refusals too. `solve` reads a graph and writes a report: a good
-/// layout, or that there is none; it refuses graphs of which an edge leaves a cluster. `check` reads a
-/// report and behind it a graph, and tells whether the report's layout is good for the graph. `check`
-/// is linear on average in the number of bytes and of places where edges cross borders; `solve` costs
-/// what `solve_free` costs.
+/// layout, or that there is none. `check` reads a report and behind it a graph, and tells whether the
+/// report's layout is good for the graph. `check` is linear on average in the number of bytes and of
+/// places where edges cross borders; `solve` costs what `solve_instance` costs on the skeletons.
+/// `trace` reads a graph and writes the run of reductions that solves its skeletons or shows that they
+/// have no solution.
 pub fn run<S: Source, K: Sink>(alloc: Global, words: &[String], source: &mut S, sink: &mut K) -> End
     ensures answer { IsAnswer result → Wrote (map string_bytes words.now) (S.left source.old) (K.taken sink.old) (K.taken sink.new) result }
     ensures unread { ¬ IsCommand (map string_bytes words.now) → source.new ≡ source.old }
@@ -42,9 +42,13 @@ pub fn run<S: Source, K: Sink>(alloc: Global, words: &[String], source: &mut S, 
         → ¬ Rose (S.faults source.old) (S.faults source.new) → ¬ Rose (K.faults sink.old) (K.faults sink.new)
         → IsJudged result ⊎ (result ≡ End.Memory) }
     ensures solved { (bytes : List ℕ) (g : Clustered) → IsSolve (map string_bytes words.now) → S.left source.old ≡ Some bytes
-        → length bytes ≤ most_bytes → IsGraphText bytes g → left g ≡ []
+        → length bytes ≤ most_bytes → IsGraphText bytes g
         → ¬ Rose (S.faults source.old) (S.faults source.new) → ¬ Rose (K.faults sink.old) (K.faults sink.new)
         → IsSolvedEnd result ⊎ (result ≡ End.Memory) }
+    ensures traced { (bytes : List ℕ) (g : Clustered) → IsTrace (map string_bytes words.now) → S.left source.old ≡ Some bytes
+        → length bytes ≤ most_bytes → IsGraphText bytes g
+        → ¬ Rose (S.faults source.old) (S.faults source.new) → ¬ Rose (K.faults sink.old) (K.faults sink.new)
+        → (result ≡ End.Done) ⊎ (result ≡ End.Memory) }
 {
     let ends = Ends {
         usage: End::Usage,

@@ -1,49 +1,60 @@
 // The answer to the text of a graph: a good layout, or that there is none.
-ghost use Rattle.std.specs.Prelude.{◌≡◌, ℕ, List, [], IfOk};
+ghost use Rattle.std.specs.Prelude.{◌≡◌, ℕ, List, IfOk};
 ghost use Rattle.cp_cgraph.specs.GraphTexts.{IsGraphText};
+ghost use Rattle.cp_drive.specs.Driving.{IsRunFrom};
 ghost use Rattle.cp_report.specs.Texts.{report_text};
 ghost use Rattle.cp_skel.specs.SkeletonTables.{told_skeletons};
-ghost use Rattle.cp_skel.specs.Skeletons.{left};
+ghost use Rattle.cp_skel.specs.Skeletons.{skeletons};
 ghost use Rattle.cp_app.specs.Answer.{IsSolvedReport, Solved, end_of};
 
+use crate::End;
 use crate::refusing::refusal;
-use crate::{End, texts};
 use cp_base::Memory;
-use cp_cgraph::{CGraph, read_graph};
-use cp_flip::{FreeFault, solve_free};
-use cp_pq::Tree;
+use cp_border::Decide;
+use cp_cgraph::{CGraph, Layout, read_graph};
+use cp_drive::{Run, solve_instance};
 use cp_report::{Report, write_report};
 use cp_skel::{Skeletons, borders_of, skeletons_of};
-use cp_sync::{Board, Instance};
+use cp_sync::Outcome;
 use std::alloc::Global;
 
-// The report of a graph of which no edge leaves a cluster, by its skeletons.
-fn report_of(alloc: Global, graph: &CGraph, skeletons: &Skeletons) -> Result<Report, Memory>
-    requires skeletons { skeletons.now ≡ told_skeletons graph.now }
-    requires unleft { left graph.now ≡ [] }
+// The report of a graph by a run of reductions of its skeletons.
+fn report_of(alloc: Global, graph: &CGraph, tables: &Skeletons, run: &Run) -> Result<Report, Memory>
+    requires skeletons { tables.now ≡ told_skeletons graph.now }
+    requires run { IsRunFrom (skeletons graph.now) run.now }
     ensures { IfOk result (IsSolvedReport graph.now) }
 {
     graph.is_clustered();
-    match solve_free::<Instance, Tree>(alloc, skeletons.instance()) {
-        Ok(solution) => {
-            let layout = borders_of(alloc, graph, skeletons, &solution)?;
+    match &run.outcome {
+        Outcome::Solved(solution) => {
+            let layout = borders_of(alloc, graph, tables, solution)?;
             Ok(Report::Yes(layout))
         }
-        Err(FreeFault::NotPlanar { .. }) => Ok(Report::No),
-        Err(FreeFault::BlocksCross { .. }) => Ok(Report::No),
-        Err(FreeFault::Conflict) => Ok(Report::No),
-        Err(FreeFault::Memory) => Err(Memory),
+        Outcome::Failed(_) => Ok(Report::No),
     }
 }
 
-/// A good layout of a graph of which no edge leaves a cluster, each list from its least item on, or that there is none
-/// (Feng, Cohen, Eades 1995). Costs what its skeletons and `solve_free` cost.
+/// A good layout of a clustered graph, each list from its least item on, or that there is none (Feng, Cohen, Eades
+/// 1995; Bläsius, Fink, Rutter 2021). Costs what its skeletons and `solve_instance` cost.
 pub fn solve_graph(alloc: Global, graph: &CGraph) -> Result<Report, Memory>
-    requires unleft { left graph.now ≡ [] }
     ensures { IfOk result (IsSolvedReport graph.now) }
 {
     let skeletons = skeletons_of(alloc, graph)?;
-    report_of(alloc, graph, &skeletons)
+    let run = solve_instance(alloc, skeletons.instance())?;
+    report_of(alloc, graph, &skeletons, &run)
+}
+
+/// What decides clustered planarity by synchronized planarity (Bläsius, Fink, Rutter 2021).
+#[derive(Clone, Copy, Debug, PartialEq, Eq)]
+pub struct Solver;
+
+impl Decide for Solver {
+    fn decide(&mut self, alloc: Global, g: &CGraph) -> Result<Option<Layout>, Memory> {
+        match solve_graph(alloc, g)? {
+            Report::Yes(layout) => Ok(Some(layout)),
+            Report::No => Ok(None),
+        }
+    }
 }
 
 // The end and the text of a report.
@@ -61,11 +72,8 @@ fn told(alloc: Global, report: &Report) -> Result<(End, Vec<u8>), Memory>
 fn solved(alloc: Global, graph: &CGraph) -> Result<(End, Vec<u8>), Memory>
     ensures { IfOk result (λ a. (text : List ℕ) → IsGraphText text graph.now → Solved text a.0 a.1.items) }
 {
-    let skeletons = skeletons_of(alloc, graph)?;
-    match skeletons.instance().max_pipe() {
-        Some(_) => Ok((End::Refused { kind: 31, at: 0 }, texts::unsolved(alloc)?)),
-        None => told(alloc, &report_of(alloc, graph, &skeletons)?),
-    }
+    let report = solve_graph(alloc, graph)?;
+    told(alloc, &report)
 }
 
 /// The end and its text. Costs what `read_graph` and `solve_graph` cost.

@@ -189,8 +189,8 @@ const SOLVED: [(&str, u8, &str); 7] = [
     ),
     (
         "graph [ node [ id 1 ] node [ id 2 ] edge [ source 1 target 2 ] rootcluster [ cluster [ vertex 1 ] ] ]",
-        2,
-        "refused 31 Unsolved at 0\n",
+        0,
+        "cplan-report 1\nyes\nnode 0: 0s\nnode 1: 0t\ncluster 1: 0\nend\n",
     ),
     ("graph [ ] ]", 2, "refused 7 StrayClose at 10\n"),
 ];

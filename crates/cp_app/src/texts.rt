@@ -2,7 +2,7 @@
 ghost use Rattle.std.specs.Prelude.{◌≡◌, IfOk};
 ghost use Rattle.cp_gml.specs.Kinds.{grammar_name, grammar_number};
 ghost use Rattle.cp_cgraph.specs.Kinds.{graph_name, graph_number};
-ghost use Rattle.cp_app.specs.Texts.{bad_report_line, refused_line, rejected_line, unsolved_line};
+ghost use Rattle.cp_app.specs.Texts.{bad_report_line, refused_line, rejected_line};
 
 use cp_base::Memory;
 use cp_cgraph::GraphKind;
@@ -42,13 +42,6 @@ fn refused(alloc: Global, kind: u8, name: &str, at: usize) -> Result<Vec<u8>, Me
     ensures { IfOk result (λ text. text.items ≡ refused_line name.now kind at) }
 {
     Ok(format!(in alloc; "refused {kind} {name} at {at}\n")?.into_bytes())
-}
-
-/// The line of a graph that is not solved yet.
-pub(crate) fn unsolved(alloc: Global) -> Result<Vec<u8>, Memory>
-    ensures { IfOk result (λ text. text.items ≡ unsolved_line) }
-{
-    refused(alloc, 31, "Unsolved", 0)
 }
 
 /// The line of a grammar fault.

@@ -7,4 +7,4 @@ pub returns-clause-one : goal.returns-clause-one
 returns-clause-one c = λ words bytes e f s t a b. one_end words bytes a b
 
 pub returns-clause-some : goal.returns-clause-some
-returns-clause-some c = λ words bytes none. some_answer words bytes (λ end text is. none (end, text, is))
+returns-clause-some c = λ words bytes runs none. some_answer words bytes runs (λ end text is. none (end, text, is))

@@ -15,3 +15,9 @@ returns-in-Solve c =
     IfOk-weaker c.solve_text.result _ _
     (λ a is. subst (λ x. Answers x c.args.bytes.now a.0 a.1.items) (sym c.in-Solve.is) is)
     c.solve_text.ensures
+
+pub returns-in-Trace : goal.returns-in-Trace
+returns-in-Trace c =
+    IfOk-weaker c.trace_text.result _ _
+    (λ a is. subst (λ x. Answers x c.args.bytes.now a.0 a.1.items) (sym c.in-Trace.is) is)
+    c.trace_text.ensures
