@@ -1,12 +1,13 @@
 #!/usr/bin/env python3
-"""Measures `cplan solve` on families of plain graphs, from 100 edges up by tens: processor time and peak memory of
-`solve` and of `check` on its answer, beside those of `sha256sum` on the same file and of networkx's `check_planarity`
-on the same graph, in one run. The exponent of growth is that from the size before. Stops where an answer is wrong, or
-where a yes is not accepted by `check`. Prints the table of bench/README.md; nothing here is part of the gate.
+"""Measures `cplan solve` on families of plain and of clustered graphs, from 100 edges up by tens: processor time and
+peak memory of `solve` and of `check` on its answer, beside those of `sha256sum` on the same file and, for plain graphs,
+of networkx's `check_planarity`, in one run; and for clustered graphs the steps of the run, as `trace` tells them. The
+exponent of growth is that from the size before. Stops where an answer is wrong, or where a yes is not accepted by
+`check`. Prints the tables of bench/README.md; nothing here is part of the gate.
 
-Usage: bench/solve.py [PROGRAM] [LARGEST_NUMBER_OF_EDGES]
+Usage: bench/solve.py [PROGRAM] [plain|clustered] [LARGEST_NUMBER_OF_EDGES]
 
-PROGRAM is the built `cplan`; without it the script builds it.
+PROGRAM is the built `cplan`; without it the script builds it. Without a kind both are measured.
 """
 import math
 import os
@@ -19,7 +20,7 @@ import time
 from measure import Command, apart, arguments, measured, print_head, print_row, sha256sum
 
 COLUMNS = (
-    ["family", "edges", "answer", "solve s", "exponent", "MB", "check s", "check MB"]
+    ["family", "edges", "clusters", "answer", "steps", "solve s", "exponent", "MB", "check s", "check MB"]
     + ["sha256sum s", "ratio", "networkx s"]
 )
 
@@ -152,8 +153,90 @@ def three_by_three(edges):
     yield from subdivided([(a, b) for a in range(3) for b in range(3, 6)], edges)
 
 
-# Each family with its answer.
-FAMILIES = {
+class Cluster:
+    """A cluster by the nodes that lie in it and in no cluster inside it, and by the clusters inside it."""
+
+    def __init__(self, nodes, inside=()):
+        self.nodes = list(nodes)
+        self.inside = list(inside)
+
+    def number(self):
+        return 1 + sum(cluster.number() for cluster in self.inside)
+
+
+def side_of(edges):
+    """The side of `grid`."""
+    return max(2, math.isqrt(edges // 2))
+
+
+def rows_as_clusters(edges):
+    side = side_of(edges)
+    return [Cluster(range(row * side, (row + 1) * side)) for row in range(side)]
+
+
+def quadrants(edges):
+    """A grid cut into quadrants again and again."""
+    side = side_of(edges)
+
+    def cut(top, left, height, width):
+        if height < 2 or width < 2:
+            nodes = ((top + row) * side + left + column for row in range(height) for column in range(width))
+            return Cluster(nodes)
+        up, near = height // 2, width // 2
+        parts = [(top, left, up, near), (top, left + near, up, width - near)]
+        parts += [(top + up, left, height - up, near), (top + up, left + near, height - up, width - near)]
+        return Cluster([], [cut(*part) for part in parts])
+
+    return cut(0, 0, side, side).inside
+
+
+def prefixes(edges):
+    """Sixty clusters inside one another: the first nodes of a grid, row by row."""
+    nodes = side_of(edges) ** 2
+    bounds = [nodes * (k + 1) // 61 for k in range(60)]
+    cluster = Cluster(range(bounds[0]))
+    for low, high in zip(bounds, bounds[1:]):
+        cluster = Cluster(range(low, high), [cluster])
+    return [cluster]
+
+
+def balls(edges):
+    """The nodes within two steps of every sixth node of every sixth row of a triangulated grid."""
+    side = side_of(2 * max(4, math.isqrt(edges // 3) ** 2))
+    near = [(x, y) for x in range(-2, 3) for y in range(-2, 3) if abs(x - y) <= 2]
+    centres = [(row, column) for row in range(2, side - 2, 6) for column in range(2, side - 2, 6)]
+    return [Cluster((row + x) * side + column + y for x, y in near) for row, column in centres]
+
+
+def corners(edges):
+    """Two opposite corners of a grid."""
+    side = side_of(edges)
+    return [Cluster([0, side * side - 1])]
+
+
+def crossing_corners(edges):
+    """Both pairs of opposite corners of a grid."""
+    side = side_of(edges)
+    return corners(edges) + [Cluster([side - 1, side * (side - 1)])]
+
+
+def scattered(edges):
+    """Every other node of every other row of a grid."""
+    side = side_of(edges)
+    return [Cluster(row * side + column for row in range(0, side, 2) for column in range(0, side, 2))]
+
+
+def mirrored(edges):
+    """The pairs of nodes of a cycle that mirror each other."""
+    return [Cluster([node, edges - 1 - node]) for node in range(edges // 2)]
+
+
+def no_clusters(edges):
+    return []
+
+
+# Each family of plain graphs with its answer.
+PLAIN = {
     "grid": (grid, "yes"),
     "triangulated grid": (triangulated_grid, "yes"),
     "stacked triangulation": (stacked, "yes"),
@@ -172,24 +255,56 @@ FAMILIES = {
     "K3,3 subdivided": (three_by_three, "no"),
 }
 
+# Each family of clustered graphs with its clusters and its answer.
+CLUSTERED = {
+    "rows of a grid": (grid, rows_as_clusters, "yes"),
+    "nested quadrants": (grid, quadrants, "yes"),
+    "prefixes 60 deep": (grid, prefixes, "yes"),
+    "balls": (triangulated_grid, balls, "yes"),
+    "opposite corners": (grid, corners, "yes"),
+    "mirrored pairs": (cycle, mirrored, "yes"),
+    "scattered nodes": (grid, scattered, "no"),
+    "crossing corners": (grid, crossing_corners, "no"),
+}
 
-def write(place, family, edges):
-    """Writes the graph, and gives the seconds of networkx, or a dash where there is none."""
-    rows = list(family(edges))
+
+def write_clusters(out, clusters):
+    """Writes the lists of clusters, by a stack of what is still to be written."""
+    left = list(reversed(clusters))
+    while left:
+        item = left.pop()
+        if isinstance(item, str):
+            out.write(item)
+            continue
+        out.write("cluster [\n")
+        out.writelines("vertex %d\n" % node for node in item.nodes)
+        left.append("]\n")
+        left += reversed(item.inside)
+
+
+def write(place, rows, clusters):
+    """Writes the graph, and gives the numbers of its edges and clusters, and the seconds of networkx, or a dash."""
     nodes = 1 + max(max(row) for row in rows)
     with open(place, "w", encoding="ascii") as out:
         out.write("graph [\n")
         out.writelines("node [ id %d ]\n" % node for node in range(nodes))
         out.writelines("edge [ source %d target %d ]\n" % row for row in rows)
+        if clusters:
+            out.write("rootcluster [\n")
+            write_clusters(out, clusters)
+            out.write("]\n")
         out.write("]\n")
+    number = sum(cluster.number() for cluster in clusters)
     try:
         import networkx
     except ImportError:
-        return b"%d -" % len(rows)
+        return b"%d %d -" % (len(rows), number)
+    if clusters:
+        return b"%d %d -" % (len(rows), number)
     graph = networkx.Graph(rows)
     start = time.process_time()
     networkx.check_planarity(graph)
-    return b"%d %.3f" % (len(rows), time.process_time() - start)
+    return b"%d 0 %.3f" % (len(rows), time.process_time() - start)
 
 
 def answered(program, place, answer):
@@ -205,13 +320,23 @@ def answered(program, place, answer):
     return status
 
 
-def rows_of(program, folder, name, largest):
-    family, answer = FAMILIES[name]
+def steps_of(program, place):
+    """The number of steps of the run."""
+    with open(place, "rb") as source:
+        traced = subprocess.run([program, "trace"], stdin=source, capture_output=True)
+    if traced.returncode != 0:
+        sys.exit("no trace, with status %d" % traced.returncode)
+    return b"%d" % sum(line.startswith(b"step ") for line in traced.stdout.splitlines())
+
+
+def rows_of(program, folder, name, family, clusters, answer, largest):
     place = os.path.join(folder, "graph")
     edges, before = 100, None
     while edges <= largest and (before is None or before[1] <= LONGEST):
-        count, networkx_seconds = apart(lambda: write(place, family, edges)).decode().split()
+        told = apart(lambda: write(place, list(family(edges)), clusters(edges)))
+        count, number, networkx_seconds = told.decode().split()
         status = answered(program, place, answer)
+        steps = "-" if number == "0" else apart(lambda: steps_of(program, place)).decode()
         line = b"accepted\n" if status == 0 else b"rejected no layout\n"
         solve, check, base = measured([
             Command([program, "solve"], place, status, None),
@@ -222,7 +347,7 @@ def rows_of(program, folder, name, largest):
         if before is not None and before[1] > 0.01:
             grown = "%.2f" % (math.log(solve.seconds / before[1]) / math.log(int(count) / before[0]))
         print_row(
-            [name, count, answer, "%.3f" % solve.seconds, grown, "%.0f" % solve.memory]
+            [name, count, number, answer, steps, "%.3f" % solve.seconds, grown, "%.0f" % solve.memory]
             + ["%.3f" % check.seconds, "%.0f" % check.memory, "%.3f" % base.seconds]
             + ["%.0f" % (solve.seconds / max(base.seconds, 0.001)), networkx_seconds]
         )
@@ -231,11 +356,17 @@ def rows_of(program, folder, name, largest):
 
 
 def main():
+    kinds = [word for word in sys.argv[1:] if word in ("plain", "clustered")]
+    sys.argv[1:] = [word for word in sys.argv[1:] if word not in kinds]
     program, largest = arguments(100_000)
     print_head(COLUMNS)
     with tempfile.TemporaryDirectory() as folder:
-        for name in FAMILIES:
-            rows_of(program, folder, name, largest)
+        if "clustered" not in kinds:
+            for name, (family, answer) in PLAIN.items():
+                rows_of(program, folder, name, family, no_clusters, answer, largest)
+        if "plain" not in kinds:
+            for name, (family, clusters, answer) in CLUSTERED.items():
+                rows_of(program, folder, name, family, clusters, answer, largest)
 
 
 if __name__ == "__main__":
