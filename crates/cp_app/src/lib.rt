@@ -20,3 +20,5 @@ pub use tracing::trace_graph;
 
 #[cfg(test)]
 mod tests;
+#[cfg(test)]
+mod tests_rows;

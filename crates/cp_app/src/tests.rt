@@ -115,7 +115,7 @@ const CHECKS: [(&str, u8, &str); 22] = [
 ];
 
 // Texts of graphs, each with the line that stands for it behind an empty report.
-const GRAPHS: [(&str, &str); 22] = [
+pub(crate) const GRAPHS: [(&str, &str); 22] = [
     ("graph [ ] ;", "refused 1 BadByte at 10\n"),
     ("a \"x", "refused 2 OpenString at 2\n"),
     ("a 1.2.3", "refused 3 BadNumber at 2\n"),
@@ -159,7 +159,7 @@ const GRAPHS: [(&str, &str); 22] = [
 ];
 
 // K5, its nodes and edges, with what stands behind the last edge.
-const FIVE: &str =
+pub(crate) const FIVE: &str =
     "node [ id 1 ] node [ id 2 ] node [ id 3 ] node [ id 4 ] node [ id 5 ] edge [ source 1 target 3 ] edge [ source 1 target 4 ] edge [ source 1 target 5 ] edge [ source 2 target 3 ] edge [ source 2 target 4 ] edge [ source 2 target 5 ] edge [ source 3 target 4 ] edge [ source 3 target 5 ] edge [ source 4 target 5 ]";
 
 // Graphs that have one answer, each with its status and its text.
@@ -196,7 +196,7 @@ const SOLVED: [(&str, u8, &str); 7] = [
 ];
 
 // The words of a command line.
-fn words_of(alloc: Global, words: &[&str]) -> Result<Vec<String>, Memory> {
+pub(crate) fn words_of(alloc: Global, words: &[&str]) -> Result<Vec<String>, Memory> {
     let mut row = Vec::new(alloc);
     for word in words {
         row.push(String::from_str(alloc, word)?)?;
@@ -205,7 +205,7 @@ fn words_of(alloc: Global, words: &[&str]) -> Result<Vec<String>, Memory> {
 }
 
 // Runs a command on an input, and gives the status and what was written.
-fn ran(alloc: Global, word: &str, input: &[u8]) -> Result<(u8, MemSink), Memory> {
+pub(crate) fn ran(alloc: Global, word: &str, input: &[u8]) -> Result<(u8, MemSink), Memory> {
     let words = words_of(alloc, &[word])?;
     let mut source = MemSource::new(alloc, input, 8, &[])?;
     let mut sink = MemSink::new(alloc, 1000, 1000, &[])?;
@@ -214,7 +214,7 @@ fn ran(alloc: Global, word: &str, input: &[u8]) -> Result<(u8, MemSink), Memory>
 }
 
 // Checks an input, and gives the status and what was written.
-fn checked(alloc: Global, input: &[u8]) -> Result<(u8, MemSink), Memory> {
+pub(crate) fn checked(alloc: Global, input: &[u8]) -> Result<(u8, MemSink), Memory> {
     ran(alloc, "check", input)
 }
 
