@@ -6,3 +6,4 @@ mod RunTexts
 mod SomeAnswer
 mod ToldNumbers
 mod WordLemmas
+mod YesLayouts

@@ -1,5 +1,5 @@
 -- What a run may end with, and the text that it then writes.
-use Rattle.std.specs.Prelude.{◌≡◌, ◌≢◌, ◌⊎◌, ◌≤◌, ℕ, List, [], ◌∷◌, drop, codes, get_or, Option, Some, None}
+use Rattle.std.specs.Prelude.{◌≡◌, ◌≢◌, ◌⊎◌, ◌≤◌, ℕ, List, [], ◌∷◌, length, drop, codes, get_or, Option, Some, None}
 use Rattle.std.specs.List.{All}
 use Rattle.cp_lists.specs.CyclicLists.{Has}
 use Rattle.cp_cgraph.specs.Clustered.{Clustered}
@@ -23,7 +23,7 @@ use Rattle.cp_check.specs.Judging.{IsReason, IsGoodReport}
 use Rattle.cp_board.specs.declared.steps.Reason.{Reason}
 use Rattle.cp_board.specs.Instances.{Synchronized}
 use Rattle.cp_board.specs.Reasons.{IsBlamed}
-use Rattle.cp_board.specs.Runs.{IsDrivenRun}
+use Rattle.cp_board.specs.Runs.{IsDrivenRun, potential}
 use Rattle.cp_skel.specs.Skeletons.{skeletons}
 use Rattle.cp_trace.specs.declared.trace.Trace as told
 use Rattle.cp_trace.specs.Traces.{IsTextOf}
@@ -102,10 +102,12 @@ abbrev pub IsEndOfRun : Clustered → Synchronized → Option Reason → Type 0
 IsEndOfRun g last None = (last.pipes ≡ []) × IsCPlanar g
 IsEndOfRun g last (Some reason) = IsBlamed last reason × ¬ IsCPlanar g
 
--- the run begins with the skeletons of the graph, each step is allowed and one that the solver may take, and it ends so
+-- the run begins with the skeletons of the graph, each step is allowed and one that the solver may take, there are at
+-- most as many steps as the sum of 3^d over the pipes of degree d of the skeletons, and it ends so
 pub record IsRunOf (g : Clustered) (t : told.Trace) : Type 0 where
   pub first : t.first ≡ skeletons g
   pub driven : IsDrivenRun t.last t.first t.steps
+  pub few : length t.steps ≤ potential (skeletons g)
   pub end : IsEndOfRun g t.last t.solved
 
 -- the text is that of such a run

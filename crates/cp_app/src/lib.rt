@@ -13,7 +13,7 @@ mod texts;
 mod tracing;
 
 pub use end::End;
-pub use laws::one_answer;
+pub use laws::{one_answer, yes_tells_a_layout};
 pub use running::run;
 pub use solving::{Solver, solve_graph};
 pub use tracing::trace_graph;
