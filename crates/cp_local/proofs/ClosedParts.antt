@@ -5,7 +5,7 @@ use Rattle.std.specs.List.Sorted.{IsPermutation}
 use Rattle.std.proofs.lemmas.List.{get_or-map, length-map}
 use Rattle.std.proofs.lemmas.List.Elements.{Contains-get_or}
 use Rattle.std.proofs.lemmas.List.Kept.{IsStrictlyIncreasing-filter}
-use Rattle.cp_orbits.specs.Connected.{Connected, Joins}
+use Rattle.cp_orbits.specs.Connected.{Connected, Joins, here, step}
 use Rattle.cp_orbits.proofs.ClassLabels.{Connected-more}
 use Rattle.cp_base.specs.Graphs.{AreWithin}
 use Rattle.cp_conn.specs.Blocks.{HaveNoLoop}

@@ -8,14 +8,15 @@ use Rattle.std.proofs.lemmas.List.{append-nil, get_or_append_left, get_or_defaul
 use Rattle.indexmap.specs.IndexSet.{insert_key}
 use Rattle.cp_lists.specs.CyclicLists.{Has, Distinct}
 use Rattle.cp_lists.proofs.DistinctLists.{Distinct-append, Has-Contains, Has-append_cases, Has-append_left, Has-append_right, Has-place, Has_at}
-use Rattle.cp_orbits.specs.Connected.{Connected}
+use Rattle.cp_orbits.specs.Connected.{Connected, here, step}
 use Rattle.cp_orbits.proofs.ClassLabels.{Connected-trans}
 use Rattle.cp_conn.specs.NamedGraphs.{far, pairs}
 use Rattle.cp_conn.proofs.DistinctSubsets.{subset_length}
 use Rattle.cp_conn.proofs.NamedGraphs.{edges_at-Contains, far_joins, pairs_have}
 use Rattle.cp_board.specs.Instances.{IsSynchronized, Synchronized, edge_names, edges_of, ends_of, graph, vert_names}
 use Rattle.cp_sync.proofs.NumberedGraphs.{live_ends}
-use Rattle.cp_local.specs.Searching.{HaveEnds, IsClosed, IsSearched, with_ends}
+use Rattle.cp_local.specs.LocalGraphs.{AreComponents, IsReached}
+use Rattle.cp_local.specs.Searching.{AreJoinedTo, IsSearched, with_ends}
 
 -- what is an item passes the test
 any_of : (p : ℕ → Bool) (xs : List ℕ) (x : ℕ) → Has x xs → p x ≡ true → list_any p xs ≡ true
@@ -159,7 +160,7 @@ module _ (i : Synchronized) where
   -- a vertex of which all edges are found is done
   IsSearched-next : (k v : ℕ) (vs es at : List ℕ) → IsSearched i k vs es → k < length vs → slice_index vs k ≡ v
       → at ≡ edges_of i v → ((j : ℕ) → j < length at → Has (get_or at j 0) es) → IsSearched i (k + 1) vs es
-  IsSearched-next k v vs es at s lt here is_at all = record {
+  IsSearched-next k v vs es at s lt at_k is_at all = record {
     within = omega (arith, lt);
     verts_once = s.verts_once;
     verts_live = s.verts_live;
@@ -170,7 +171,7 @@ module _ (i : Synchronized) where
         (λ (rest : k ≤ j).
         let same : j ≡ k = omega (arith, below, rest) in
         let w = subst (λ xs. Contains xs e) (sym is_at) (subst (λ u. Contains (edges_of i u) e) (ap
-        (slice_index vs) same ∙ here) h) in
+        (slice_index vs) same ∙ at_k) h) in
         subst (λ x. Has x es) (get_or_default at w.0 0 e w.1 ∙ w.2) (all w.0 w.1))
         (cases_lt j k);
   }
@@ -179,7 +180,7 @@ module _ (i : Synchronized) where
   pub IsSearched-visit : IsSynchronized i → (k v : ℕ) (vs es at us fs : List ℕ) → IsSearched i k vs es → k < length vs
       → slice_index vs k ≡ v → at ≡ edges_of i v → us ≡ fold (with_ends i) vs at → fs ≡ es ++ at
       → IsSearched i (k + 1) us fs
-  IsSearched-visit is k v vs es at us fs s lt here is_at is_us is_fs =
+  IsSearched-visit is k v vs es at us fs s lt at_k is_at is_us is_fs =
       let b = with_all-begins vs at in
       let live : (e : ℕ) → Has e at → Contains (edge_names i) e =
       λ e h. (edges_at-Contains (graph i) v e ((Has-Contains e (edges_of i v)).0 (subst (Has e) is_at h))).0 in
@@ -187,7 +188,7 @@ module _ (i : Synchronized) where
       (subst (IsSearched i (k + 1) (fold (with_ends i) vs at)) (sym is_fs)
       (IsSearched-next k v (fold (with_ends i) vs at) (es ++ at) at (IsSearched-edges is k vs es at s live)
       (let h = ap length b.1 in omega (arith, lt, h, length-append vs b.0))
-      (ap (λ xs. slice_index xs k) b.1 ∙ get_or_append_left vs b.0 0 k lt ∙ here) is_at
+      (ap (λ xs. slice_index xs k) b.1 ∙ get_or_append_left vs b.0 0 k lt ∙ at_k) is_at
       (λ j l. Has-append_right (get_or at j 0) es at (Has_at at j l))))
 
   -- before the first step two vertices are found

@@ -1,8 +1,23 @@
 -- The search ends with all vertices done, so it has found whole components.
-use Rattle.std.proofs.Common.{◌<◌, ◌≤◌, length, subst, sym, arith, ap, ◌∙◌}
+use Rattle.std.proofs.Common.{◌≡◌, ℕ, ◌<◌, ◌≤◌, List, [], length, subst, sym, arith, ap, ◌∙◌}
 use Rattle.cp_lists.specs.CyclicLists.{Has}
-use Rattle.cp_local.proofs.Searches.{IsSearched-AreComponents, IsSearched-size, reached_more}
+use Rattle.cp_local.specs.Searching.{IsSearched}
+use Rattle.cp_local.proofs.Searches.{IsSearched-AreComponents, IsSearched-none, IsSearched-size, first_reached, first_two, reached_more, with_key}
 use Rattle.cp_local.proofs.searching.components_of.Goals as goal
+
+pub search-init : goal.search-init
+search-init g c =
+    let i = g.B.Board.instance c.args.board.now in
+    let vs = c.insert_full-2.new.self.keys in
+    let is : vs ≡ with_key (with_key [] c.args.u) c.args.v =
+    c.in_ok-insert_full-2.ensures.keys ∙ ap (λ (xs : List ℕ). with_key xs c.args.v)
+    (c.in_ok-insert_full.ensures.keys ∙ ap (λ (xs : List ℕ). with_key xs c.args.u) c.new-verts.ensures.empty) in (
+      subst (IsSearched i 0 vs) (sym c.new-edges.ensures.items)
+          (IsSearched-none i c.args.u c.args.v vs c.requires.live_u c.requires.live_v is),
+      (first_two i c.args.u c.args.v vs is).0,
+      (first_two i c.args.u c.args.v vs is).1,
+      first_reached i c.args.u c.args.v vs is,
+    )
 
 pub search-smaller : goal.search-smaller
 search-smaller g c =
