@@ -217,7 +217,8 @@ module _ (i : Synchronized) where
   pub first_reached : (u v : ℕ) (vs : List ℕ) → vs ≡ with_key (with_key [] u) v → (x : ℕ) → Has x vs
       → IsReached i u v x
   first_reached u v vs e x h = ⊎_elim
-      (λ k. ⊎_elim (λ z. absurd z) (λ same. inl (subst (Connected (pairs (graph i)) u) same here)) (with_key-from [] u x k))
+      (λ k. ⊎_elim (λ z. absurd z) (λ same. inl (subst (Connected (pairs (graph i)) u) same here))
+      (with_key-from [] u x k))
       (λ same. inr (subst (Connected (pairs (graph i)) v) same here))
       (with_key-from (with_key [] u) v x (subst (Has x) e h))
 
@@ -286,10 +287,10 @@ module _ (i : Synchronized) where
       → Has u vs → Has v vs → ((x : ℕ) → Has x vs → IsReached i u v x) → IsStrictlyIncreasing verts
       → IsStrictlyIncreasing edges → ((x : ℕ) → Has x verts ↔ Has x vs) → ((x : ℕ) → Has x edges ↔ Has x es)
       → AreComponents i u v verts edges
-  IsSearched-AreComponents u v k vs es verts edges s done hu hv reached up_verts up_edges same_verts same_edges = record {
+  IsSearched-AreComponents u v k vs es verts edges s done hu hv reached up_vs up_es same_verts same_edges = record {
     closed = record {
-      verts_rise = up_verts;
-      edges_rise = up_edges;
+      verts_rise = up_vs;
+      edges_rise = up_es;
       verts_live = λ x c. s.verts_live x (vert_from x c);
       edges_live = λ e c. s.edges_live e (edge_from e c);
       whole = λ x e cx ce.

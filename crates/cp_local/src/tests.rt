@@ -57,11 +57,11 @@ fn a_component_is_left_out(rt: HostRuntime) -> Result<(), Fail> {
     let rows = [(5, 1, 4), (6, 2, 7), (8, 3, 7), (9, 6, 9)];
     let i = instance(alloc, &[1, 2, 3, 4, 6, 7, 9], &rows)?;
     let one = found(alloc, &i, 3, 3)?.expect(&rt, "a live vertex");
-    assert!(rt; *one.verts.items() == [2, 3, 7].as_slice());
-    assert!(rt; *one.edges.items() == [6, 8].as_slice());
+    assert!(rt; one.verts.items() == [2, 3, 7].as_slice());
+    assert!(rt; one.edges.items() == [6, 8].as_slice());
     let two = found(alloc, &i, 9, 2)?.expect(&rt, "live vertices");
-    assert!(rt; *two.verts.items() == [2, 3, 6, 7, 9].as_slice());
-    assert!(rt; *two.edges.items() == [6, 8, 9].as_slice());
-    assert!(rt; *two.graph.ends() == [(0, 3), (1, 3), (2, 4)].as_slice());
+    assert!(rt; two.verts.items() == [2, 3, 6, 7, 9].as_slice());
+    assert!(rt; two.edges.items() == [6, 8, 9].as_slice());
+    assert!(rt; two.graph.ends() == [(0, 3), (1, 3), (2, 4)].as_slice());
     Ok(())
 }
