@@ -10,6 +10,7 @@ mod FirstItems
 mod RisingPlaces
 mod NumberedParts
 mod TakenEdges
+mod LocalBonds
 mod NumberedBonds
 mod PermutedExists
 mod PermutedLists

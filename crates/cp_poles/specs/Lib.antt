@@ -1,5 +1,6 @@
 pub mod Small
 pub mod Between
+pub mod LocalBonds
 pub mod Permuted
 pub mod Wanted
 pub mod Layers

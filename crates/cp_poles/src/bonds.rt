@@ -2,20 +2,23 @@
 ghost use Rattle.std.specs.Prelude.{◌≡◌, ◌≢◌, ◌↔◌, ℕ, ◌<◌, ◌^◌, length, false, true, IfOk, IsTrue, MatchOption, replicate, set};
 ghost use Rattle.std.specs.List.{All, Contains};
 ghost use Rattle.std.specs.List.Sorted.{IsStrictlyIncreasing};
-ghost use Rattle.cp_board.specs.Instances.{IsSynchronized, edge_names, edges_of, graph, vert_names};
+ghost use Rattle.cp_board.specs.Instances.{IsSynchronized, edge_names, graph, vert_names};
 ghost use Rattle.cp_conn.specs.Bonds.{IsBond};
-ghost use Rattle.cp_conn.specs.NamedGraphs.{far, rank};
-ghost use Rattle.cp_poles.specs.Between.{AreEntries, AreNumbersBetween, AreTaken, IsAlongBond, entry, number_of};
+ghost use Rattle.cp_conn.specs.NamedGraphs.{edges_at, far, rank};
+ghost use Rattle.cp_poles.specs.Between.{AreEntries, AreTaken, IsAlongBond, entry, number_of};
+ghost use Rattle.cp_poles.specs.LocalBonds.{IsBetween, local_part};
 
 use cp_base::Memory;
 use cp_conn::components_without;
-use cp_sync::{Board, BoardGraph, graph_of};
+use cp_local::{LocalGraph, local_graph};
+use cp_sync::Board;
 use std::alloc::Global;
 
-// The components of a board without two vertices: `numbers` has for each vertex, by its place, that of its component.
+// The components of two vertices of a board, and for each of their vertices, by its place, the number of its component
+// where the two are removed.
 #[derive(Drop)]
 struct Between {
-    board: BoardGraph,
+    local: LocalGraph,
     numbers: Vec<usize>,
 }
 
@@ -45,19 +48,17 @@ fn two_marked(alloc: Global, n: usize, u: usize, v: usize) -> Result<Vec<bool>, 
     Ok(marks)
 }
 
-// The components without two vertices. Linear in the board, up to a logarithm.
+// The components without two vertices. It costs what `local_graph` costs, and is linear beside that.
 fn parts_between<B: Board>(alloc: Global, board: &B, u: usize, v: usize) -> Result<Between, Memory>
     requires live_u { Contains (vert_names (B.instance board.now)) u }
     requires live_v { Contains (vert_names (B.instance board.now)) v }
-    ensures verts { IfOk result (λ b. b.board.verts ≡ vert_names (B.instance board.now)) }
-    ensures numbers { IfOk result (λ b. AreNumbersBetween (graph (B.instance board.now)) u v b.numbers.items) }
-    ensures rules { IsSynchronized (B.instance board.now) }
+    ensures { IfOk result (IsBetween (B.instance board.now) u v) }
 {
-    let g = graph_of(alloc, board)?;
-    let names = g.verts.items();
+    let local = local_graph(alloc, board, u, v)?;
+    let names = local.verts.items();
     let removed = two_marked(alloc, names.len(), place_of(names, u), place_of(names, v))?;
-    let numbers = components_without(alloc, &g.graph, removed.as_slice())?;
-    Ok(Between { board: g, numbers })
+    let numbers = components_without(alloc, &local.graph, removed.as_slice())?;
+    Ok(Between { local, numbers })
 }
 
 // The end of an edge that is not `at`.
@@ -72,14 +73,12 @@ fn far_end<B: Board>(board: &B, at: usize, e: usize) -> usize
 
 // The number of the component of a vertex. Logarithmic.
 fn part_of<B: Board>(board: &B, between: &Between, u: usize, v: usize, x: usize) -> usize
-    requires rules { IsSynchronized (B.instance board.now) }
-    requires verts { between.now.board.verts ≡ vert_names (B.instance board.now) }
-    requires numbers { AreNumbersBetween (graph (B.instance board.now)) u v between.now.numbers.items }
-    requires live { Contains (vert_names (B.instance board.now)) x }
-    ensures value { result ≡ number_of (graph (B.instance board.now)) between.now.numbers.items x }
+    requires between { IsBetween (B.instance board.now) u v between.now }
+    requires within { Contains between.now.local.verts x }
+    ensures value { result ≡ number_of (local_part (B.instance board.now) between.now) between.now.numbers.items x }
     ensures within { result < length between.now.numbers.items }
 {
-    between.numbers[place_of(between.board.verts.items(), x)]
+    between.numbers[place_of(between.local.verts.items(), x)]
 }
 
 // A table without entries.
@@ -109,11 +108,9 @@ fn entries<B: Board>(
     u: usize,
     v: usize,
 ) -> Result<Vec<Option<usize>>, Memory>
-    requires rules { IsSynchronized (B.instance board.now) }
-    requires live { Contains (vert_names (B.instance board.now)) v }
-    requires verts { between.now.board.verts ≡ vert_names (B.instance board.now) }
-    requires numbers { AreNumbersBetween (graph (B.instance board.now)) u v between.now.numbers.items }
-    ensures { IfOk result (λ table. AreEntries (graph (B.instance board.now)) v between.now.numbers.items (edges_of (B.instance board.now) v) table.items) }
+    requires { IsBetween (B.instance board.now) u v between.now }
+    ensures { IfOk result (λ table. AreEntries (local_part (B.instance board.now) between.now) v between.now.numbers.items
+        (edges_at (local_part (B.instance board.now) between.now) v) table.items) }
 {
     let edges = board.edges_at(alloc, v)?;
     let mut table = empty_table(alloc, between.numbers.len())?;
@@ -133,11 +130,7 @@ fn taken<B: Board>(
     u: usize,
     v: usize,
 ) -> Result<Option<Vec<(usize, usize)>>, Memory>
-    requires rules { IsSynchronized (B.instance board.now) }
-    requires live_u { Contains (vert_names (B.instance board.now)) u }
-    requires live_v { Contains (vert_names (B.instance board.now)) v }
-    requires verts { between.now.board.verts ≡ vert_names (B.instance board.now) }
-    requires numbers { AreNumbersBetween (graph (B.instance board.now)) u v between.now.numbers.items }
+    requires between { IsBetween (B.instance board.now) u v between.now }
     requires differ { u ≢ v }
     ensures { IfOk result (λ found. MatchOption found (¬ IsBond (graph (B.instance board.now)) u v) (λ along. IsAlongBond (graph (B.instance board.now)) u v along.items)) }
 {
@@ -160,7 +153,7 @@ fn taken<B: Board>(
 }
 
 // Each edge of `u` with the edge of `v` as which it goes on along their bond, or `None` where they are no bond.
-// Linear in the board, up to a logarithm, by one search for the components without the two.
+// Linear in the components of the two, up to a logarithm.
 pub(crate) fn along_bond<B: Board>(
     alloc: Global,
     board: &B,
@@ -178,7 +171,8 @@ pub(crate) fn along_bond<B: Board>(
     taken(alloc, board, &parts, u, v)
 }
 
-// Each edge of `u` with the edge of `v` as which it goes on along their bond. Linear in the board, up to a logarithm.
+// Each edge of `u` with the edge of `v` as which it goes on along their bond. Linear in the components of the two, up
+// to a logarithm.
 pub(crate) fn bond_pairs<B: Board>(
     alloc: Global,
     board: &B,
@@ -199,8 +193,8 @@ pub(crate) fn bond_pairs<B: Board>(
 
 /// Whether two vertices are the poles of a bond: `v` is adjacent to each component of the rest that an edge of `u`
 /// enters, and no two edges of `u` enter one (Bläsius, Fink, Rutter 2021). Both are live. The only error is want of
-/// memory. It numbers the components of the board without the two vertices once, and asks the board for the ends of
-/// each edge once and of those at the two vertices once more: linear in the board, up to a logarithm.
+/// memory. It searches the components of the two vertices once: it asks the board for the edges of each vertex there
+/// and a constant number of times for the ends of each of these edges, and is linear beside that, up to a logarithm.
 pub fn is_bond<B: Board>(alloc: Global, board: &B, u: usize, v: usize) -> Result<bool, Memory>
     requires live_u { Contains (vert_names (B.instance board.now)) u }
     requires live_v { Contains (vert_names (B.instance board.now)) v }
