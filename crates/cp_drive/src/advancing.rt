@@ -104,8 +104,16 @@ fn driven(alloc: Global, store: Store) -> Result<Run, Memory>
 /// A run of reductions from this instance, with a solution of it or the reason why there is none (Bläsius, Fink, Rutter
 /// 2021). Each step is taken at the pipe of greatest degree, of equal ones at that of least name: Small up to three
 /// pairs, Join between two cut vertices, and else one that rests on the order tree of an end that is no cut vertex. The
-/// number of steps is at most the sum of `3^d` over all pipes of degree `d`. One store holds the instances of the run;
-/// a step costs what its rewrite costs, and so does turning a solution back over it. The only error is want of memory.
+/// number of steps is at most the sum of `3^d` over all pipes of degree `d`, as the law `answered_runs_are_short` says.
+///
+/// One store holds the instances of the run, and the greatest pipe is found in logarithmic time. At four or more pairs
+/// `parts_at` is asked for one end or both whether they are cut vertices, each time linear in the vertices and edges of
+/// the present instance, up to a logarithm. Where one is none, `tree_at` walks its component and goes over the order
+/// tree of its block a constant number of times for each vertex of the block. The rewrite is made with the cost that
+/// the call of its kind tells (`small`, `free_pole`, `fuse_poles`, `toroidal`, `join`, `propagate`), and the store takes
+/// it with that of its `rewrite`. A solution is turned back over each step with the cost of the call for that
+/// (`small_back` and so on): constant for Small, else linear in the instance or more. `solve_free` is called once, where
+/// no pipe is left. The only error is want of memory.
 pub fn solve_instance(alloc: Global, first: &Instance) -> Result<Run, Memory>
     ensures { IfOk result (IsRunFrom first.now) }
 {

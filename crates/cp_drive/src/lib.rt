@@ -11,4 +11,5 @@ mod run;
 mod turning_back;
 
 pub use advancing::solve_instance;
+pub use laws::answered_runs_are_short;
 pub use run::Run;
