@@ -2,6 +2,7 @@ mod RisingLists
 mod LiveRows
 mod NamedParts
 mod BoardParts
+mod LocalParts
 mod Scans
 mod FreshNames
 mod PartLists

@@ -8,6 +8,7 @@ ghost use Rattle.cp_board.specs.Joins.{ArePartsAt};
 
 use cp_base::{CycList, Items, Memory};
 use cp_conn::{EdgeParts, edges_by_block};
+use cp_local::local_graph;
 use cp_sync::{Board, graph_of};
 use std::alloc::Global;
 
@@ -66,11 +67,14 @@ pub(crate) fn parts_among<B: Board>(alloc: Global, board: &B, u: usize) -> Resul
 
 /// The edges of vertex `u` in parts: two edges are in one part where they enter one component when `u` is removed. Each
 /// part rises, and the parts stand by their least edges (Bläsius, Fink, Rutter 2021). `u` is the name of a live vertex.
-/// The only error is want of memory. It asks the board for the ends of each edge once, and is linear beside that in the
-/// numbers of vertices and edges of the board, up to a logarithm.
+/// The only error is want of memory. It asks the board for the edges of each vertex of the component of `u` and a
+/// constant number of times for the ends of each, and is linear beside that in the component, up to a logarithm.
 pub fn parts_at<B: Board>(alloc: Global, board: &B, u: usize) -> Result<EdgeParts, Memory>
     requires { Contains (vert_names (B.instance board.now)) u }
     ensures { IfOk result (λ parts. ArePartsAt (graph (B.instance board.now)) u parts) }
 {
-    parts_among(alloc, board, u)
+    let local = local_graph(alloc, board, u, u)?;
+    let place = place_of(local.verts.items(), u);
+    let numbers = edges_by_block(alloc, &local.graph, place)?;
+    named_parts(alloc, local.edges.items(), numbers.items())
 }
