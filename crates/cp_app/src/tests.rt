@@ -208,7 +208,7 @@ pub(crate) fn words_of(alloc: Global, words: &[&str]) -> Result<Vec<String>, Mem
 pub(crate) fn ran(alloc: Global, word: &str, input: &[u8]) -> Result<(u8, MemSink), Memory> {
     let words = words_of(alloc, &[word])?;
     let mut source = MemSource::new(alloc, input, 8, &[])?;
-    let mut sink = MemSink::new(alloc, 1000, 1000, &[])?;
+    let mut sink = MemSink::new(alloc, 100_000, 1000, &[])?;
     let end = run(alloc, words.as_slice(), &mut source, &mut sink);
     Ok((end.code(), sink))
 }

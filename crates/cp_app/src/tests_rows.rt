@@ -144,3 +144,76 @@ fn solve_takes_64_mebibytes(rt: HostRuntime) -> Result<(), Fail> {
     }
     Ok(())
 }
+
+// A node with nine hundred edges to nodes of their own and in a hundred triangles: it lies in a thousand blocks.
+fn thousand_blocks(alloc: Global) -> Result<String, Memory> {
+    let mut text = String::from_str(alloc, "graph [ node [ id 0 ]")?;
+    for i in 1..1101u64 {
+        let part = format!(in alloc; " node [ id {i} ] edge [ source 0 target {i} ]")?;
+        text.push_str(part.as_str())?;
+    }
+    for i in 450..550u64 {
+        let part = format!(in alloc;
+            " edge [ source {a} target {b} ]",
+            a = 2 * i + 1,
+            b = 2 * i + 2
+        )?;
+        text.push_str(part.as_str())?;
+    }
+    text.push_str(" ]")?;
+    Ok(text)
+}
+
+#[test]
+fn a_node_lies_in_a_thousand_blocks(rt: HostRuntime) -> Result<(), Fail> {
+    let graph = thousand_blocks(rt.alloc())?;
+    let (_, line) = solved_and_checked(rt.alloc(), graph.as_str())?;
+    assert_eq!(rt; line.bytes(), b"accepted\n".as_slice());
+    Ok(())
+}
+
+// The edges between five nodes.
+const PAIRS: [&str; 10] = [
+    " edge [ source 1 target 2 ]",
+    " edge [ source 1 target 3 ]",
+    " edge [ source 1 target 4 ]",
+    " edge [ source 1 target 5 ]",
+    " edge [ source 2 target 3 ]",
+    " edge [ source 2 target 4 ]",
+    " edge [ source 2 target 5 ]",
+    " edge [ source 3 target 4 ]",
+    " edge [ source 3 target 5 ]",
+    " edge [ source 4 target 5 ]",
+];
+
+// The graph on five nodes with the edges whose bits are set in a number.
+fn graph_of_bits(alloc: Global, number: u64) -> Result<String, Memory> {
+    let mut text = String::from_str(alloc, "graph [")?;
+    text.push_str(" node [ id 1 ] node [ id 2 ] node [ id 3 ] node [ id 4 ] node [ id 5 ]")?;
+    let mut bits = number;
+    for pair in PAIRS {
+        if bits % 2 == 1 {
+            text.push_str(pair)?;
+        }
+        bits /= 2;
+    }
+    text.push_str(" ]")?;
+    Ok(text)
+}
+
+// Of the graphs on five nodes without loops and parallel edges all are planar but the one that has all ten edges
+// (Kuratowski 1930).
+#[test]
+fn one_graph_on_five_nodes_is_not_planar(rt: HostRuntime) -> Result<(), Fail> {
+    for number in 0..1024u64 {
+        let graph = graph_of_bits(rt.alloc(), number)?;
+        let (_, line) = solved_and_checked(rt.alloc(), graph.as_str())?;
+        let wanted = if number == 1023 {
+            b"rejected no layout\n".as_slice()
+        } else {
+            b"accepted\n".as_slice()
+        };
+        assert_eq!(rt; line.bytes(), wanted, "{number}");
+    }
+    Ok(())
+}
