@@ -1,12 +1,12 @@
 // A tree taken apart: nodes that are outside or inside as a whole are taken over, and only the others are closed anew.
-ghost use Rattle.std.specs.Prelude.{◌≡◌, ℕ, Bool, true, false, IsTrue, ◌≤◌, ◌<◌, List, [], ◌∷◌, ◌++◌, reverse, IfOk};
+ghost use Rattle.std.specs.Prelude.{◌≡◌, ℕ, Bool, true, false, IsTrue, ◌≤◌, ◌<◌, List, [], ◌∷◌, ◌++◌, length, reverse, IfOk};
 ghost use Rattle.std.specs.List.Sorted.{IsStrictlyIncreasing};
 ghost use Rattle.cp_pq.specs.declared.node.Node.{Node};
 ghost use Rattle.cp_pq.specs.Nodes.{is_branching};
 ghost use Rattle.cp_pq.specs.Orders.{inside, outside};
 ghost use Rattle.cp_pq.specs.Words.{Opposite, has_all};
 ghost use Rattle.cp_pq.specs.Frames.{node_of};
-ghost use Rattle.cp_pq.specs.Steps.{IsStep, IsGathered, count_in};
+ghost use Rattle.cp_pq.specs.Steps.{IsStep, IsGathered, count_in, count_all};
 ghost use Rattle.cp_pq.specs.Marks.{AreMarks, IsLow};
 
 use crate::found::Found;
@@ -64,6 +64,18 @@ fn turned_row(alloc: Global, row: Row) -> Result<Row, Memory>
     }
 }
 
+/// What an inner node is, from its kids, which were gathered from the end. Linear in their number. It is not inlined, so that
+/// the functions that go down a tree have small frames.
+#[inline(never)]
+fn close_back(alloc: Global, label: Label, row: Row, total: usize) -> Result<Step, Memory>
+    ensures { IfOk result (λ s. (q p : ℕ → Bool) (ks : List Node) → Opposite q p → IsGathered q p total (reverse ks) row
+        → 2 ≤ length ks → 0 < total → count_all p ks ≤ total → IsStep q p total (node_of label ks) s) }
+{
+    let in_order = turned_row(alloc, row)?;
+    let step = close_row(alloc, label, in_order, total)?;
+    Ok(step)
+}
+
 /// What the node is, whose marks stand at the end of the stack, and the marks before them.
 #[cycle(gathers)]
 fn gather(
@@ -108,23 +120,23 @@ fn gather_inner(
         let whole = whole_step(alloc, label.node(kids), mark.count, total);
         return Ok((whole, left));
     }
-    let (row, rest) = gather_row(alloc, kids, set, total, left)?;
-    let step = close_row(alloc, label, row, total)?;
-    Ok((step, rest))
+    gather_row(alloc, label, kids, set, total, left)
 }
 
-/// What the nodes of a row are, and the marks before theirs.
+/// What the inner node is, whose own mark has been taken, and the marks before those of its kids.
 #[cycle(gathers)]
 fn gather_row(
     alloc: Global,
+    label: Label,
     kids: Nodes,
     set: &[usize],
     total: usize,
     marks: Marks,
-) -> Result<(Row, Marks), Memory>
-    ensures { IfOk result (λ r. (rest : List Node) → IsLow set.now total kids
+) -> Result<(Step, Marks), Memory>
+    ensures { IfOk result (λ r. (rest : List Node) → IsLow set.now total (node_of label kids ∷ [])
         → AreMarks (outside set.now) (inside set.now) (reverse kids ++ rest) marks
-        → IsGathered (outside set.now) (inside set.now) total kids r.0 × AreMarks (outside set.now) (inside set.now) rest r.1) }
+        → IsStep (outside set.now) (inside set.now) total (node_of label kids) r.0
+        × AreMarks (outside set.now) (inside set.now) rest r.1) }
 {
     let mut row = Row::Open {
         founds: Items::new(alloc),
@@ -137,8 +149,8 @@ fn gather_row(
         ahead = fewer;
         row = row.add(alloc, step)?;
     }
-    let in_order = turned_row(alloc, row)?;
-    Ok((in_order, ahead))
+    let whole = close_back(alloc, label, row, total)?;
+    Ok((whole, ahead))
 }
 
 /// What the node is against the set of `total` leaves. One pass that reads the node and looks each leaf up in the set; then

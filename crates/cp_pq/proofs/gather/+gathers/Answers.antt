@@ -1,9 +1,12 @@
-use Rattle.std.proofs.Common.{◌≡◌, ◌≤◌, true, false, [], ◌∷◌, ◌++◌, reverse, refl, sym, ap, ◌∙◌, subst, append-nil, arith}
+use Rattle.std.proofs.Common.{◌≡◌, ◌≤◌, true, false, List, [], ◌∷◌, ◌++◌, reverse, refl, sym, ap, ◌∙◌, subst, append-nil, arith}
 use Rattle.cp_pq.specs.Orders.{inside, outside}
+use Rattle.cp_pq.specs.declared.node.Node.{Node}
 use Rattle.cp_pq.specs.Words.{has_all}
+use Rattle.cp_pq.specs.Frames.{node_of}
 use Rattle.cp_pq.specs.Steps.{IsStep, IsGathered, count_in}
-use Rattle.cp_pq.specs.Marks.{AreMarks}
+use Rattle.cp_pq.specs.Marks.{AreMarks, IsLow}
 use Rattle.cp_pq.specs.declared.step.Row.{Row}
+use Rattle.cp_pq.proofs.Results.{IfOk-map}
 use Rattle.cp_pq.proofs.MarkLaws.{marks_taken, marks_parted}
 use Rattle.cp_pq.proofs.GatheredRows.{low_kids, inner_out, inner_in, none_gathered, taken_last, low_last}
 use Rattle.cp_pq.proofs.NodeCounts.{nodes_P, nodes_Q, nodes_last}
@@ -39,14 +42,15 @@ gather_inner-returns-then-is_in t c = λ rest l a.
     )
 
 pub gather_inner-returns : goal.gather_inner-returns
-gather_inner-returns t c = λ rest l a.
+gather_inner-returns t c =
     let set = c.args.set.now in let r = c.last_mark-left.result in
-    let f = marks_taken (outside set) (inside set) c.args.label c.args.kids rest c.args.marks r.1 r.0 a c.last_mark-left.ensures in
-    let left = marks_parted (outside set) (inside set) c.args.kids rest r.1 r.0 (sym c.is_out.ensures ∙ c.if-is_out.false)
-    (sym c.is_in.ensures ∙ c.if-is_in.false) f in
-    let k = low_kids set c.args.total c.args.label c.args.kids l in
-    let g = c.in_ok-row.ensures rest k.0 left in
-    (c.in_ok-step.ensures (outside set) (inside set) c.args.kids (λ x. refl) g.0 k.1 k.0.some k.0.low, g.1)
+    let q = outside set in let p = inside set in let n = node_of c.args.label c.args.kids in
+    IfOk-map _ (λ z. (rest : List Node) → IsLow set c.args.total (n ∷ []) → AreMarks q p (n ∷ rest) c.args.marks
+    → IsStep q p c.args.total n z.0 × AreMarks q p rest z.1)
+    (λ z h rest l a.
+    let f = marks_taken q p c.args.label c.args.kids rest c.args.marks r.1 r.0 a c.last_mark-left.ensures in
+    h rest l (marks_parted q p c.args.kids rest r.1 r.0 (sym c.is_out.ensures ∙ c.if-is_out.false) (sym c.is_in.ensures ∙ c.if-is_in.false) f))
+    c.gather_row.result c.gather_row.ensures
 
 pub gather_row-loop-kid-init : goal.gather_row-loop-kid-init
 gather_row-loop-kid-init t c = (
@@ -81,8 +85,10 @@ gather_row-returns t c = λ rest l a.
     let inv = c.loop-kid.invariant in
     let q = outside c.args.set.now in let p = inside c.args.set.now in
     let e = ap reverse c.in_default.ensures.0 in
-    let h = inv.3 rest l a in (
-      c.in_ok-in_order.ensures q p c.args.total c.args.kids
-          (subst (λ z. IsGathered q p c.args.total z c.loop-kid.row) (sym (inv.1 ∙ ap (λ z. inv.0 ++ z) e ∙ append-nil inv.0)) h.0),
+    let k = low_kids c.args.set.now c.args.total c.args.label c.args.kids l in
+    let h = inv.3 rest k.0 a in (
+      c.in_ok-whole.ensures q p c.args.kids (λ x. refl)
+          (subst (λ z. IsGathered q p c.args.total z c.loop-kid.row) (sym (inv.1 ∙ ap (λ z. inv.0 ++ z) e ∙ append-nil inv.0)) h.0)
+          k.1 k.0.some k.0.low,
       subst (λ z. AreMarks q p (z ++ rest) c.loop-kid.ahead) e h.1,
     )
