@@ -65,7 +65,8 @@ pub enum Row {
 }
 
 impl Row {
-    /// The row with one more node.
+    /// The row with one more node. It is not inlined, so that the functions that go down a tree have small frames.
+    #[inline(never)]
     pub fn add(self, alloc: Global, step: Step) -> Result<Row, Memory>
         ensures { IfOk result (λ r. (q p : ℕ → Bool) (total : ℕ) (ks : List Node) (k : Node) → Opposite q p → 0 < total
             → total < 2 ^ 64 → count_all p (ks ++ k ∷ []) ≤ total → IsStep q p total k step → IsGathered q p total ks self
