@@ -26,6 +26,9 @@ mod SortedKids
 mod Counts
 mod FrameLaws
 mod GatherLaws
+mod MarkLaws
+mod NodeCounts
+mod GatheredRows
 mod Runs
 mod TopP
 mod Cores

@@ -15,6 +15,7 @@ pub mod Changes
 pub mod Founds
 pub mod Cuts
 pub mod Steps
+pub mod Marks
 pub mod Grants
 pub mod Roots
 pub mod Ties

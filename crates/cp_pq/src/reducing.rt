@@ -12,7 +12,8 @@ use crate::change::{Change, changed};
 use crate::fault::ReduceFault;
 use crate::found::Ties;
 use crate::frame::filled;
-use crate::step::{Place, Step, step_of};
+use crate::gather::step_of;
+use crate::step::{Place, Step};
 use crate::tree::Tree;
 use cp_base::{Equation, Equations, Memory};
 use std::alloc::Global;
@@ -82,7 +83,7 @@ pub fn reduce(alloc: Global, tree: Tree, set: &[usize]) -> Result<Tree, ReduceFa
     ensures refused { IfErr result (λ e. e ≡ NotConsecutive → IsNeverConsecutive set.now tree) }
 {
     let (root, body, vars, equations) = tree.into_parts();
-    let step = step_of(alloc, &body, set, set.len())?;
+    let step = step_of(alloc, body, set, set.len())?;
     match step {
         Step::Open { .. } => unreachable!(),
         Step::Root(place) => reduced_at(alloc, root, place, vars, equations),

@@ -1,5 +1,5 @@
-// One pass over a tree, from the leaves up: what each node is against a set of leaves, up to the node that holds the whole
-// set, and the frames above it.
+// What leaves, rows and inner nodes are against a set of leaves, up to the node that holds the whole set, and the frames
+// above it.
 ghost use Rattle.std.specs.Prelude.{◌≡◌, ℕ, Bool, true, IsTrue, ◌≤◌, ◌<◌, ◌^◌, length, List, [], ◌∷◌, ◌++◌, filter, IfOk};
 ghost use Rattle.std.specs.List.{list_all, AllZip};
 ghost use Rattle.std.specs.List.Sorted.{IsStrictlyIncreasing};
@@ -16,6 +16,7 @@ use crate::close::close;
 use crate::found::{Found, Founds};
 use crate::frame::{Frame, Frames, Label};
 use crate::lists::reversed;
+use crate::look::is_in_set;
 use crate::node::Node;
 use crate::pour::row_of;
 use crate::row::are_in;
@@ -64,8 +65,9 @@ pub enum Row {
 }
 
 impl Row {
-    /// The row with one more node.
-    fn add(self, alloc: Global, step: Step) -> Result<Row, Memory>
+    /// The row with one more node. It is not inlined, so that the functions that go down a tree have small frames.
+    #[inline(never)]
+    pub fn add(self, alloc: Global, step: Step) -> Result<Row, Memory>
         ensures { IfOk result (λ r. (q p : ℕ → Bool) (total : ℕ) (ks : List Node) (k : Node) → Opposite q p → 0 < total
             → total < 2 ^ 64 → count_all p (ks ++ k ∷ []) ≤ total → IsStep q p total k step → IsGathered q p total ks self
             → IsGathered q p total (ks ++ k ∷ []) r) }
@@ -151,7 +153,7 @@ fn top_of(alloc: Global, label: Label, founds: Founds) -> Result<Top, Memory>
 }
 
 /// What an inner node is, from its kids. Linear in their number.
-fn close_row(alloc: Global, label: Label, row: Row, total: usize) -> Result<Step, Memory>
+pub fn close_row(alloc: Global, label: Label, row: Row, total: usize) -> Result<Step, Memory>
     ensures { IfOk result (λ s. (q p : ℕ → Bool) (ks : List Node) → Opposite q p → IsGathered q p total ks row
         → 2 ≤ length ks → 0 < total → count_all p ks ≤ total → IsStep q p total (node_of label ks) s) }
 {
@@ -178,15 +180,8 @@ fn close_row(alloc: Global, label: Label, row: Row, total: usize) -> Result<Step
     }
 }
 
-/// Whether the leaf is in the set, which is rising. Logarithmic in the set.
-fn is_in_set(set: &[usize], x: usize) -> bool
-    ensures { IsStrictlyIncreasing set.now → result ≡ inside set.now x }
-{
-    set.binary_search(&x).is_ok()
-}
-
 /// What a leaf is.
-fn leaf_step(alloc: Global, x: usize, set: &[usize], total: usize) -> Step
+pub fn leaf_step(alloc: Global, x: usize, set: &[usize], total: usize) -> Step
     ensures { IsStrictlyIncreasing set.now → 0 < total → IsStep (outside set.now) (inside set.now) total (Leaf x) result }
 {
     if !is_in_set(set, x) {
@@ -206,40 +201,4 @@ fn leaf_step(alloc: Global, x: usize, set: &[usize], total: usize) -> Step
         frames,
         top: Top::Whole(Node::Leaf(x)),
     })
-}
-
-/// What the node is against the set of `total` leaves. One pass over the node; each leaf is looked up in the set.
-#[cycle(steps)]
-pub fn step_of(alloc: Global, node: &Node, set: &[usize], total: usize) -> Result<Step, Memory>
-    ensures { IfOk result (λ s. IsStrictlyIncreasing set.now → IsTrue (is_branching node.now) → 0 < total
-        → count_in (inside set.now) node.now ≤ total → IsStep (outside set.now) (inside set.now) total node.now s) }
-{
-    match node {
-        Node::Leaf(x) => Ok(leaf_step(alloc, *x, set, total)),
-        Node::P { owner, kids } => {
-            let row = row_step(alloc, kids.items(), set, total)?;
-            close_row(alloc, Label::P(*owner), row, total)
-        }
-        Node::Q { var, kids } => {
-            let kids_row = row_step(alloc, kids.items(), set, total)?;
-            close_row(alloc, Label::Q(*var), kids_row, total)
-        }
-    }
-}
-
-/// What the nodes of a row are.
-#[cycle(steps)]
-fn row_step(alloc: Global, kids: &[Node], set: &[usize], total: usize) -> Result<Row, Memory>
-    ensures { IfOk result (λ r. IsStrictlyIncreasing set.now → list_all is_branching kids.now ≡ true → 0 < total
-        → count_all (inside set.now) kids.now ≤ total → IsGathered (outside set.now) (inside set.now) total kids.now r) }
-{
-    let mut row = Row::Open {
-        founds: Items::new(alloc),
-        count: 0,
-    };
-    for kid in kids {
-        let step = step_of(alloc, kid, set, total)?;
-        row = row.add(alloc, step)?;
-    }
-    Ok(row)
 }

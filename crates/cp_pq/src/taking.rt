@@ -11,10 +11,11 @@ ghost use Rattle.cp_pq.specs.Cuts.{IsAlwaysTogether, IsTaken};
 
 use crate::cut::{Cut, cut_row};
 use crate::frame::{Frame, Frames, Label};
+use crate::gather::step_of;
 use crate::hole::Hole;
 use crate::lists::{joined, one};
 use crate::part::Part;
-use crate::step::{Place, Step, Top, step_of};
+use crate::step::{Place, Step, Top};
 use crate::tree::Tree;
 use cp_base::{Items, Memory};
 use std::alloc::Global;
@@ -76,7 +77,7 @@ pub fn taken_out(alloc: Global, tree: Tree, set: &[usize]) -> Result<(Hole, Part
     ensures well_formed { IfOk result (λ _. IsWellFormed tree) }
 {
     let (root, body, vars, equations) = tree.into_parts();
-    let step = step_of(alloc, &body, set, set.len())?;
+    let step = step_of(alloc, body, set, set.len())?;
     match step {
         Step::Open { .. } => unreachable!(),
         Step::Root(place) => {

@@ -1,7 +1,7 @@
 use Rattle.std.proofs.Common.{◌∙◌}
 use Rattle.std.proofs.lemmas.List.Sorted.{searched}
 use Rattle.cp_pq.proofs.SearchedSets.{not_falling, searched_inside}
-use Rattle.cp_pq.proofs.step.is_in_set.Goals as goal
+use Rattle.cp_pq.proofs.look.is_in_set.Goals as goal
 
 pub returns : goal.returns
 returns c = λ rising.
