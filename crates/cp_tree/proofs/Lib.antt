@@ -6,7 +6,6 @@ mod DartsOfEdges
 mod BlockRotations
 mod RotationsOfBlocks
 mod BlockOrders
-mod Searches
 mod OwnBlocks
 mod BranchLayers
 mod RenamedShapes

@@ -1,10 +1,10 @@
--- The edges of a component whose numbers of blocks are equal are the edges of a block of the instance.
-use Rattle.std.proofs.Common.{◌≡◌, ℕ, ◌<◌, ◌≤◌, ◌↔◌, Bool, eqb, List, length, map, filter, get_or, slice_index, sym, refl, ap, ◌∙◌, subst, inl, ⊎_elim, arith}
+-- The edges of whole components whose numbers of blocks are equal are the edges of a block of the instance.
+use Rattle.std.proofs.Common.{◌≡◌, ℕ, ◌<◌, ◌≤◌, ◌↔◌, Bool, eqb, List, length, map, filter, get_or, slice_index, sym, refl, ap, ◌∙◌, subst, inl, ⊎_elim, true, arith}
 use Rattle.std.specs.Prelude.{◌&&◌}
 use Rattle.std.specs.List.{Contains}
-use Rattle.std.proofs.lemmas.Bool.{and_from, and_parts, eq-eqb, eqb-true}
+use Rattle.std.proofs.lemmas.Bool.{and_from, and_parts, eq-eqb, eqb-true, or_cases}
 use Rattle.std.proofs.lemmas.List.{get_or-map, length-map}
-use Rattle.std.proofs.lemmas.List.Elements.{All-contains, Contains-get_or}
+use Rattle.std.proofs.lemmas.List.Elements.{Contains-get_or}
 use Rattle.std.proofs.lemmas.List.Kept.{IsStrictlyIncreasing-filter}
 use Rattle.cp_lists.specs.Count.{IsCount}
 use Rattle.cp_lists.specs.CyclicLists.{Distinct}
@@ -12,71 +12,66 @@ use Rattle.cp_lists.proofs.Counting.{IsCount-unique}
 use Rattle.cp_lists.proofs.DistinctLists.{Distinct-once, Has-Contains}
 use Rattle.cp_lists.proofs.FilteredLists.{Has-filter, filter-Has}
 use Rattle.cp_orbits.specs.Connected.{Joins}
-use Rattle.cp_base.specs.Graphs.{AreWithin}
 use Rattle.cp_conn.specs.Blocks.{AreInOneBlock, HaveNoLoop}
-use Rattle.cp_conn.specs.NamedGraphs.{InOneBlock, NamedGraph, pairs, rank}
+use Rattle.cp_conn.specs.NamedGraphs.{InOneBlock, NamedGraph, ends_at, pairs, rank}
 use Rattle.cp_conn.specs.Numbering.{AreNumbered, IsLeast}
 use Rattle.cp_conn.proofs.BlockClasses.{block-sym, block-trans, carry_block}
 use Rattle.cp_conn.proofs.BlockParts.{HasWholeBlocks, StandsIn, blocks_of_part}
-use Rattle.cp_conn.proofs.NamedGraphs.{edge_at, joins_ends, length-pairs, pair_of_edge, rank_at, rank_is}
+use Rattle.cp_conn.proofs.NamedGraphs.{Contains-edges_at, edge_at, joins_ends, length-pairs, pair_of_edge, rank_at, rank_is}
 use Rattle.cp_conn.proofs.NumberedClasses.{same_number}
 use Rattle.cp_sync.specs.Numbering.{numbered_ends}
 use Rattle.cp_board.specs.Names.{has}
 use Rattle.cp_board.specs.Instances.{IsSynchronized, Synchronized, graph}
 use Rattle.cp_embed.specs.BoardBlocks.{AreBlockEdges}
-use Rattle.cp_embed.proofs.BoardBlocks.{has-true, live_ends, rising_distinct, true-has}
-use Rattle.cp_tree.specs.Components.{HaveEnds, IsClosed, part_of}
+use Rattle.cp_local.specs.LocalGraphs.{IsClosedPart, part}
+use Rattle.cp_local.proofs.ClosedParts.{part-AreWithin, part-HaveNoLoop}
+use Rattle.cp_embed.proofs.BoardBlocks.{has-true, rising_distinct, true-has}
 use Rattle.cp_tree.proofs.BlockRotations.{rank_one}
 use Rattle.cp_tree.proofs.RisingLists.{rising_same}
 
-module _ (i : Synchronized) (is : IsSynchronized i) (verts es : List ℕ) (closed : IsClosed i es)
-    (ends : HaveEnds i verts es) where
+module _ (i : Synchronized) (is : IsSynchronized i) (verts es : List ℕ)
+    (closed : IsClosedPart i verts es) where
   -- the graph, and the part
   abbrev g : NamedGraph
   g = graph i
 
   -- the numbered ends of the part
   abbrev numbered : List (ℕ × ℕ)
-  numbered = map (numbered_ends (part_of i verts es)) es
+  numbered = map (numbered_ends (part i verts es)) es
 
   -- an edge of the part is one of the instance
   edge_live : (e : ℕ) → Contains es e → Contains g.edges e
-  edge_live e c = All-contains (Contains g.edges) es e closed.live c
+  edge_live e c = closed.edges_live e c
 
-  -- its ends are vertices of the part
-  ends_live : (e : ℕ) → Contains es e → Contains verts (g.ends e).0 × Contains verts (g.ends e).1
-  ends_live e c = All-contains (λ f. Contains verts (g.ends f).0 × Contains verts (g.ends f).1) es e ends.ends c
+  -- an end of an edge of the part is a vertex of it
+  end_within : (v e : ℕ) → Contains es e → ends_at g v e ≡ true → Contains verts v
+  end_within v e c t =
+      let w = closed.ends_within e c in
+      ⊎_elim
+      (λ a. subst (Contains verts) (eqb-true (g.ends e).0 v a) w.0)
+      (λ b. subst (Contains verts) (eqb-true (g.ends e).1 v b) w.1)
+      (or_cases (eqb (g.ends e).0 v) (eqb (g.ends e).1 v) t)
+
+  -- an edge that meets one of the part is one of the part
+  meeting : (e f v : ℕ) → Contains es e → Contains g.edges f → ends_at g v e ≡ true → ends_at g v f ≡ true
+      → Contains es f
+  meeting e f v ce cf te tf = closed.whole v f (end_within v e ce te) (Contains-edges_at g v f cf tf)
 
   -- there are as many ends as edges
   pub numbered-length : length numbered ≡ length es
-  numbered-length = length-map es (numbered_ends (part_of i verts es))
+  numbered-length = length-map es (numbered_ends (part i verts es))
 
   -- the ends at a place
-  at_place : (k : ℕ) → k < length es → get_or numbered k (0, 0) ≡ numbered_ends (part_of i verts es) (get_or es k 0)
-  at_place k lt = get_or-map (numbered_ends (part_of i verts es)) es k 0 (0, 0) lt
-
-  -- they are numbers of vertices
-  pub numbered-AreWithin : AreWithin (length verts) numbered
-  numbered-AreWithin k lt =
-      let below : k < length es = omega (arith, lt, numbered-length) in
-      let c = ends_live (get_or es k 0) (Contains-get_or es k 0 below) in
-      subst (λ (p : ℕ × ℕ). (p.0 < length verts) × (p.1 < length verts)) (sym (at_place k below))
-      ((rank_at verts (g.ends (get_or es k 0)).0 c.0).0, (rank_at verts (g.ends (get_or es k 0)).1 c.1).0)
+  at_place : (k : ℕ) → k < length es → get_or numbered k (0, 0) ≡ numbered_ends (part i verts es) (get_or es k 0)
+  at_place k lt = get_or-map (numbered_ends (part i verts es)) es k 0 (0, 0) lt
 
   -- no edge is a loop
-  pub numbered-HaveNoLoop : HaveNoLoop numbered
-  numbered-HaveNoLoop k lt same =
-      let below : k < length es = omega (arith, lt, numbered-length) in
-      let e = get_or es k 0 in
-      let ce = Contains-get_or es k 0 below in
-      let c = ends_live e ce in
-      (live_ends i is e (edge_live e ce)).2
-      (rank_one verts (g.ends e).0 (g.ends e).1 c.0 c.1
-      (sym (ap (λ (p : ℕ × ℕ). p.0) (at_place k below)) ∙ same ∙ ap (λ (p : ℕ × ℕ). p.1) (at_place k below)))
+  no_loop : HaveNoLoop numbered
+  no_loop = part-HaveNoLoop i verts es closed is
 
   -- the edges of the part are distinct
   edges_once : Distinct es
-  edges_once = rising_distinct es closed.rise
+  edges_once = rising_distinct es closed.edges_rise
 
   -- and so are those of the graph
   names_once : Distinct g.edges
@@ -89,7 +84,7 @@ module _ (i : Synchronized) (is : IsSynchronized i) (verts es : List ℕ) (close
   -- the part stands in the graph
   stands : StandsIn (length verts) numbered (pairs g) original (λ v. get_or verts v 0)
   stands = record {
-    within = numbered-AreWithin;
+    within = part-AreWithin i verts es closed;
     edge_within = λ k lt.
         let below : k < length es = omega (arith, lt, numbered-length) in
         (pair_of_edge g (get_or es k 0) (edge_live (get_or es k 0) (Contains-get_or es k 0 below))).0;
@@ -99,12 +94,12 @@ module _ (i : Synchronized) (is : IsSynchronized i) (verts es : List ℕ) (close
         Distinct-once es edges_once j k bj bk
         (rank_one g.edges (get_or es j 0) (get_or es k 0) (edge_live (get_or es j 0) (Contains-get_or es j 0 bj))
         (edge_live (get_or es k 0) (Contains-get_or es k 0 bk)) same);
-    vertices_apart = λ x y ltx lty same. Distinct-once verts (rising_distinct verts ends.rise) x y ltx lty same;
+    vertices_apart = λ x y ltx lty same. Distinct-once verts (rising_distinct verts closed.verts_rise) x y ltx lty same;
     ends = λ k lt.
         let below : k < length es = omega (arith, lt, numbered-length) in
         let e = get_or es k 0 in
         let ce = Contains-get_or es k 0 below in
-        let c = ends_live e ce in
+        let c = closed.ends_within e ce in
         let pair = (pair_of_edge g e (edge_live e ce)).1 in
         inl (
           ap (λ (p : ℕ × ℕ). p.0) pair ∙ sym (ap (λ (p : ℕ × ℕ). get_or verts p.0 0) (at_place k below)
@@ -122,7 +117,7 @@ module _ (i : Synchronized) (is : IsSynchronized i) (verts es : List ℕ) (close
       (λ j k v x y ltj ltk jx ky one there.
       let a = edge_at g j ltj in
       let c = edge_at g k ltk in
-      closed.meeting (get_or g.edges j 0) (get_or g.edges k 0) v there c.0
+      meeting (get_or g.edges j 0) (get_or g.edges k 0) v there c.0
       (joins_ends g v x (get_or g.edges j 0) (subst (λ (p : ℕ × ℕ). Joins p v x) (sym a.1) jx))
       (joins_ends g v y (get_or g.edges k 0) (subst (λ (p : ℕ × ℕ). Joins p v y) (sym c.1) ky)))
       (subst (Contains es) (sym (rank_at g.edges e (edge_live e ce)).1) ce))
@@ -160,11 +155,11 @@ module _ (i : Synchronized) (is : IsSynchronized i) (verts es : List ℕ) (close
         → (slice_index numbers x ≡ slice_index numbers y) ↔ AreInOneBlock numbered x y
     one_number x y ltx lty = (
       λ same. let l = same_number (AreInOneBlock numbered) (length numbered) numbers x y are ltx lty same in
-          block-trans numbered x l.0 y numbered-HaveNoLoop (block-sym numbered l.0 x l.1) l.2,
+          block-trans numbered x l.0 y no_loop (block-sym numbered l.0 x l.1) l.2,
       λ b.
           let h = are.by_least x ltx in
           let k = are.by_least y lty in
-          let none = numbered-HaveNoLoop in
+          let none = no_loop in
           let there : h.least ≤ k.least =
           h.leads k.least (block-trans numbered h.least y k.least none
           (block-trans numbered h.least x y none h.related b) (block-sym numbered k.least y k.related)) in
@@ -212,7 +207,7 @@ module _ (i : Synchronized) (is : IsSynchronized i) (verts es : List ℕ) (close
         );
       };
       edges = rising_same (filter one es) (filter inside g.edges)
-          (IsStrictlyIncreasing-filter one es closed.rise)
+          (IsStrictlyIncreasing-filter one es closed.edges_rise)
           (IsStrictlyIncreasing-filter inside g.edges is.edges_named.rise)
           (λ z h.
           let p = filter-Has one z es h in

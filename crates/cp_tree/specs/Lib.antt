@@ -1,6 +1,6 @@
 -- what contracts rest on
 pub mod EndTrees
 -- what functions inside promise each other
-pub mod Components
+pub mod CutBlocks
 pub mod Naming
 pub mod NamedTrees

@@ -7,7 +7,6 @@ mod fault;
 mod naming;
 mod own_block;
 mod places;
-mod searching;
 mod trees;
 
 pub use end_tree::EndTree;

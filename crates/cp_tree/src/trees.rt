@@ -5,7 +5,7 @@ ghost use Rattle.cp_embed.specs.Bonds.{as_named};
 ghost use Rattle.std.specs.List.{Contains};
 ghost use Rattle.cp_board.specs.Instances.{IsPVertex, edges_of, graph, vert_names};
 ghost use Rattle.cp_conn.specs.NamedGraphs.{IsCut};
-ghost use Rattle.cp_tree.specs.Components.{IsCutAt};
+ghost use Rattle.cp_tree.specs.CutBlocks.{IsCutAt};
 ghost use Rattle.cp_tree.specs.EndTrees.{HasSomeOrder, IsEndTree, IsTreeFault};
 ghost use Rattle.cp_tree.specs.NamedTrees.{IsFaultOf, IsNamedTree};
 
@@ -14,7 +14,6 @@ use crate::fault::TreeFault;
 use crate::naming::named_shape;
 use crate::own_block::own_block;
 use crate::places::item_at;
-use crate::searching::component_of;
 use cp_base::Memory;
 use cp_embed::{EdgeBlock, EmbedFault, Embedded, cut_out, embed, rank_among};
 use cp_force::OrderTree;
@@ -57,8 +56,8 @@ fn fault_of(fault: EmbedFault, edges: &[usize]) -> TreeFault
 }
 
 // The block that has the first edge of a vertex, cut out. It asks the board for the edges of each vertex of the
-// component once and for the ends of each of its edges a constant number of times, and is linear beside that and in the
-// lists of the Q-vertices of the block, up to a logarithm.
+// component, at most twice, for the ends of each of its edges a constant number of times, and for the list of each
+// Q-vertex of the block once. It is linear beside that, up to a logarithm.
 fn cut_at<B: Board>(alloc: Global, board: &B, u: usize) -> Result<EdgeBlock, Memory>
     requires live { Contains (vert_names (B.instance board.now)) u }
     requires some { 0 < length (edges_of (B.instance board.now) u) }
@@ -66,9 +65,7 @@ fn cut_at<B: Board>(alloc: Global, board: &B, u: usize) -> Result<EdgeBlock, Mem
 {
     let at = board.edges_at(alloc, u)?;
     let first = item_at(at.as_slice(), 0);
-    let found = component_of(alloc, board, u)?;
-    let (verts, edges) = (found.verts.as_slice(), found.edges.as_slice());
-    let block = own_block(alloc, board, verts, edges, first)?;
+    let block = own_block(alloc, board, u, first)?;
     let cut = cut_out(alloc, board, block.as_slice())?;
     Ok(cut)
 }
@@ -76,8 +73,9 @@ fn cut_at<B: Board>(alloc: Global, board: &B, u: usize) -> Result<EdgeBlock, Mem
 /// The cyclic orders of a P-vertex with at least four edges that is no cut vertex, in the rotations of its block
 /// (Bläsius, Rutter 2016). `u` is the name of the vertex. They are `Pole` exactly where these are all orders; otherwise
 /// a shape whose root is the least edge of `u` admits them. `NotPlanar` comes exactly where the block has no rotation,
-/// with its least edge. It asks the board for the edges of each vertex of the component of `u` once and for the ends of
-/// each of its edges a constant number of times, and beside that goes over the tree a constant number of times for each
+/// with its least edge. It asks the board for the edges of each vertex of the component of `u`, at most twice, for the
+/// ends of each of its edges a constant number of times, and for the list of each Q-vertex of the block once. It is
+/// linear in the component beside that, up to a logarithm, and goes over the tree a constant number of times for each
 /// vertex of the block.
 pub fn tree_at<B: Board, T: OrderTree + Drop>(
     alloc: Global,

@@ -1,10 +1,9 @@
--- The first edge of the vertex is one of the edges of its component.
+-- The first edge of the vertex is one of its edges, and its block is cut out.
 use Rattle.std.proofs.Common.{◌≡◌, ℕ, ◌<◌, List, length, slice_index, sym, ap, ◌∙◌, subst, arith}
 use Rattle.std.specs.List.{Contains}
 use Rattle.std.proofs.lemmas.List.Elements.{Contains-get_or}
 use Rattle.cp_board.specs.Instances.{edges_of, graph}
 use Rattle.cp_embed.specs.BoardBlocks.{AreBlockEdges, listed_part, part_with}
-use Rattle.cp_tree.specs.Components.{HaveEnds, IsClosed}
 use Rattle.cp_tree.proofs.trees.cut_at.Goals as goal
 
 -- the first edge is one of u
@@ -19,24 +18,10 @@ item_at-first-requires g c =
     let count = ap length same in
     omega (arith, count, c.requires.some)
 
-pub own_block-requires-clause-closed : goal.own_block-requires-clause-closed
-own_block-requires-clause-closed g c =
-    subst (IsClosed (g.B.Board.instance c.args.board.now)) (sym c.as_slice-edges.ensures.value)
-    c.in_ok-found.ensures.closed
-
-pub own_block-requires-clause-ends : goal.own_block-requires-clause-ends
-own_block-requires-clause-ends g c =
-    let i = g.B.Board.instance c.args.board.now in
-    subst (λ (xs : List ℕ). HaveEnds i xs c.as_slice-edges.result.now) (sym c.as_slice-verts.ensures.value)
-    (subst (HaveEnds i c.in_ok-found.found.verts.items) (sym c.as_slice-edges.ensures.value) c.in_ok-found.ensures.ends)
-
-pub own_block-requires-clause-among : goal.own_block-requires-clause-among
-own_block-requires-clause-among g c =
-    let i = g.B.Board.instance c.args.board.now in
-    subst (λ (xs : List ℕ). Contains xs c.item_at-first.result) (sym c.as_slice-edges.ensures.value)
-    (c.in_ok-found.ensures.own c.item_at-first.result
-    (first_own c.as_slice.result.now (edges_of i c.args.u) c.item_at-first.result
-    (c.as_slice.ensures.value ∙ c.in_ok-at.ensures.names) c.requires.some c.item_at-first.ensures))
+pub own_block-requires-clause-at : goal.own_block-requires-clause-at
+own_block-requires-clause-at g c =
+    first_own c.as_slice.result.now (edges_of (g.B.Board.instance c.args.board.now) c.args.u) c.item_at-first.result
+    (c.as_slice.ensures.value ∙ c.in_ok-at.ensures.names) c.requires.some c.item_at-first.ensures
 
 pub cut_out-requires-clause-block : goal.cut_out-requires-clause-block
 cut_out-requires-clause-block g c = (
