@@ -4,6 +4,7 @@ mod NamedParts
 mod BoardParts
 mod LocalParts
 mod Scans
+mod TablesOfPlaces
 mod FreshNames
 mod PartLists
 mod PartMoves

@@ -1,4 +1,5 @@
 -- what functions inside promise each other
+pub mod EdgePlaces
 pub mod Partings
 pub mod Joining
 pub mod InnerSystems

@@ -6,7 +6,8 @@ ghost use Rattle.cp_board.specs.Solutions.{list_in};
 ghost use Rattle.cp_rotlaw.specs.SideOrders.{IsSideOrder};
 ghost use Rattle.cp_join.specs.InnerSystems.{HasInnerLists, first_marks, hat_darts, inner_at, inner_system};
 
-use crate::parted_ends::{Parting, part_place};
+use crate::edge_places::{part_place, parts_by_edge};
+use crate::parted_ends::Parting;
 use crate::vertex_parts::place_of;
 use cp_base::{CycList, Memory};
 use cp_rot::Rot;
@@ -14,7 +15,7 @@ use cp_rotlaw::merge_side;
 use cp_sync::Solution;
 use std::alloc::Global;
 
-// The place of the inner vertex of each dart of the new edges. At most quadratic in the number of pairs.
+// The place of the inner vertex of each dart of the new edges. n log n in the number of pairs and edges of the parts.
 fn inner_ends(
     alloc: Global,
     pairs: &[(usize, usize)],
@@ -26,11 +27,13 @@ fn inner_ends(
     ensures { IfOk result (λ at. at.items ≡ inner_at pairs.now first.now second.now) }
 {
     let number = first.parts.len();
+    let firsts = parts_by_edge(alloc, &first.parts)?;
+    let seconds = parts_by_edge(alloc, &second.parts)?;
     let mut at = Vec::new(alloc);
     for k in 0..pairs.len() {
         let (x, y) = pairs[k];
-        at.push(part_place(first.parts.items(), x))?;
-        at.push(number + part_place(second.parts.items(), y))?;
+        at.push(part_place(&firsts, &first.parts, x))?;
+        at.push(number + part_place(&seconds, &second.parts, y))?;
     }
     Ok(at)
 }
@@ -87,7 +90,8 @@ fn marks_of(alloc: Global, first: usize, second: usize) -> Result<Vec<bool>, Mem
     Ok(marks)
 }
 
-// The rotation system of the inner vertices. At most quadratic in the number of pairs.
+// The rotation system of the inner vertices. n log n in the number of pairs and edges of the parts, and linear in the
+// numbers of inner vertices.
 fn inner_rot(
     alloc: Global,
     pairs: &[(usize, usize)],
@@ -108,7 +112,7 @@ fn inner_rot(
 }
 
 // One order of the new edges, by their places: with it the inner vertices of the first end can be made one vertex. One
-// walk over the new edges for each of these vertices, and at most quadratic in their number beside that.
+// walk over the new edges for each of these vertices, and n log n in their number beside that.
 pub(crate) fn common_order(
     alloc: Global,
     pairs: &[(usize, usize)],

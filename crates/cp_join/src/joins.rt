@@ -6,10 +6,12 @@ ghost use Rattle.cp_board.specs.Changes.{free_vert};
 ghost use Rattle.cp_board.specs.Joins.{part_of, part_pipes};
 ghost use Rattle.cp_board.specs.Reductions.{Performs};
 ghost use Rattle.cp_board.specs.Steps.{Allowed};
+ghost use Rattle.cp_join.specs.EdgePlaces.{TellsPlaces};
 ghost use Rattle.cp_join.specs.Partings.{FitPairs, IsParting, new_verts};
 ghost use Rattle.cp_join.specs.Joining.{moves_to, part_moves, hat_among, hat_row, joining};
 
-use crate::parted_ends::{Parting, partings, place_among, vertex_of};
+use crate::edge_places::{Places, parts_by_edge, place_among, places_by_edge, vertex_of};
+use crate::parted_ends::{Parting, partings};
 use crate::vertex_parts::parts_among;
 use cp_base::{Items, Memory};
 use cp_board::{
@@ -67,7 +69,7 @@ fn push_part_moves(u: usize, end: &Parting, moves: &mut Moves) -> Result<(), Mem
     Ok(())
 }
 
-// The new edges, one for each pair, between the inner vertices. At most quadratic in the number of pairs.
+// The new edges, one for each pair, between the inner vertices. n log n in the number of pairs and edges of the parts.
 fn new_edges(
     alloc: Global,
     pairs: &[(usize, usize)],
@@ -80,37 +82,41 @@ fn new_edges(
     requires seconds { All (λ x. part_of second.now.parts x.1 < length second.now.inner) pairs.now }
     ensures { IfOk result (λ rows. rows ≡ map (hat_row first.now.parts first.now.inner second.now.parts second.now.inner) (zip hats.now pairs.now)) }
 {
+    let firsts = parts_by_edge(alloc, &first.parts)?;
+    let seconds = parts_by_edge(alloc, &second.parts)?;
     let mut rows = Items::new(alloc);
     for k in 0..pairs.len() {
         let (x, y) = pairs[k];
         rows.push(EdgeRow {
             name: hats[k],
-            a: vertex_of(first.parts.items(), first.inner.items(), x),
-            b: vertex_of(second.parts.items(), second.inner.items(), y),
+            a: vertex_of(&firsts, &first.parts, first.inner.items(), x),
+            b: vertex_of(&seconds, &second.parts, second.inner.items(), y),
         })?;
     }
     Ok(rows)
 }
 
-// The pairs of a part's pipe: each edge with the new edge of its pair. At most quadratic in the number of pairs.
+// The pairs of a part's pipe: each edge with the new edge of its pair. Logarithmic for each.
 fn part_pairs(
     alloc: Global,
+    places: &Places,
     edges: &[usize],
     hats: &[usize],
     part: &[usize],
 ) -> Result<Pairs, Memory>
+    requires told { TellsPlaces edges.now places.now }
     requires hats { length hats.now ≡ length edges.now }
     requires among { All (Contains edges.now) part.now }
     ensures { IfOk result (λ pairs. pairs ≡ map (λ e. (e, hat_among edges.now hats.now e)) part.now) }
 {
     let mut pairs = Items::new(alloc);
     for edge in part {
-        pairs.push((*edge, hats[place_among(edges, *edge)]))?;
+        pairs.push((*edge, hats[place_among(places, edges, *edge)]))?;
     }
     Ok(pairs)
 }
 
-// Adds the pipes of the parts of an end. At most quadratic in the number of its edges.
+// Adds the pipes of the parts of an end. n log n in the number of its edges.
 fn push_pipes(
     alloc: Global,
     edges: &[usize],
@@ -123,9 +129,10 @@ fn push_pipes(
     requires each { IsParting end.now.parts end.now }
     ensures { OnOk result (pipes.new ≡ pipes.old ++ part_pipes (hat_among edges.now hats.now) end.now.names end.now.outer end.now.inner end.now.parts) }
 {
+    let places = places_by_edge(alloc, edges)?;
     let parts = end.parts.items();
     for k in 0..parts.len() {
-        let pairs = part_pairs(alloc, edges, hats, parts[k].items())?;
+        let pairs = part_pairs(alloc, &places, edges, hats, parts[k].items())?;
         pipes.push(Pipe {
             name: end.names.items()[k],
             a: end.outer.items()[k],
@@ -178,7 +185,7 @@ fn all_moves(
     Ok(moves)
 }
 
-// The new pipes of both ends. At most quadratic in the number of pairs.
+// The new pipes of both ends. n log n in the number of pairs.
 fn all_pipes(
     alloc: Global,
     pairs: &[(usize, usize)],
@@ -201,7 +208,7 @@ fn all_pipes(
     Ok(pipes)
 }
 
-// The rewrite of Join from its parts. At most quadratic in the number of pairs.
+// The rewrite of Join from its parts. n log n in the number of pairs and edges of the parts.
 fn rewrite_of(
     alloc: Global,
     pipe: usize,
@@ -233,7 +240,7 @@ fn rewrite_of(
 /// The rewrite of the step Join: both ends of the pipe, which are cut vertices, are parted into outer vertices, one for
 /// each part of their edges, and one bipartite graph of as many inner vertices has one new edge for each pair
 /// (Bläsius, Fink, Rutter 2021). `pipe` is the name of the pipe. The only error is want of memory. It searches the
-/// board twice, and is at most quadratic in the number of pairs beside that.
+/// board twice, and takes n log n in the number of pairs beside that.
 pub fn join<B: Board>(alloc: Global, board: &B, pipe: usize) -> Result<Rewrite, Memory>
     requires { Allowed (B.instance board.now) (Join pipe) }
     ensures { IfOk result (λ w. Performs (B.instance board.now) (Join pipe) w) }

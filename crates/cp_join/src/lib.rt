@@ -1,6 +1,7 @@
 //! The reduction Join of synchronized planarity at a pipe between two cut vertices (Bläsius, Fink, Rutter 2021).
 #![tactic(auto)]
 
+mod edge_places;
 mod inner_systems;
 mod joins;
 mod parted_ends;

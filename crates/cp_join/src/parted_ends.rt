@@ -1,12 +1,8 @@
-// What an end of a pipe becomes, and what is found in it.
-ghost use Rattle.std.specs.Prelude.{◌≡◌, ℕ, ◌+◌, ◌*◌, ◌<◌, ◌^◌, length, take, drop, IfOk};
-ghost use Rattle.std.specs.List.{Contains};
-ghost use Rattle.cp_conn.specs.NamedGraphs.{rank};
-ghost use Rattle.cp_board.specs.Names.{has};
-ghost use Rattle.cp_board.specs.Joins.{part_of, vertex_for};
+// What an end of a pipe becomes.
+ghost use Rattle.std.specs.Prelude.{◌≡◌, ◌*◌, ◌<◌, ◌^◌, length, take, drop, IfOk};
 ghost use Rattle.cp_join.specs.Partings.{AreParted};
 
-use cp_base::{CycList, Items, Memory};
+use cp_base::{Items, Memory};
 use cp_board::{NameKind, Names};
 use cp_conn::EdgeParts;
 use cp_sync::Board;
@@ -78,50 +74,4 @@ pub(crate) fn partings<B: Board>(
     let one = parting_of(alloc, first, first_verts, first_pipes)?;
     let two = parting_of(alloc, second, second_verts, second_pipes)?;
     Ok((one, two))
-}
-
-// Whether the edge is one of these. Linear.
-pub(crate) fn holds(part: &[usize], edge: usize) -> bool
-    ensures { result ≡ has part.now edge }
-{
-    for e in part {
-        if *e == edge {
-            return true;
-        }
-    }
-    false
-}
-
-// The place of the part that has the edge, or the number of parts. Linear in the edges of the parts.
-pub(crate) fn part_place(parts: &[CycList], edge: usize) -> usize
-    ensures { result ≡ part_of parts.now edge }
-{
-    for k in 0..parts.len() {
-        if holds(parts[k].items(), edge) {
-            return k;
-        }
-    }
-    parts.len()
-}
-
-// The vertex for the part of an edge. Linear in the edges of the parts.
-pub(crate) fn vertex_of(parts: &[CycList], verts: &[usize], edge: usize) -> usize
-    requires { part_of parts.now edge < length verts.now }
-    ensures { result ≡ vertex_for parts.now verts.now edge }
-{
-    verts[part_place(parts, edge)]
-}
-
-// The place of an edge among some. Linear.
-pub(crate) fn place_among(edges: &[usize], edge: usize) -> usize
-    requires { Contains edges.now edge }
-    ensures value { result ≡ rank edges.now edge }
-    ensures within { result < length edges.now }
-{
-    for k in 0..edges.len() {
-        if edges[k] == edge {
-            return k;
-        }
-    }
-    unreachable!()
 }

@@ -3,9 +3,9 @@ ghost use Rattle.std.specs.Prelude.{◌≡◌, ◌≤◌, IsTrue, IfOk};
 ghost use Rattle.std.specs.List.{Contains};
 ghost use Rattle.cp_board.specs.declared.steps.Step.TheVariants.{Join};
 ghost use Rattle.cp_board.specs.Instances.{vert_names, pipe_names};
+ghost use Rattle.cp_board.specs.Names.{has};
 ghost use Rattle.cp_board.specs.Steps.{Allowed};
 
-use crate::parted_ends::holds;
 use crate::vertex_parts::parts_among;
 use crate::{join, parts_at};
 use cp_base::{Items, Memory};
@@ -103,6 +103,18 @@ fn make_join(alloc: Global, i: &mut Instance) -> Result<bool, Memory> {
     let rewrite = join(alloc, i, pipe)?;
     i.rewrite(alloc, &rewrite)?;
     Ok(true)
+}
+
+// Whether the number is one of these.
+fn holds(numbers: &[usize], number: usize) -> bool
+    ensures { result ≡ has numbers.now number }
+{
+    for n in numbers {
+        if *n == number {
+            return true;
+        }
+    }
+    false
 }
 
 // The edges of a vertex in parts, or `None` where it is none of the instance.

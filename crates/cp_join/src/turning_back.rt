@@ -104,7 +104,7 @@ fn earlier_solution(
 /// The solution before the step Join from one after it: the inner vertices of the first end are made one vertex, whose
 /// list gives the orders of both ends (Bläsius, Fink, Rutter 2021); each other vertex keeps its list, and those of the
 /// new vertices are dropped. It searches the board twice, takes one walk over the pairs for each part of the first end,
-/// and is linear in the lists and at most quadratic in the pairs beside that. The only error is want of memory.
+/// and is linear in the lists and n log n in the pairs beside that. The only error is want of memory.
 pub fn join_back<B: Board>(
     alloc: Global,
     before: &B,
