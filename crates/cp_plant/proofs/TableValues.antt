@@ -26,8 +26,10 @@ pub put-value_or : (old new : List (ℕ × ℕ)) (k v x d : ℕ)
     → value_or new x d ≡ cond (eqb k x) v (value_or old x d)
 put-value_or old new k v x d e = ⊎_elim
     (λ (y : k ≡ x). rw (eq-eqb k x y) (sym (lookup-value_or new x d)
-    ∙ ap (λ o. unwrap_or o d) (e ∙ ap (λ b. cond b (Some v) (lookup (is_at (nat_cmp x)) old)) (at_equal k x ∙ eq-eqb x k (sym y)))))
+    ∙ ap (λ o. unwrap_or o d) (e
+    ∙ ap (λ b. cond b (Some v) (lookup (is_at (nat_cmp x)) old)) (at_equal k x ∙ eq-eqb x k (sym y)))))
     (λ n. rw (ne_eqb k x n) (sym (lookup-value_or new x d)
-    ∙ ap (λ o. unwrap_or o d) (e ∙ ap (λ b. cond b (Some v) (lookup (is_at (nat_cmp x)) old)) (at_equal k x ∙ ne_eqb x k (λ z. n (sym z))))
+    ∙ ap (λ o. unwrap_or o d) (e
+    ∙ ap (λ b. cond b (Some v) (lookup (is_at (nat_cmp x)) old)) (at_equal k x ∙ ne_eqb x k (λ z. n (sym z))))
     ∙ lookup-value_or old x d))
     (cases_eq k x)
