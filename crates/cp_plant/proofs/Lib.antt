@@ -8,6 +8,7 @@ mod Rounds
 mod ReadPiles
 mod FoundVertices
 mod RowNodes
+mod TableValues
 mod TreeReadings
 mod EarlierRows
 mod SolutionsBack

@@ -1,4 +1,5 @@
 -- what functions inside promise each other
+pub mod Tables
 pub mod Growing
 pub mod Rewriting
 pub mod TreeWords

@@ -2,11 +2,13 @@
 //! (Bläsius, Rutter 2016; Bläsius, Fink, Rutter 2021).
 #![tactic(auto)]
 
+mod partners;
 mod planted_ends;
 mod planting;
 mod propagates;
 mod reading;
 mod rewriting;
+mod tables;
 mod turning_back;
 
 pub use propagates::{propagate, propagate_keeps_solvable};

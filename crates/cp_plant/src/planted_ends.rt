@@ -7,8 +7,8 @@ ghost use Rattle.cp_board.specs.declared.parts.Pipe.{Pipe};
 ghost use Rattle.cp_board.specs.declared.steps.Step.TheVariants.{Propagate};
 ghost use Rattle.cp_plant.specs.Growing.{inner_nodes, partner_in};
 ghost use Rattle.cp_plant.specs.Rewriting.{ArePlanted};
-ghost use Rattle.cp_plant.specs.TreeWords.{partner_by};
 
+use crate::partners::with_partners;
 use crate::planting::{PlantedNode, count_nodes, partner_of, plant};
 use crate::rewriting::PlantedEnd;
 use cp_base::{Memory, Shape};
@@ -21,57 +21,6 @@ fn end_beside(ends: (usize, usize), end: usize) -> usize
     ensures { result ≡ cond (eqb ends.0 end) ends.1 ends.0 }
 {
     if ends.0 == end { ends.1 } else { ends.0 }
-}
-
-// The second edge of the pair of a first edge, and 0 where there is none. Linear in the pairs.
-fn later_edge(pairs: &[(usize, usize)], x: usize) -> usize
-    ensures { result ≡ partner_by pairs.now true x }
-{
-    for pair in pairs {
-        if pair.0 == x {
-            return pair.1;
-        }
-    }
-    0
-}
-
-// The first edge of the pair of a second edge, and 0 where there is none. Linear in the pairs.
-fn earlier_edge(pairs: &[(usize, usize)], x: usize) -> usize
-    ensures { result ≡ partner_by pairs.now false x }
-{
-    for pair in pairs {
-        if pair.1 == x {
-            return pair.0;
-        }
-    }
-    0
-}
-
-// The partner of an edge: of a first edge the second, or of a second edge the first. Linear in the pairs.
-fn partner_by(pairs: &[(usize, usize)], first: bool, x: usize) -> usize
-    ensures { result ≡ partner_by pairs.now first x }
-{
-    if first {
-        later_edge(pairs, x)
-    } else {
-        earlier_edge(pairs, x)
-    }
-}
-
-// Each edge with its partner. At most quadratic.
-fn with_partners(
-    alloc: Global,
-    pairs: &[(usize, usize)],
-    first: bool,
-    edges: &[usize],
-) -> Result<Vec<(usize, usize)>, Memory>
-    ensures { IfOk result (λ list. list.items ≡ map (λ x. (x, partner_by pairs.now first x)) edges.now) }
-{
-    let mut list = Vec::new(alloc);
-    for edge in edges {
-        list.push((*edge, partner_by(pairs, first, *edge)))?;
-    }
-    Ok(list)
 }
 
 // The number of Q-nodes. Linear.

@@ -11,8 +11,9 @@ ghost use Rattle.cp_board.specs.Steps.{Allowed};
 ghost use Rattle.cp_board.specs.declared.steps.Step.{Step};
 ghost use Rattle.cp_board.specs.declared.steps.Step.TheVariants.{Propagate};
 ghost use Rattle.cp_plant.specs.PropagateSteps.{IsPropagateStep};
-ghost use Rattle.cp_plant.specs.TreeWords.{partner_by, with_ends};
+ghost use Rattle.cp_plant.specs.TreeWords.{with_ends};
 
+use crate::partners::partners_of;
 use crate::reading::word_of_tree;
 use cp_base::{CycList, Memory, Shape};
 use cp_board::{NameKind, Step};
@@ -49,57 +50,6 @@ fn first_names<B: Board>(
     let mut names = before.free_names(alloc, kind, n + n)?;
     names.truncate(n);
     Ok(names)
-}
-
-// The second edge of the pair of a first edge. Linear in the pairs.
-fn second_of(pairs: &[(usize, usize)], x: usize) -> usize
-    ensures { result ≡ partner_by pairs.now true x }
-{
-    for (a, b) in pairs {
-        if *a == x {
-            return *b;
-        }
-    }
-    0
-}
-
-// The first edge of the pair of a second edge. Linear in the pairs.
-fn first_of(pairs: &[(usize, usize)], x: usize) -> usize
-    ensures { result ≡ partner_by pairs.now false x }
-{
-    for (a, b) in pairs {
-        if *b == x {
-            return *a;
-        }
-    }
-    0
-}
-
-// The partner of an edge: of a first edge the second, or of a second edge the first. Linear in the pairs.
-fn partner_of(pairs: &[(usize, usize)], first: bool, x: usize) -> usize
-    ensures { result ≡ partner_by pairs.now first x }
-{
-    if first {
-        second_of(pairs, x)
-    } else {
-        first_of(pairs, x)
-    }
-}
-
-// The partners of some edges. Linear in the pairs for each edge.
-fn partners_of(
-    alloc: Global,
-    pairs: &[(usize, usize)],
-    first: bool,
-    list: &[usize],
-) -> Result<Vec<usize>, Memory>
-    ensures { IfOk result (λ partners. partners.items ≡ map (partner_by pairs.now first) list.now) }
-{
-    let mut partners = Vec::new(alloc);
-    for x in list {
-        partners.push(partner_of(pairs, first, *x))?;
-    }
-    Ok(partners)
 }
 
 // The list of a vertex before the step: each end has its order, and any other vertex what it has after the step.
@@ -148,8 +98,7 @@ fn earlier_solution(
 /// The solution before the step Propagate from one after it: the end of the pipe gets its edges in the order in which
 /// the lists read the leaves of the tree that was planted in its place, and the other end the reverse of their partners
 /// (Bläsius, Rutter 2016; Bläsius, Fink, Rutter 2021); each other vertex keeps its list, and those of the new vertices
-/// are dropped. Linear in all lists, up to a logarithm, and quadratic in the pairs of the pipe. The only error is want
-/// of memory.
+/// are dropped. Linear in all lists and in the pairs of the pipe, up to a logarithm. The only error is want of memory.
 pub fn propagate_back<B: Board>(
     alloc: Global,
     before: &B,
