@@ -21,3 +21,4 @@ mod Indexes
 mod StoredIndexes
 mod PipeTests
 mod PipeReads
+mod NewNames

@@ -7,6 +7,7 @@ mod copies;
 mod edge_links;
 mod entry;
 mod forest;
+mod gaps;
 mod greatest;
 mod indexing;
 mod laws;

@@ -6,6 +6,7 @@ ghost use Rattle.cp_board.specs.Runs.{slots};
 ghost use Rattle.cp_store.specs.Histories.{present_of};
 
 use crate::forest::Forest;
+use crate::gaps::least_gaps;
 use crate::greatest::best_pipe;
 use crate::indexing::{roots_of, with_rewrite};
 use crate::linking::{name_under, push_names};
@@ -148,7 +149,8 @@ impl Store {
 /// beside the length of a list that they give, and `verts` and `edges` linear time in the names of vertices and edges.
 /// `rewrite` takes logarithmic time for each part that it drops, adds or changes and for each end of an edge that
 /// moves or comes, beside copies of what it brings, and time linear in the names of a kind for each new name that lies
-/// below others and was never live. `free_names` copies the present instance.
+/// below others and was never live. `free_names` takes logarithmic time for each name that it gives and for each live
+/// name less than the last of them; for cells it copies the present instance.
 impl Board for Store {
     ghost instance = { λ s. present_of s };
 
@@ -201,8 +203,15 @@ impl Board for Store {
     }
 
     fn free_names(&self, alloc: Global, kind: NameKind, n: usize) -> Result<Vec<usize>, Memory> {
-        let i = self.present(alloc)?;
-        i.free_names(alloc, kind, n)
+        match kind {
+            NameKind::Vert => least_gaps(alloc, &self.parts.verts, n),
+            NameKind::Edge => least_gaps(alloc, &self.parts.edges, n),
+            NameKind::Pipe => least_gaps(alloc, &self.parts.pipes, n),
+            NameKind::Cell => {
+                let i = self.present(alloc)?;
+                i.free_names(alloc, NameKind::Cell, n)
+            }
+        }
     }
 
     fn max_pipe(&self) -> Option<usize> {
